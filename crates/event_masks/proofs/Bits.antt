@@ -10,7 +10,7 @@ use Rattle.bitflags.specs.Sets.{known_bits, known_from}
 use Rattle.event_masks.specs.declared.EventMask.{EventMask}
 use Rattle.event_masks.specs.Exits.{all_events}
 use Rattle.event_masks.specs.Names.{event_table}
-use Rattle.event_masks.specs.Reading.{mask_of_bits, mask}
+use Rattle.event_masks.specs.Reading.{mask_of_bits}
 
 -- a difference, computed in two ways
 pub difference-is : (a b : ℕ) → a < 2 ^ 32 → b < 2 ^ 32 → bit_and a (2 ^ 32 - 1 - b) ≡ bit_xor (bit_or a b) b

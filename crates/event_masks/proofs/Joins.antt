@@ -29,9 +29,7 @@ pub passed_over : {X : Type 0} (none between : List ℕ) (empty : Bool) (test : 
     → i < length xs → test (get_or xs i d) ≡ false
     → done ++ ending none between empty (chosen test text (drop i xs) ++ last) ≡ all
     → done ++ ending none between empty (chosen test text (drop (i + 1) xs) ++ last) ≡ all
-passed_over none between empty test text xs last i d done all h fails before =
-    let next = at_drop_more (λ ys. ending none between empty (chosen test text ys ++ last)) xs i d h in
-    grind (arith, next)
+passed_over none between empty test text xs last i d done all h fails before = grind (arith, at_drop_more (λ ys. ending none between empty (chosen test text ys ++ last)) xs i d h)
 
 -- one that passes it is written
 pub one_written : {X : Type 0} (none between : List ℕ) (empty after : Bool) (test : X → Bool) (text : X → List ℕ) (xs : List X) (last : List (List ℕ)) (i : ℕ) (d : X) (done all : List ℕ)
@@ -39,9 +37,7 @@ pub one_written : {X : Type 0} (none between : List ℕ) (empty after : Bool) (t
     → done ++ ending none between empty (chosen test text (drop i xs) ++ last) ≡ all
     → after ≡ false
     → (done ++ (separator between empty ++ text (get_or xs i d))) ++ ending none between after (chosen test text (drop (i + 1) xs) ++ last) ≡ all
-one_written none between empty after test text xs last i d done all h passes before is =
-    let next = at_drop_more (λ ys. ending none between empty (chosen test text ys ++ last)) xs i d h in
-    grind (arith, next, one_more, append_assoc {A = ℕ})
+one_written none between empty after test text xs last i d done all h passes before is = grind (arith, at_drop_more (λ ys. ending none between empty (chosen test text ys ++ last)) xs i d h, one_more, append_assoc {A = ℕ})
 
 -- the names of the flags of a set, from references to them
 pub flag_names : (bits : ℕ) (ns : List (Bor (List ℕ) × ℕ)) → chosen (λ n. bit_and bits n.1 == n.1) (λ n. n.0.now) ns ≡ map (λ n. n.0) (filter (λ n. bit_and bits n.1 == n.1) (map named_bit ns))

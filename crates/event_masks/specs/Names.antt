@@ -45,17 +45,9 @@ flag_text table bits = joined (codes "none") (codes "+") (names_of table bits)
 abbrev pub hex_words : ℕ → List (List ℕ)
 hex_words bits = if bits == 0 then [] else (codes "0x" ++ digits 16 false bits) ∷ []
 
--- the bits of a set that are not among the known ones
-abbrev pub unknown : ℕ → ℕ → ℕ
-unknown known bits = bit_and bits (2 ^ 32 - 1 - known)
-
 -- a set as programmers see it, as Rust's crate `bitflags` prints it: the names, and last the bits that are no flag's
 abbrev pub shown_flags : List (List ℕ × ℕ) → ℕ → ℕ → List ℕ
-shown_flags table known bits = joined (codes "0x0") (codes " | ") (names_of table bits ++ hex_words (unknown known bits))
-
--- PTRACE_SYSCALL means both events of a system call
-abbrev pub syscall_name : List ℕ
-syscall_name = codes "PTRACE_SYSCALL"
+shown_flags table known bits = joined (codes "0x0") (codes " | ") (names_of table bits ++ hex_words (bit_and bits (2 ^ 32 - 1 - known)))
 
 -- a name with its bit, as in the program's table
 abbrev pub named_bit : Bor (List ℕ) × ℕ → List ℕ × ℕ

@@ -1,12 +1,17 @@
 -- What becomes of a list where a node leaves it.
 use Rattle.lwp_table.proofs.CommonNames.{◌≡◌, ◌≢◌, ℕ, ◌<◌, ◌≤◌, Bool, true, false, Option, Some, None, refl, ap, ◌∙◌, arith, inl, inr, ◌⊎◌, cond, is_none, nat_tests, same_Some, option_map, Node}
-use Rattle.lwp_table.proofs.CommonNames.{IsNearest, IsChain, AreApart, up, down, anywhere, above, below, leads_to, bridged}
+use Rattle.lwp_table.proofs.CommonNames.{IsNearest, IsChain, up, down, anywhere, above, below, leads_to}
+
+-- no two slots have the same key
+abbrev pub AreApart : (ℕ → Option Node) → Type 0
+AreApart f = (i j : ℕ) (a b : Node) → f i ≡ Some a → f j ≡ Some b → a.key ≡ b.key → i ≡ j
+
+-- the node, after the one between `prev` and `next` has left its list
+abbrev pub bridged : Option ℕ → Option ℕ → ℕ → Node → Node
+bridged prev next s node = record node { prev = cond (leads_to next s) prev node.prev; next = cond (leads_to prev s) next node.next }
 
 pub lt_or_le : (a b : ℕ) → (a < b) ⊎ (b ≤ a)
 lt_or_le a b = grind (arith)
-
-pub leads_to-self : (s : ℕ) → leads_to (Some s) s ≡ true
-leads_to-self s = grind (arith, nat_tests)
 
 -- a link that leads to a slot is that slot's
 pub leads : (o : Option ℕ) (s : ℕ) → leads_to o s ≡ true → o ≡ Some s
@@ -54,9 +59,7 @@ module _ (f g : ℕ → Option Node) (apart : AreApart f) (t : ℕ) (first last 
   -- the nearest node before the node is the only place that leads to it
   no_link_up : (P : ℕ → Type 0) (o b : Option ℕ) → IsNearest up f t P o → IsNearest down f t (below old.key) b → ((s : ℕ) (was : Node) → b ≡ Some s → f s ≡ Some was → was.list ≡ t → P was.key) → b ≢ None → o ≢ Some q
   no_link_up P o None near prev after some is = some refl
-  no_link_up P o (Some p) near prev after some is =
-      let its = found up P o q old is has near in
-      omega (arith, its.1 p prev.0 prev.1 prev.2 (after p prev.0 refl prev.1 prev.2), prev.3)
+  no_link_up P o (Some p) near prev after some is = omega (arith, (found up P o q old is has near).1 p prev.0 prev.1 prev.2 (after p prev.0 refl prev.1 prev.2), prev.3)
 
   prev_q : IsNearest down f t (below old.key) old.prev
   prev_q = chain.prev_is q old has list

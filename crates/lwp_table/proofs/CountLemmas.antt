@@ -1,22 +1,19 @@
 -- Counts of rows.
 use Rattle.lwp_table.proofs.CommonNames.{◌≡◌, ◌≢◌, ℕ, zero, suc, ◌+◌, ◌<◌, ◌≤◌, get_or, set, Bool, true, false, List, [], ◌∷◌, ◌++◌, Option, Some, None, refl, sym, ap, ◌∙◌, arith, cond, nat_eq}
-use Rattle.lwp_table.proofs.CommonNames.{length, count_by, ◌==◌, rules, find, sum_by-cons, count_by-le-length, nat_tests, get_or-set_same, get_or-set_other, LwpData, lwp_of, without_lwp, Differ}
+use Rattle.lwp_table.proofs.CommonNames.{length, count_by, ◌==◌, rules, find, count_by-le-length, nat_tests, get_or-set_same, get_or-set_other, LwpData, lwp_of, without_lwp, Differ}
 use Rattle.lwp_table.proofs.CommonNames.{listing, place_of, is_at}
 use Rattle.pid_blocks.specs.Blocks.{tid_owner}
-use Rattle.lwp_table.proofs.Numbered.{count-without}
+use Rattle.std.proofs.Common.{length-append}
+use Rattle.std.proofs.lemmas.List.Sums.{sum_by-append}
+use Rattle.lwp_table.proofs.Numbered.{count-cons, count-without}
 use Rattle.lwp_table.proofs.WordLemmas.{test_same, test_apart}
 
 -- one for yes
 abbrev pub one : Bool → ℕ
 one c = cond c 1 0
 
-module _ (p : LwpData → Bool) where
-  pub count-cons : (x : LwpData) (xs : List LwpData) → count_by p (x ∷ xs) ≡ cond (p x) 1 0 + count_by p xs
-  count-cons x xs = sum_by-cons (λ r. cond (p r) 1 0) x xs
-
-  pub count-end : (xs : List LwpData) (new : LwpData) → count_by p (xs ++ new ∷ []) ≡ count_by p xs + cond (p new) 1 0
-  count-end [] new = omega (arith, count-cons new [])
-  count-end (x ∷ xs) new = omega (arith, count-cons x (xs ++ new ∷ []), count-cons x xs, count-end xs new)
+pub count-end : (p : LwpData → Bool) (xs : List LwpData) (new : LwpData) → count_by p (xs ++ new ∷ []) ≡ count_by p xs + cond (p new) 1 0
+count-end p xs new = omega (arith, sum_by-append (λ r. cond (p r) 1 0) xs (new ∷ []), count-cons p new [])
 
 pub length-listing : (b : ℕ → Option LwpData) (from count : ℕ) → length (listing b from count) ≤ count
 length-listing b from zero = omega arith
@@ -26,8 +23,7 @@ pub count-below : (p : LwpData → Bool) (b : ℕ → Option LwpData) (from coun
 count-below p b from count = omega (arith, count_by-le-length p (listing b from count), length-listing b from count)
 
 pub length-end : (xs : List LwpData) (new : LwpData) → length (xs ++ new ∷ []) ≡ length xs + 1
-length-end [] new = refl
-length-end (x ∷ xs) new = omega (arith, length-end xs new)
+length-end xs new = length-append xs (new ∷ [])
 
 count-all : (xs : List LwpData) → count_by (λ l. true) xs ≡ length xs
 count-all [] = refl

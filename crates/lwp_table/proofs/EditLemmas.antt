@@ -1,7 +1,7 @@
 -- A walk along a process's list that changes each row.
 use Rattle.lwp_table.proofs.CommonNames.{◌≡◌, ◌≢◌, ℕ, zero, suc, ◌+◌, ◌-◌, ◌<◌, ◌≤◌, inl, inr, ◌⊎◌, Bool, true, false, rules, List, [], ◌∷◌, Option, Some, None, is_some, count_by, slice_index_or}
 use Rattle.lwp_table.proofs.CommonNames.{slice_set, map, refl, arith, cond, nat_eq, option_map, cases_eq, cases_Bool, nat_tests, same_Some, sum_by-cons, Slab, get, slab_len, with_value, LwpData, Slot}
-use Rattle.lwp_table.proofs.CommonNames.{lwp_of, own_lwp, ComputesRows, LeavesQuiet, IsNearest, up, anywhere, above, Ends, own_node, own_nodes, born_row, rows_of, IsIndexed, LwpTableInvariant}
+use Rattle.lwp_table.proofs.CommonNames.{lwp_of, own_lwp, ComputesRows, LeavesQuiet, IsNearest, up, anywhere, above, Ends, own_node, seen_by, born_row, rows_of, IsIndexed, LwpTableInvariant}
 use Rattle.lwp_table.proofs.WordLemmas.{test_same}
 use Rattle.lwp_table.proofs.KeptLemmas.{LwpTableInvariant-set}
 use Rattle.lwp_table.proofs.IndexLemmas.{came, born_in, born_of, lwp_of-slot, option_same}
@@ -15,11 +15,11 @@ pub record IsTurned (returns : LwpData → LwpData → Type 0) (pid upto : ℕ) 
 
 -- where the walk is: it has changed the process's rows that were born before `upto`, and is at the link to the next one
 pub record IsEditing (was now : ℕ → Option Slot) (returns : LwpData → LwpData → Type 0) (pid upto : ℕ) (link : Option ℕ) : Type 0 where
-  pub near : IsNearest up (own_nodes now) pid (λ k. upto ≤ k) link
+  pub near : IsNearest up (seen_by own_node now) pid (λ k. upto ≤ k) link
   pub forth : (s : ℕ) (a : Slot) → was s ≡ Some a → (b : Slot) × (now s ≡ Some b) × IsTurned returns pid upto a b
   pub back : (s : ℕ) (b : Slot) → now s ≡ Some b → (a : Slot) × (was s ≡ Some a)
 
-pub editing-first : (f : ℕ → Option Slot) (returns : LwpData → LwpData → Type 0) (pid : ℕ) (link : Option ℕ) → IsNearest up (own_nodes f) pid anywhere link → IsEditing f f returns pid 0 link
+pub editing-first : (f : ℕ → Option Slot) (returns : LwpData → LwpData → Type 0) (pid : ℕ) (link : Option ℕ) → IsNearest up (seen_by own_node f) pid anywhere link → IsEditing f f returns pid 0 link
 editing-first f returns pid link near = grind (arith, nat_tests)
 
 -- the process's rows that were born before `upto` have no pending signals, unless `may` says so
@@ -57,7 +57,7 @@ module _ (was now : ℕ → Option Slot) (returns : LwpData → LwpData → Type
 
     -- the row is changed, and the walk goes on
     module _ (new : LwpData) (g : ℕ → Option Slot) (its : new.pid ≡ b.row.pid) (gave : returns b.row new) (has : g s ≡ Some (record b { row = new })) (others : (j : ℕ) → j ≢ s → g j ≡ now j)
-        (apart : (i j : ℕ) (a b : Slot) → now i ≡ Some a → now j ≡ Some b → a.born ≡ b.born → i ≡ j) (next : IsNearest up (own_nodes now) pid (above b.born) b.own.next) where
+        (apart : (i j : ℕ) (a b : Slot) → now i ≡ Some a → now j ≡ Some b → a.born ≡ b.born → i ≡ j) (next : IsNearest up (seen_by own_node now) pid (above b.born) b.own.next) where
       forth_on : (j : ℕ) (a : Slot) → was j ≡ Some a → (c : Slot) × (g j ≡ Some c) × IsTurned returns pid (b.born + 1) a c
       forth_on j a there =
           let to = walk.forth j a there in

@@ -1,5 +1,5 @@
 -- From slots with birth numbers to the rows in order of birth, and what a change of one slot does.
-use Rattle.lwp_table.proofs.CommonNames.{◌≡◌, ◌≢◌, ℕ, suc, ◌+◌, not, List, [], ◌∷◌, ◌++◌, Option, Some, None, IsSome, refl, sym, ap, ◌∙◌, arith, cond, nat_eq, rules, lookup, option_map, IsSomeAnd}
+use Rattle.lwp_table.proofs.CommonNames.{◌≡◌, ◌≢◌, ℕ, ◌+◌, not, List, [], ◌∷◌, ◌++◌, Option, Some, None, IsSome, refl, sym, ap, ◌∙◌, arith, cond, nat_eq, rules, lookup, option_map, IsSomeAnd}
 use Rattle.lwp_table.proofs.CommonNames.{cases_eq, nat_tests, same_Some, some_pair_parts, LwpData, Slot, lwp_of, put_lwp, with_lwp, without_lwp, Differ, born_row, rows_of, IsIndexed}
 use Rattle.lwp_table.proofs.WordLemmas.{test_same, test_apart}
 use Rattle.lwp_table.proofs.ListLemmas.{AreNumbered, differ-listing, listing-end, listing-same, lwp_of-none, lwp_of-listing, listing-kept, listing-mapped}
@@ -41,10 +41,7 @@ module _ (f : ℕ → Option Slot) (es : List (ℕ × ℕ)) (births : ℕ) (inde
   born_of s slot there = born_listed f indexed.apart s slot slot.row.tid there es (indexed.listed s slot there)
 
   pub numbered : AreNumbered (born_row f es)
-  numbered j k x y is_x is_y same =
-      let a = born_in f es j x is_x in
-      let b = born_in f es k y is_y in
-      grind (arith, nat_tests, indexed.listed a.0 a.1 a.2, indexed.listed b.0 b.1 b.2)
+  numbered j k x y is_x is_y same = grind (arith, nat_tests, indexed.listed (born_in f es j x is_x).0 (born_in f es j x is_x).1 (born_in f es j x is_x).2, indexed.listed (born_in f es k y is_y).0 (born_in f es k y is_y).1 (born_in f es k y is_y).2)
 
   pub differ : Differ (rows_of f es births)
   differ = differ-listing (born_row f es) numbered 0 births
@@ -91,10 +88,7 @@ module _ (f : ℕ → Option Slot) (es : List (ℕ × ℕ)) (births : ℕ) (inde
       IsIndexed-added = grind (arith, nat_tests, test_same, backward, test_apart, onward, same_Some)
 
       pub rows_of-added : rows_of g es' (births + 1) ≡ rows_of f es births ++ new.row ∷ []
-      rows_of-added =
-          let after = IsIndexed-added in
-          let same = listing-same (born_row g es') (born_row f es) 0 births (λ k least less. born_others (births + 1) after k (λ slot is. absurd (cc (is, vacant))) (λ slot is. grind (arith, nat_tests))) in
-          grind (arith, nat_tests, listing-end (born_row g es') 0 births, born_listed g after.apart q new new.row.tid has es' (after.listed q new has))
+      rows_of-added = grind (arith, nat_tests, listing-end (born_row g es') 0 births, born_listed g (IsIndexed-added).apart q new new.row.tid has es' ((IsIndexed-added).listed q new has), listing-same (born_row g es') (born_row f es) 0 births (λ k least less. born_others (births + 1) (IsIndexed-added) k (λ slot is. absurd (cc (is, vacant))) (λ slot is. grind (arith, nat_tests))))
 
     module _ (old : Slot) (had : f q ≡ Some old) (gone : g q ≡ None) (change : (p : ℕ) → lookup (nat_eq p) es' ≡ cond (nat_eq old.row.tid p) None (lookup (nat_eq p) es)) where
       pub IsIndexed-removed : IsIndexed g es' births

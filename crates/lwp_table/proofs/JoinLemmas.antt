@@ -1,7 +1,7 @@
 -- What becomes of a list where a node joins it, between two others or at the end.
 use Rattle.lwp_table.proofs.CommonNames.{◌≡◌, ◌≢◌, ℕ, ◌<◌, ◌≤◌, Option, Some, None, sym, ap, ◌∙◌, arith, cond, is_none, rules, cases_eq, nat_tests, same_Some, option_map, option_or, Node, IsNearest}
-use Rattle.lwp_table.proofs.CommonNames.{IsChain, AreApart, up, down, anywhere, above, below, leads_to, joined}
-use Rattle.lwp_table.proofs.ChainLemmas.{mapped, IsChain-kept}
+use Rattle.lwp_table.proofs.CommonNames.{IsChain, up, down, anywhere, above, below, leads_to, joined}
+use Rattle.lwp_table.proofs.ChainLemmas.{AreApart, mapped, IsChain-kept}
 
 module _ (f g : ℕ → Option Node) (apart : AreApart f) (t : ℕ) (first last : Option ℕ) (chain : IsChain f t first last) (q : ℕ) (new : Node)
     (vacant : f q ≡ None) (has : g q ≡ Some new) (list : new.list ≡ t) (prev : IsNearest down f t (below new.key) new.prev) (next : IsNearest up f t (above new.key) new.next)

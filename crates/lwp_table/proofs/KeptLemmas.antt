@@ -1,12 +1,12 @@
 -- What a table keeps after each change, and the rows that it then has.
 use Rattle.lwp_table.proofs.CommonNames.{◌≡◌, ◌≢◌, ℕ, ◌+◌, ◌-◌, ◌<◌, ◌≤◌, Bool, true, false, ◌&&◌, ◌||◌, not, List, [], ◌∷◌, ◌++◌, Option, Some, None, IsSome, IfSome, is_some, refl, sym, ap, subst}
 use Rattle.lwp_table.proofs.CommonNames.{◌∙◌, arith, inl, inr, cond, nat_eq, is_none, length, count_by, get_or, set, unwrap_or, replicate, rules, lookup, option_map, option_or, IsSomeAnd, eqb_tells}
-use Rattle.lwp_table.proofs.CommonNames.{nat_tests, same_Some, get_or-replicate, length-map, LwpData, Slot, Ends, lwp_of, put_lwp, with_lwp, without_lwp, Differ, Node, IsNearest, IsChain, AreApart}
-use Rattle.lwp_table.proofs.CommonNames.{up, down, anywhere, joined, bridged, own_node, own_nodes, all_node, all_nodes, is_of, is_at, place_of, linked, closed_up, ends_at, may_pend, marked, no_ends}
+use Rattle.lwp_table.proofs.CommonNames.{nat_tests, same_Some, get_or-replicate, length-map, LwpData, Slot, Ends, lwp_of, put_lwp, with_lwp, without_lwp, Differ, Node, IsNearest, IsChain}
+use Rattle.lwp_table.proofs.CommonNames.{up, down, anywhere, joined, own_node, seen_by, all_node, is_of, is_at, place_of, linked, closed_up, ends_at, may_pend, marked, no_ends}
 use Rattle.lwp_table.proofs.CommonNames.{born_row, rows_of, IsIndexed, LwpTableInvariant}
 use Rattle.lwp_table.specs.declared.links.Link.TheVariants.{NextOwn, NextAll}
 use Rattle.lwp_table.proofs.WordLemmas.{both_calm, test_same, test_apart}
-use Rattle.lwp_table.proofs.ChainLemmas.{IsChain-left, IsChain-left_other}
+use Rattle.lwp_table.proofs.ChainLemmas.{AreApart, bridged, IsChain-left, IsChain-left_other}
 use Rattle.lwp_table.proofs.JoinLemmas.{IsChain-appended, IsChain-appended_other}
 use Rattle.lwp_table.proofs.Numbered.{count-without, count-put}
 use Rattle.lwp_table.proofs.WalkLemmas.{first-row}
@@ -20,7 +20,7 @@ onto f g l links o there = grind (arith, nat_tests)
 
 -- what a list sees of slots: their births differ, and all are below the next one
 module _ (f : ℕ → Option Slot) (node : Slot → Node) (keys : (slot : Slot) → (node slot).key ≡ slot.born) where
-  pub nodes_apart : ((i j : ℕ) (a b : Slot) → f i ≡ Some a → f j ≡ Some b → a.born ≡ b.born → i ≡ j) → AreApart (λ s. option_map node (f s))
+  pub nodes_apart : ((i j : ℕ) (a b : Slot) → f i ≡ Some a → f j ≡ Some b → a.born ≡ b.born → i ≡ j) → AreApart (seen_by node f)
   nodes_apart apart i j a b there_a there_b same = search (rules, came, keys)
 
   pub nodes_earlier : (births : ℕ) → ((s : ℕ) (slot : Slot) → f s ≡ Some slot → slot.born < births) → (s : ℕ) (was : Node) → option_map node (f s) ≡ Some was → was.key < births
@@ -39,7 +39,7 @@ no_last : (f : ℕ → Option Node) (t : ℕ) (o : Option ℕ) → IsNearest dow
 no_last f t o last first = grind (arith, nat_tests)
 
 -- a list with a slot has a first one
-pub first_there : (f : ℕ → Option Slot) (p : ℕ) (o : Option ℕ) → IsNearest up (own_nodes f) p anywhere o → (s : ℕ) (slot : Slot) → f s ≡ Some slot → slot.row.pid ≡ p → is_some o ≡ true
+pub first_there : (f : ℕ → Option Slot) (p : ℕ) (o : Option ℕ) → IsNearest up (seen_by own_node f) p anywhere o → (s : ℕ) (slot : Slot) → f s ≡ Some slot → slot.row.pid ≡ p → is_some o ≡ true
 first_there f p None near s slot there on = absurd (near s (own_node slot) (ap (option_map own_node) there) on tt)
 first_there f p (Some a) near s slot there on = refl
 
@@ -100,8 +100,8 @@ module _ {f : ℕ → Option Slot} {es : List (ℕ × ℕ)} {hs : List (ℕ × E
     abbrev both : ℕ → Slot → Slot
     both s slot = linked NextAll all.last (Some q) s (linked NextOwn own.last (Some q) s slot)
 
-    own_chain : IsChain (own_nodes f) row.pid own.first own.last
-    own_chain = subst (λ (e : Ends). IsChain (own_nodes f) row.pid e.first e.last) (sym joins.own_is) (kept.own row.pid)
+    own_chain : IsChain (seen_by own_node f) row.pid own.first own.last
+    own_chain = subst (λ (e : Ends). IsChain (seen_by own_node f) row.pid e.first e.last) (sym joins.own_is) (kept.own row.pid)
 
     has : g q ≡ Some new
     has = grind (arith, nat_tests, test_apart, own_chain)
@@ -109,10 +109,10 @@ module _ {f : ℕ → Option Slot} {es : List (ℕ × ℕ)} {hs : List (ℕ × E
     faces : (s : ℕ) → s ≢ q → option_map face (g s) ≡ option_map face (f s)
     faces = grind (arith, nat_tests, seen_same, face)
 
-    own_g : (s : ℕ) → s ≢ q → own_nodes g s ≡ option_map (joined own.last None q s) (own_nodes f s)
+    own_g : (s : ℕ) → s ≢ q → seen_by own_node g s ≡ option_map (joined own.last None q s) (seen_by own_node f s)
     own_g = grind (arith, nat_tests, seen)
 
-    all_g : (s : ℕ) → s ≢ q → all_nodes g s ≡ option_map (joined all.last None q s) (all_nodes f s)
+    all_g : (s : ℕ) → s ≢ q → seen_by all_node g s ≡ option_map (joined all.last None q s) (seen_by all_node f s)
     all_g = grind (arith, nat_tests, seen)
 
     vacant_es : lookup (nat_eq row.tid) es ≡ None
@@ -140,15 +140,15 @@ module _ {f : ℕ → Option Slot} {es : List (ℕ × ℕ)} {hs : List (ℕ × E
         indexed = IsIndexed-added f es births kept.indexed g es' q faces new joins.vacant has refl vacant_es joins.change;
         own = λ p. elim (eqb_tells row.pid p) [
           | inl h ↦
-              let chain = IsChain-appended (own_nodes f) (own_nodes g) (nodes_apart f own_node (λ slot. refl) kept.indexed.apart) row.pid own.first own.last own_chain q (own_node new) (ap (option_map own_node) joins.vacant) (ap (option_map own_node) has) refl refl refl own_g
+              let chain = IsChain-appended (seen_by own_node f) (seen_by own_node g) (nodes_apart f own_node (λ slot. refl) kept.indexed.apart) row.pid own.first own.last own_chain q (own_node new) (ap (option_map own_node) joins.vacant) (ap (option_map own_node) has) refl refl refl own_g
               (nodes_earlier f own_node (λ slot. refl) births kept.indexed.earlier) in
               rw (ends p, h.0, ← h.1, first_is) chain
           | inr h ↦
-              rw (ends p, h.0) (IsChain-appended_other (own_nodes f) (own_nodes g) (nodes_apart f own_node (λ slot. refl) kept.indexed.apart) row.pid own.first own.last own_chain q (own_node new) (ap (option_map own_node) joins.vacant) (ap (option_map own_node) has) refl refl refl own_g
+              rw (ends p, h.0) (IsChain-appended_other (seen_by own_node f) (seen_by own_node g) (nodes_apart f own_node (λ slot. refl) kept.indexed.apart) row.pid own.first own.last own_chain q (own_node new) (ap (option_map own_node) joins.vacant) (ap (option_map own_node) has) refl refl refl own_g
               (nodes_earlier f own_node (λ slot. refl) births kept.indexed.earlier) p (ends_at hs p).first (ends_at hs p).last (λ e. h.1 (sym e)) (kept.own p))
         ];
         whole =
-            rw all_is (IsChain-appended (all_nodes f) (all_nodes g) (nodes_apart f all_node (λ slot. refl) kept.indexed.apart) 0 all.first all.last kept.whole q (all_node new) (ap (option_map all_node) joins.vacant) (ap (option_map all_node) has) refl refl refl all_g
+            rw all_is (IsChain-appended (seen_by all_node f) (seen_by all_node g) (nodes_apart f all_node (λ slot. refl) kept.indexed.apart) 0 all.first all.last kept.whole q (all_node new) (ap (option_map all_node) joins.vacant) (ap (option_map all_node) has) refl refl refl all_g
             (nodes_earlier f all_node (λ slot. refl) births kept.indexed.earlier));
         counted = λ p. rw (rows-added, count-end (is_of p) (rows_of f es births) row, ends p) (elim (eqb_tells row.pid p) [
           | inl h ↦ rw h.0 (omega (arith, kept.counted row.pid, ap (λ (e : Ends). e.count) joins.own_is, ap (λ n. count_by (is_of n) (rows_of f es births)) h.1))
@@ -190,8 +190,8 @@ module _ {f : ℕ → Option Slot} {es : List (ℕ × ℕ)} {hs : List (ℕ × E
     pub LwpTableInvariant-set : (may row.pid ≡ false → row.pending ≡ 0) → LwpTableInvariant g es hs all births users may
     LwpTableInvariant-set calm = record {
       indexed = IsIndexed-set f es births kept.indexed g es q set_faces old (record old { row = row }) had has refl (sym found.0) refl;
-      own = λ p. IsChain-same (own_nodes f) (own_nodes g) p _ _ (set_nodes own_node (λ i. record { key = old.born; list = pids i; prev = old.own.prev; next = old.own.next })) (kept.own p);
-      whole = IsChain-same (all_nodes f) (all_nodes g) 0 _ _ (set_nodes all_node refl) kept.whole;
+      own = λ p. IsChain-same (seen_by own_node f) (seen_by own_node g) p _ _ (set_nodes own_node (λ i. record { key = old.born; list = pids i; prev = old.own.prev; next = old.own.next })) (kept.own p);
+      whole = IsChain-same (seen_by all_node f) (seen_by all_node g) 0 _ _ (set_nodes all_node refl) kept.whole;
       counted = λ p. kept.counted p ∙ counts (is_of p) (ap (λ n. nat_eq n p) pids);
       total = kept.total ∙ sym (ap length rows-set ∙ length-map (rows_of f es births) (put_lwp row));
       homes = λ place within. kept.homes place within ∙ counts (is_at place) (ap (λ n. nat_eq (place_of n) place) found.0);
@@ -240,13 +240,11 @@ module _ {f : ℕ → Option Slot} {es : List (ℕ × ℕ)} {hs : List (ℕ × E
 
     -- its neighbours are in their slots when it has left
     module _ (rest : ℕ → Option Slot) (others : (s : ℕ) → s ≢ q → rest s ≡ f s) where
-      still : (node : Slot → Node) (le : ℕ → ℕ → Type 0) (t : ℕ) (P : ℕ → Type 0) (o : Option ℕ) → ((n : Slot) → (node n).key ≡ n.born) → (P old.born → ⊥) → IsNearest le (λ s. option_map node (f s)) t P o → IfSome o (λ s. IsSome (rest s))
+      still : (node : Slot → Node) (le : ℕ → ℕ → Type 0) (t : ℕ) (P : ℕ → Type 0) (o : Option ℕ) → ((n : Slot) → (node n).key ≡ n.born) → (P old.born → ⊥) → IsNearest le (seen_by node f) t P o → IfSome o (λ s. IsSome (rest s))
       still node le t P o keys not near = grind (arith, nat_tests, came, same_Some)
 
       pub neighbours : IfSome old.own.prev (λ s. IsSome (rest s)) × IfSome old.own.next (λ s. IsSome (rest s)) × IfSome old.all.prev (λ s. IsSome (rest s)) × IfSome old.all.next (λ s. IsSome (rest s))
-      neighbours =
-          let own = kept.own old.row.pid in
-          grind (arith, nat_tests, still, own.prev_is q (own_node old), own.next_is q (own_node old), kept.whole.prev_is q (all_node old), kept.whole.next_is q (all_node old))
+      neighbours = grind (arith, nat_tests, still, (kept.own old.row.pid).prev_is q (own_node old), (kept.own old.row.pid).next_is q (own_node old), kept.whole.prev_is q (all_node old), kept.whole.next_is q (all_node old))
 
   -- a row goes
   module _ (tid q : ℕ) (old : Slot) (g : ℕ → Option Slot) (es' : List (ℕ × ℕ)) (left : Ends) (leaves : HasLeft f es hs tid q old g es' left) where
@@ -259,10 +257,10 @@ module _ {f : ℕ → Option Slot} {es : List (ℕ × ℕ)} {hs : List (ℕ × E
     left_faces : (s : ℕ) → s ≢ q → option_map face (g s) ≡ option_map face (f s)
     left_faces = seen_same f leaves.rest g q leaves.others (closed_up old) leaves.closed face (λ s slot. refl)
 
-    left_own : (s : ℕ) → s ≢ q → own_nodes g s ≡ option_map (bridged old.own.prev old.own.next s) (own_nodes f s)
+    left_own : (s : ℕ) → s ≢ q → seen_by own_node g s ≡ option_map (bridged old.own.prev old.own.next s) (seen_by own_node f s)
     left_own = seen f leaves.rest g q leaves.others (closed_up old) leaves.closed own_node (bridged old.own.prev old.own.next) (λ s slot. refl)
 
-    left_all : (s : ℕ) → s ≢ q → all_nodes g s ≡ option_map (bridged old.all.prev old.all.next s) (all_nodes f s)
+    left_all : (s : ℕ) → s ≢ q → seen_by all_node g s ≡ option_map (bridged old.all.prev old.all.next s) (seen_by all_node f s)
     left_all = seen f leaves.rest g q leaves.others (closed_up old) leaves.closed all_node (bridged old.all.prev old.all.next) (λ s slot. refl)
 
     without : rows_of g es' births ≡ without_lwp old.row.tid (rows_of f es births)
@@ -277,15 +275,13 @@ module _ {f : ℕ → Option Slot} {es : List (ℕ × ℕ)} {hs : List (ℕ × E
     fewer : (p : LwpData → Bool) → count_by p (rows_of g es' births) + cond (p old.row) 1 0 ≡ count_by p (rows_of f es births)
     fewer p = grind (arith, nat_tests, without, counts_without q old leaves.had p)
 
-    chain_left : IsChain (own_nodes g) old.row.pid left.first left.last
-    chain_left = rw (leaves.first, leaves.last) (IsChain-left (own_nodes f) (own_nodes g) (nodes_apart f own_node (λ slot. refl) kept.indexed.apart) old.row.pid (ends_at hs old.row.pid).first (ends_at hs old.row.pid).last (kept.own old.row.pid) q (own_node old)
+    chain_left : IsChain (seen_by own_node g) old.row.pid left.first left.last
+    chain_left = rw (leaves.first, leaves.last) (IsChain-left (seen_by own_node f) (seen_by own_node g) (nodes_apart f own_node (λ slot. refl) kept.indexed.apart) old.row.pid (ends_at hs old.row.pid).first (ends_at hs old.row.pid).last (kept.own old.row.pid) q (own_node old)
         (ap (option_map own_node) leaves.had) refl (ap (option_map own_node) gone_g) left_own)
 
     -- a list with no first row is empty
     pub left_empty : left.first ≡ None → left ≡ no_ends
-    left_empty none =
-        let zero = count-none (is_of old.row.pid) (rows_of g es' births) (grind (arith, nat_tests, first-row g es' births indexed old.row.pid None, chain_left)) in
-        grind (arith, nat_tests, no_last (own_nodes g) old.row.pid left.last, chain_left, fewer (is_of old.row.pid), leaves.count, kept.counted old.row.pid, leaves.pends)
+    left_empty none = grind (arith, nat_tests, no_last (seen_by own_node g) old.row.pid left.last, chain_left, fewer (is_of old.row.pid), leaves.count, kept.counted old.row.pid, leaves.pends, count-none (is_of old.row.pid) (rows_of g es' births) (grind (arith, nat_tests, first-row g es' births indexed old.row.pid None, chain_left)))
 
     module _ (hs' : List (ℕ × Ends)) (all' : Ends) (ends : (p : ℕ) → ends_at hs' p ≡ cond (nat_eq old.row.pid p) left (ends_at hs p))
         (all_first : all'.first ≡ cond (is_none old.all.prev) old.all.next all.first) (all_last : all'.last ≡ cond (is_none old.all.next) old.all.prev all.last) (all_fewer : all'.count + 1 ≡ all.count)
@@ -303,11 +299,11 @@ module _ {f : ℕ → Option Slot} {es : List (ℕ × ℕ)} {hs : List (ℕ × E
         own = λ p. elim (eqb_tells old.row.pid p) [
           | inl h ↦ rw (ends p, h.0, ← h.1) chain_left
           | inr h ↦
-              rw (ends p, h.0) (IsChain-left_other (own_nodes f) (own_nodes g) (nodes_apart f own_node (λ slot. refl) kept.indexed.apart) old.row.pid (ends_at hs old.row.pid).first (ends_at hs old.row.pid).last (kept.own old.row.pid) q (own_node old)
+              rw (ends p, h.0) (IsChain-left_other (seen_by own_node f) (seen_by own_node g) (nodes_apart f own_node (λ slot. refl) kept.indexed.apart) old.row.pid (ends_at hs old.row.pid).first (ends_at hs old.row.pid).last (kept.own old.row.pid) q (own_node old)
               (ap (option_map own_node) leaves.had) refl (ap (option_map own_node) gone_g) left_own p (ends_at hs p).first (ends_at hs p).last (λ e. h.1 (sym e)) (kept.own p))
         ];
         whole =
-            rw (all_first, all_last) (IsChain-left (all_nodes f) (all_nodes g) (nodes_apart f all_node (λ slot. refl) kept.indexed.apart) 0 all.first all.last kept.whole q (all_node old)
+            rw (all_first, all_last) (IsChain-left (seen_by all_node f) (seen_by all_node g) (nodes_apart f all_node (λ slot. refl) kept.indexed.apart) 0 all.first all.last kept.whole q (all_node old)
             (ap (option_map all_node) leaves.had) refl (ap (option_map all_node) gone_g) left_all);
         counted = λ p. grind (arith, nat_tests, ends p, kept.counted p, leaves.count, fewer (is_of p));
         total = rw without (omega (arith, kept.total, all_fewer, length-without old.row.tid old.row (rows_of f es births) (differ f es births kept.indexed) (lwp_of-slot f es births kept.indexed q old leaves.had)));

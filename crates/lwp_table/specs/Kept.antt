@@ -1,7 +1,7 @@
 -- How a table stores its rows: in slots, each with a birth number, and with links in order of birth.
-use Rattle.std.specs.Prelude.{◌≡◌, ℕ, zero, suc, ◌+◌, ◌-◌, ◌<◌, Bool, false, ◌==◌, List, [], ◌∷◌, Option, Some, None, nat_eq, count_by, length, is_some, if◌then◌else◌, unwrap_or, slice_index, IfSome, IsSomeAnd}
+use Rattle.std.specs.Prelude.{◌≡◌, ℕ, zero, suc, ◌+◌, ◌-◌, ◌<◌, Bool, false, ◌==◌, List, [], Option, Some, None, nat_eq, count_by, length, find, filter_map, is_some, if◌then◌else◌, unwrap_or, slice_index, IfSome, IsSomeAnd}
 use Rattle.std.specs.List.{cons_option}
-use Rattle.std.specs.Option.{option_map}
+use Rattle.std.specs.Option.{option_and_then, option_map, option_map_or}
 use Rattle.std.specs.Map.{lookup}
 use Rattle.pid_blocks.specs.Blocks.{slot, tid_owner}
 use Rattle.lwp_table.specs.declared.LwpData.{LwpData}
@@ -24,19 +24,16 @@ place_of tid = slot (tid_owner tid)
 abbrev pub is_at : ℕ → LwpData → Bool
 is_at place row = place_of row.tid == place
 
--- the slot as its process's list sees it
+-- the slot as its process's list sees it, and as the list of all rows does
 abbrev pub own_node : Slot → Node
 own_node slot = record { key = slot.born; list = slot.row.pid; prev = slot.own.prev; next = slot.own.next }
 
-abbrev pub own_nodes : (ℕ → Option Slot) → ℕ → Option Node
-own_nodes f s = option_map own_node (f s)
-
--- the slot as the list of all rows sees it
 abbrev pub all_node : Slot → Node
 all_node slot = record { key = slot.born; list = 0; prev = slot.all.prev; next = slot.all.next }
 
-abbrev pub all_nodes : (ℕ → Option Slot) → ℕ → Option Node
-all_nodes f s = option_map all_node (f s)
+-- the slots as a list sees them
+abbrev pub seen_by : (Slot → Node) → (ℕ → Option Slot) → ℕ → Option Node
+seen_by node f s = option_map node (f s)
 
 -- a link of the slot s, after that of the slot `at` was changed
 abbrev pub turned : Option ℕ → Option ℕ → ℕ → Option ℕ → Option ℕ
@@ -73,20 +70,14 @@ may_pend hs pid = (ends_at hs pid).may_pend
 abbrev pub marked : Bool → Ends → Ends
 marked may ends = record ends { may_pend = if is_some ends.first then may else ends.may_pend }
 
--- the row of this slot, if it has this birth number
-abbrev pub if_born : ℕ → Option LwpData → Option Slot → Option LwpData
-if_born birth other None = other
-if_born birth other (Some slot) = if nat_eq slot.born birth then Some slot.row else other
-
 -- the row with this birth number
 abbrev pub born_row : (ℕ → Option Slot) → List (ℕ × ℕ) → ℕ → Option LwpData
-born_row f [] birth = None
-born_row f (e ∷ es) birth = if_born birth (born_row f es birth) (f e.1)
+born_row f es birth = option_map (λ slot. slot.row) (find (λ slot. nat_eq slot.born birth) (filter_map (λ e. f e.1) es))
 
--- the rows that this many birth numbers find, starting at `from`
-abbrev pub listing : (ℕ → Option LwpData) → ℕ → ℕ → List LwpData
-listing b from zero = []
-listing b from (suc count) = cons_option (b from) (listing b (from + 1) count)
+-- the rows that this many numbers find, starting at `from`
+abbrev pub listing : {A : Type 0} → (ℕ → Option A) → ℕ → ℕ → List A
+listing f from zero = []
+listing f from (suc count) = cons_option (f from) (listing f (from + 1) count)
 
 -- the rows in order of birth
 abbrev pub rows_of : (ℕ → Option Slot) → List (ℕ × ℕ) → ℕ → List LwpData
@@ -102,25 +93,19 @@ pub record IsIndexed (f : ℕ → Option Slot) (es : List (ℕ × ℕ)) (births 
 -- what a table maintains, where `may` tells of each process whether its rows may have pending signals
 pub record LwpTableInvariant (f : ℕ → Option Slot) (es : List (ℕ × ℕ)) (hs : List (ℕ × Ends)) (all : Ends) (births : ℕ) (users : List ℕ) (may : ℕ → Bool) : Type 0 where
   pub indexed : IsIndexed f es births
-  pub own : (pid : ℕ) → IsChain (own_nodes f) pid (ends_at hs pid).first (ends_at hs pid).last
-  pub whole : IsChain (all_nodes f) 0 all.first all.last
+  pub own : (pid : ℕ) → IsChain (seen_by own_node f) pid (ends_at hs pid).first (ends_at hs pid).last
+  pub whole : IsChain (seen_by all_node f) 0 all.first all.last
   pub counted : (pid : ℕ) → (ends_at hs pid).count ≡ count_by (is_of pid) (rows_of f es births)
   pub total : all.count ≡ length (rows_of f es births)
   pub homes : (place : ℕ) → place < 64 → slice_index users place ≡ count_by (is_at place) (rows_of f es births)
   pub quiet : (s : ℕ) (slot : Slot) → f s ≡ Some slot → may slot.row.pid ≡ false → slot.row.pending ≡ 0
 
--- the rows from a slot's row on
-abbrev pub from_slot : (ℕ → Option Slot) → List (ℕ × ℕ) → ℕ → Option Slot → List LwpData
-from_slot f es births None = []
-from_slot f es births (Some slot) = listing (born_row f es) slot.born (births - slot.born)
-
 -- the rows from a link on
 abbrev pub rows_from : (ℕ → Option Slot) → List (ℕ × ℕ) → ℕ → Option ℕ → List LwpData
-rows_from f es births None = []
-rows_from f es births (Some s) = from_slot f es births (f s)
+rows_from f es births link = option_map_or (λ slot. listing (born_row f es) slot.born (births - slot.born)) (option_and_then f link) []
 
 -- what a walk along a list of slots maintains, where `node` is the slot as this list sees it
 pub record IsWalk (f : ℕ → Option Slot) (es : List (ℕ × ℕ)) (births : ℕ) (node : Slot → Node) (list : ℕ) (link : Option ℕ) : Type 0 where
   pub indexed : IsIndexed f es births
-  pub next_is : (s : ℕ) (slot : Slot) → f s ≡ Some slot → (node slot).list ≡ list → IsNearest up (λ j. option_map node (f j)) list (above (node slot).key) (node slot).next
+  pub next_is : (s : ℕ) (slot : Slot) → f s ≡ Some slot → (node slot).list ≡ list → IsNearest up (seen_by node f) list (above (node slot).key) (node slot).next
   pub there : IfSome link (λ s. IsSomeAnd (f s) (λ slot. (node slot).list ≡ list))

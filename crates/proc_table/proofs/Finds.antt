@@ -1,13 +1,10 @@
 -- What each number finds after an edit, and which rows two lists of them share.
-use Rattle.proc_table.proofs.CommonNames.{◌≡◌, ℕ, ◌+◌, ◌<◌, ◌≤◌, true, false, List, [], ◌∷◌, map, refl, arith, inl, inr, ◌⊎◌, cond, nat_eq, Some, None, IsSome, rules, filter, not, ltb, ◌≢◌}
-use Rattle.proc_table.proofs.CommonNames.{cases_Bool, nat_tests, eqb_tells, leb_tells, ProcData, process_of, placed, Rise, put_process}
+use Rattle.proc_table.proofs.CommonNames.{◌≡◌, ℕ, ◌+◌, ◌<◌, ◌≤◌, true, false, List, [], ◌∷◌, map, refl, arith, inl, inr, ◌⊎◌, cond, nat_eq, Some, None, IsSome, rules, filter, not, ltb}
+use Rattle.proc_table.proofs.CommonNames.{cases_Bool, nat_tests, leb_tells, ProcData, process_of, placed, Rise, put_process}
 use Rattle.proc_table.proofs.Rows.{process_of-pid, process_of-map, process_of-without, put_process-pid}
 use Rattle.proc_table.proofs.Rising.{Lacks, none_above, AllAbove-lower}
+pub use Rattle.std.proofs.lemmas.Bool.Decides.{eqb_tells as equal_or_not}
 use Rattle.proc_table.proofs.Placed.{process_of-placed, placed-found}
-
--- a test of two numbers, with what its result means
-pub equal_or_not : (a b : ℕ) → ((nat_eq a b ≡ true) × (a ≡ b)) ⊎ ((nat_eq a b ≡ false) × (a ≢ b))
-equal_or_not a b = eqb_tells a b
 
 pub below_or_not : (a b : ℕ) → ((ltb a b ≡ true) × (a < b)) ⊎ ((ltb a b ≡ false) × (b ≤ a))
 below_or_not a b = elim (leb_tells (a + 1) b) [ inl h ↦ inl (grind (arith, nat_tests), omega arith) | inr h ↦ inr (grind (arith, nat_tests), omega arith) ]

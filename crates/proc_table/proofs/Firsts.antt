@@ -1,6 +1,6 @@
 -- A walk along a list to the first row that passes a test, and that row among all rows.
 use Rattle.proc_table.proofs.CommonNames.{◌≡◌, ◌≢◌, ℕ, ◌<◌, ◌≤◌, Bool, true, false, List, [], ◌∷◌, Option, Some, None, refl, sym, ap, ◌∙◌, arith, nat_eq, rules, ◌&&◌, ltb, find, AllByRecursion}
-use Rattle.proc_table.proofs.CommonNames.{lookup, option_map, cases_Bool, cases_lt, nat_tests, same_Some, ProcData, ListKind, Children, Slot, IsChain, anywhere, above, keys, key_of, IsNext, members}
+use Rattle.proc_table.proofs.CommonNames.{lookup, option_map, cases_Bool, cases_lt, nat_tests, same_Some, ProcData, ListKind, Children, Slot, IsChain, Node, anywhere, above, keys, IsNext, members}
 use Rattle.proc_table.proofs.CommonNames.{IsLinked, process_of, is_this, DecidesRows, find_child, list_owner, node_of, nodes_of, rows_of, find_named, IsTied, IsFirst, all_rows, look, InOwnBlock, Rise}
 use Rattle.proc_table.proofs.Rows.{same_number}
 use Rattle.proc_table.proofs.Finds.{equal_or_not}
@@ -22,7 +22,7 @@ member_slot f kin t s p there = search (rules, key_node, slot_at, cases_Bool, na
 
 module _ (f : ℕ → Option Slot) (kin : ListKind) (t : ℕ) (returns : ProcData → Bool → Type 0) (linked : IsLinked (nodes_of kin f)) where
   member_key : (j : ℕ) (other : Slot) → f j ≡ Some other → (node_of kin other).list_owner ≡ Some t → keys (nodes_of kin f) j ≡ Some (other.row.pid, Some t)
-  member_key j other is names = ap (λ o. option_map key_of (option_map (node_of kin) o)) is ∙ ap (λ u. Some (other.row.pid, u)) names
+  member_key j other is names = ap (λ o. option_map (λ (node : Node). (node.pid, node.list_owner)) (option_map (node_of kin) o)) is ∙ ap (λ u. Some (other.row.pid, u)) names
 
   pub passing-first : (head : ℕ) (slot : Slot) → f head ≡ Some slot → slot.row.pid ≡ t → IsPassing f kin t returns 0 (node_of kin slot).first
   passing-first head slot is number = record {

@@ -1,9 +1,9 @@
 -- What becomes of all lists where a node joins or leaves one.
-use Rattle.proc_table.proofs.CommonNames.{◌≡◌, ◌≢◌, ℕ, ◌<◌, false, Option, Some, None, refl, sym, ap, ◌∙◌, arith, inl, inr, cond, is_none, nat_eq, rules, cases_lt, eqb_tells, nat_tests}
-use Rattle.proc_table.proofs.CommonNames.{some_pair_parts, same_Some, option_map, option_and_then, IsNearest, IsChain, AreApart, up, down, above, below, leads_to, Node, keys, IsNext, members}
+use Rattle.proc_table.proofs.CommonNames.{◌≡◌, ◌≢◌, ℕ, ◌<◌, Option, Some, None, refl, sym, ap, ◌∙◌, arith, inl, inr, cond, is_none, rules, cases_lt, eqb_tells, nat_tests}
+use Rattle.proc_table.proofs.CommonNames.{some_pair_parts, same_Some, option_map, option_and_then, IsNearest, IsChain, up, down, above, below, leads_to, Node, keys, IsNext, members}
 use Rattle.proc_table.proofs.CommonNames.{at_least, IsLinked, forward, backward, hung}
 use Rattle.lwp_table.specs.Chain.{Node as Member}
-use Rattle.lwp_table.proofs.ChainLemmas.{IsChain-left, IsChain-left_other}
+use Rattle.lwp_table.proofs.ChainLemmas.{AreApart, IsChain-left, IsChain-left_other}
 use Rattle.lwp_table.proofs.JoinLemmas.{IsChain-joined, IsChain-joined_other}
 use Rattle.proc_table.specs.Links.{member}
 use Rattle.proc_table.proofs.Rows.{same_number, other_number}
@@ -67,11 +67,8 @@ module _ (f z : ℕ → Option Node) (linked : IsLinked f) (head t q : ℕ) (own
   was : (s : ℕ) (node : Node) → z s ≡ Some node → (w : Node) × (f s ≡ Some w) × (changed s w ≡ node)
   was s node there = grind (arith, nat_tests, same_Some)
 
-  other_member : (s : ℕ) → nat_eq q s ≡ false → (o : Option Node) → option_and_then member (option_map (changed s) o) ≡ option_map (beside s) (option_and_then member o)
-  other_member s off o = grind (arith, nat_tests)
-
   members-others : (s : ℕ) → s ≢ q → members z s ≡ option_map (beside s) (members f s)
-  members-others s off = grind (arith, nat_tests, other_member, other_number)
+  members-others s off = grind (arith, nat_tests, turned s, other_number)
 
   members-here : members z q ≡ option_map (λ t. record { key = old.pid; list = t; prev = prev; next = next }) list_owner
   members-here = grind (arith, nat_tests, same_number)

@@ -1,14 +1,11 @@
 -- What a write of links does to what the lists and the table's rows see of a slot.
-use Rattle.proc_table.proofs.CommonNames.{nat_tests, ◌≡◌, ◌≢◌, ℕ, Bool, false, ◌&&◌, Option, Some, None, IsSome, IfSome, nat_eq, refl, sym, ap, ◌∙◌, rules, arith, option_map, cases_eq, same_Some}
+use Rattle.proc_table.proofs.CommonNames.{nat_tests, ◌≡◌, ◌≢◌, ℕ, Option, Some, None, IsSome, IfSome, ap, rules, arith, option_map, cases_eq, same_Some}
 use Rattle.proc_table.proofs.CommonNames.{ProcData, ListKind, Links, Slot, IsNearest, IsChain, Node, members, IsLinked, forward, backward, hung, links_in, put_links, other, node_of, nodes_of, rows_of}
 use Rattle.proc_table.proofs.CommonNames.{IsHead}
 use Rattle.lwp_table.specs.Chain.{Node as Member}
 use Rattle.proc_table.proofs.Every.{some_and}
 use Rattle.proc_table.proofs.Rows.{same_number, other_number}
 use Rattle.proc_table.proofs.Linked.{as_member, node-of, list-of}
-
-never : (b : Bool) → (b && false) ≡ false
-never b = grind (arith, nat_tests)
 
 pub put-node_of : (kin : ListKind) (l : Links) (slot : Slot) → node_of kin (put_links kin l slot) ≡ record { pid = slot.row.pid; list_owner = l.list_owner; first = l.first; last = l.last; prev = l.prev; next = l.next }
 put-node_of kin l slot = grind (arith, nat_tests)
@@ -32,18 +29,16 @@ module _ (f g : ℕ → Option Slot) (at : ℕ) (kin : ListKind) (x : Slot) (r l
 
   module _ (to : Option ℕ) where
     pub put-first : l ≡ record r { first = to } → (s : ℕ) → nodes_of kin g s ≡ option_map (forward at None to s) (nodes_of kin f s)
-    put-first is = put-nodes (forward at None to) (ap seen is ∙ ap (λ (links : Links). seen (record links { first = to })) read ∙ rw (same_number at) refl) (λ s node apart. rw (other_number at s (λ same. apart (sym same))) refl)
+    put-first is = grind (arith, nat_tests, put-nodes (forward at None to), same_number, other_number)
 
     pub put-last : l ≡ record r { last = to } → (s : ℕ) → nodes_of kin g s ≡ option_map (backward at None to s) (nodes_of kin f s)
-    put-last is = put-nodes (backward at None to) (ap seen is ∙ ap (λ (links : Links). seen (record links { last = to })) read ∙ rw (same_number at) refl) (λ s node apart. rw (other_number at s (λ same. apart (sym same))) refl)
+    put-last is = grind (arith, nat_tests, put-nodes (backward at None to), same_number, other_number)
 
     pub put-next : (head : ℕ) → l ≡ record r { next = to } → (s : ℕ) → nodes_of kin g s ≡ option_map (forward head (Some at) to s) (nodes_of kin f s)
-    put-next head is = put-nodes (forward head (Some at) to) (ap seen is ∙ ap (λ (links : Links). seen (record links { next = to })) read ∙ rw (same_number at, never (nat_eq head at)) refl)
-        (λ s node apart. rw (other_number at s (λ same. apart (sym same)), never (nat_eq head s)) refl)
+    put-next head is = grind (arith, nat_tests, put-nodes (forward head (Some at) to), same_number, other_number)
 
     pub put-prev : (head : ℕ) → l ≡ record r { prev = to } → (s : ℕ) → nodes_of kin g s ≡ option_map (backward head (Some at) to s) (nodes_of kin f s)
-    put-prev head is = put-nodes (backward head (Some at) to) (ap seen is ∙ ap (λ (links : Links). seen (record links { prev = to })) read ∙ rw (same_number at, never (nat_eq head at)) refl)
-        (λ s node apart. rw (other_number at s (λ same. apart (sym same)), never (nat_eq head s)) refl)
+    put-prev head is = grind (arith, nat_tests, put-nodes (backward head (Some at) to), same_number, other_number)
 
   pub put-hung : (list_owner prev next : Option ℕ) → l ≡ record r { list_owner = list_owner; prev = prev; next = next } → (s : ℕ) → nodes_of kin g s ≡ option_map (hung at list_owner prev next s) (nodes_of kin f s)
   put-hung list_owner prev next is = grind (arith, nat_tests, put-nodes (hung at list_owner prev next), same_number, other_number)

@@ -1,10 +1,15 @@
 -- The list of all rows that numbers find.
-use Rattle.proc_table.proofs.CommonNames.{◌≡◌, ◌≢◌, ℕ, zero, suc, ◌+◌, ◌<◌, ◌≤◌, false, List, [], Option, Some, None, IsSome, refl, nat_eq, cond, arith, ◌⊎◌, map, filter, not, AllByRecursion}
-use Rattle.proc_table.proofs.CommonNames.{cons_option, list_any, nat_tests, ProcData, process_of, placed, AllAbove, Rise, InOwnBlock, put_process, listing, pid_count, pid_count-is, all_rows}
+use Rattle.proc_table.proofs.CommonNames.{◌≡◌, ℕ, zero, suc, ◌+◌, ◌<◌, ◌≤◌, false, [], Option, Some, None, IsSome, refl, nat_eq, cond, arith, ◌⊎◌, map, filter, not, AllByRecursion}
+use Rattle.proc_table.proofs.CommonNames.{cons_option, list_any, nat_tests, ProcData, process_of, placed, AllAbove, Rise, InOwnBlock, put_process, listing, all_rows}
+use Rattle.proc_table.specs.Slots.{pid_count}
 use Rattle.proc_table.proofs.Rows.{put_process-pid}
 use Rattle.proc_table.proofs.Rising.{none_above, Rise-map, Rise-filter, Lacks-from_any}
 use Rattle.proc_table.proofs.Placed.{Rise-placed}
 use Rattle.proc_table.proofs.Finds.{find-set, find-without, find-placed, rising_same}
+
+pid_count-is : pid_count ≡ 64000
+unfolding pid_count
+pid_count-is = refl
 
 -- each number finds its own row, which is at home
 pub record IsFound (f : ℕ → Option ProcData) : Type 0 where
@@ -18,8 +23,7 @@ module _ (f : ℕ → Option ProcData) where
 
   module _ (named : (pid : ℕ) (row : ProcData) → f pid ≡ Some row → row.pid ≡ pid) where
     pub above-listing : (low first count : ℕ) → low < first → AllAbove low (listing f first count)
-    above-listing low first zero below = grind (arith, nat_tests)
-    above-listing low first (suc count) below = grind (arith, nat_tests, above-listing low (first + 1) count)
+    above-listing low first count below = all-listing (λ q. low < q.pid) first count (λ pid row above is. omega (arith, below, above, named pid row is))
 
     pub Rise-listing : (first count : ℕ) → Rise (listing f first count)
     Rise-listing first zero = tt
@@ -28,10 +32,6 @@ module _ (f : ℕ → Option ProcData) where
         by : (o : Option ProcData) → f first ≡ o → Rise (listing f (first + 1) count) → Rise (cons_option o (listing f (first + 1) count))
         by None is rest = rest
         by (Some row) is rest = (above-listing row.pid (first + 1) count (omega (arith, named first row is)), rest)
-
-    -- a number is looked for beyond another one's row
-    past : (pid first : ℕ) (x o : Option ProcData) (rows : List ProcData) → f first ≡ o → pid ≢ first → process_of pid rows ≡ x → process_of pid (cons_option o rows) ≡ x
-    past pid first x o rows is apart rest = grind (arith, nat_tests)
 
     pub find-listing : (pid first count : ℕ) → first ≤ pid → pid < first + count → process_of pid (listing f first count) ≡ f pid
     find-listing pid first zero from to = absurd (omega arith)

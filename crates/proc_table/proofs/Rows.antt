@@ -1,14 +1,9 @@
 -- Rows found by their numbers, before and after edits.
-use Rattle.proc_table.proofs.CommonNames.{◌≡◌, ℕ, true, false, List, [], ◌∷◌, map, refl, sym, ap, ◌∙◌, arith, nat_eq, is_some, Some, rules, filter, not, ◌≢◌, list_any, cases_Bool, nat_tests, LwpData}
+use Rattle.proc_table.proofs.CommonNames.{◌≡◌, ℕ, true, List, [], ◌∷◌, map, refl, sym, ap, ◌∙◌, nat_eq, is_some, Some, rules, filter, not, ◌≢◌, list_any, cases_Bool, nat_tests, LwpData}
 use Rattle.proc_table.proofs.CommonNames.{lwp_of, any-found, found-number, find-map, put-number, ProcData, process_of, put_process}
 use Rattle.std.specs.Prelude.{option_map}
 use Rattle.proc_table.proofs.Every.{some_of}
-
-pub same_number : (n : ℕ) → nat_eq n n ≡ true
-same_number n = grind (arith, nat_tests)
-
-pub other_number : (m n : ℕ) → (m ≡ n → ⊥) → nat_eq m n ≡ false
-other_number m n h = search (rules, cases_Bool, nat_tests)
+pub use Rattle.lwp_table.proofs.WordLemmas.{test_same as same_number, test_apart as other_number}
 
 pub process_of-pid : (n : ℕ) (p : ProcData) (ps : List ProcData) → process_of n ps ≡ Some p → p.pid ≡ n
 process_of-pid n p ps found = found-number (λ (q : ProcData). q.pid) n p ps found

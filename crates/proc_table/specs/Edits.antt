@@ -1,7 +1,5 @@
 -- Changes of all LWPs of one process.
-use Rattle.std.specs.Prelude.{◌≡◌, ℕ, List, map}
-use Rattle.lwp_table.specs.declared.LwpData.{LwpData}
-use Rattle.lwp_table.specs.Lwps.{ComputesRows}
+use Rattle.proc_table.specs.CommonNames.{◌≡◌, ℕ, List, map, LwpData, ComputesRows}
 pub use Rattle.lwp_table.specs.Lwps.{own_lwp}
 use Rattle.proc_table.specs.Rows.{Rows}
 

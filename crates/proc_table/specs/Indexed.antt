@@ -1,6 +1,5 @@
 -- The rows with the set of their processes' numbers.
-use Rattle.std.specs.Prelude.{◌≡◌, ℕ, ◌+◌, List, is_some}
-use Rattle.bit_sets.specs.Members.{member, room}
+use Rattle.proc_table.specs.CommonNames.{◌≡◌, ℕ, ◌+◌, List, is_some, member, room}
 use Rattle.proc_table.specs.Processes.{process_of}
 use Rattle.proc_table.specs.Rows.{Rows}
 use Rattle.proc_table.specs.Kept.{TableInvariant}

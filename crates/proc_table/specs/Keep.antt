@@ -1,5 +1,5 @@
 -- Options under a test.
-use Rattle.std.specs.Prelude.{Bool, Option, Some, None, if◌then◌else◌}
+use Rattle.proc_table.specs.CommonNames.{Bool, Option, Some, None, if◌then◌else◌}
 
 -- what passes a test
 abbrev pub keep : {A : Type 0} → (A → Bool) → Option A → Option A

@@ -1,11 +1,6 @@
 -- What contracts see of the tables, the edits of rows, and what the tables always maintain.
-use Rattle.std.specs.Prelude.{◌≡◌, ◌≢◌, ℕ, ◌<◌, ◌==◌, true, not, List, [], ◌∷◌, Some, IfSome, filter, map, length, get_or, if◌then◌else◌}
-use Rattle.std.specs.List.{AllByRecursion}
-use Rattle.pid_blocks.specs.Users.{IsUser}
-use Rattle.pid_blocks.specs.Blocks.{slot, pid_block, tid_block, InBlock}
-use Rattle.proc_table.specs.declared.ProcData.{ProcData}
-use Rattle.lwp_table.specs.declared.LwpData.{LwpData}
-use Rattle.lwp_table.specs.Lwps.{with_lwp, without_lwp, Differ}
+use Rattle.proc_table.specs.CommonNames.{◌≡◌, ◌≢◌, ℕ, ◌<◌, ◌==◌, true, not, List, [], ◌∷◌, Some, IfSome, filter, map, length, get_or, if◌then◌else◌, AllByRecursion, IsUser, slot, pid_block, tid_block}
+use Rattle.proc_table.specs.CommonNames.{InBlock, ProcData, LwpData, with_lwp, without_lwp, Differ}
 use Rattle.proc_table.specs.Processes.{process_of}
 use Rattle.proc_table.specs.Rows.{Rows}
 use Rattle.proc_table.specs.Fresh.{is_process}

@@ -1,7 +1,5 @@
 -- What the walks over processes return, and what a user's queries see of the rows.
-use Rattle.std.specs.Prelude.{◌≡◌, ℕ, ◌≤◌, ◌<◌, ◌==◌, Bool, true, false, List, Option, Some, None, filter}
-use Rattle.pid_blocks.specs.Users.{IsUser}
-use Rattle.proc_table.specs.declared.ProcData.{ProcData}
+use Rattle.proc_table.specs.CommonNames.{◌≡◌, ℕ, ◌≤◌, ◌<◌, ◌==◌, Bool, true, false, List, Option, Some, None, filter, IsUser, ProcData}
 use Rattle.proc_table.specs.Processes.{process_of, of_user, traces}
 use Rattle.proc_table.specs.Rows.{Rows}
 use Rattle.proc_table.specs.Seen.{owns, seen_process, seen_lwp, find_seen}
@@ -16,13 +14,9 @@ pub record IsLeast (test : ProcData → Bool) (after : ℕ) (processes : List Pr
   pub passes : test p ≡ true
   pub least : (q : ProcData) → process_of q.pid processes ≡ Some q → after < q.pid → test q ≡ true → p.pid ≤ q.pid
 
--- no row above a number passes a test
-abbrev pub NonePasses : (ProcData → Bool) → ℕ → List ProcData → Type 0
-NonePasses test after processes = (q : ProcData) → process_of q.pid processes ≡ Some q → after < q.pid → test q ≡ false
-
--- the result is that row, or none if no row passes
+-- the result is that row, or none if no row above the number passes
 abbrev pub LeastOrNone : (ProcData → Bool) → ℕ → List ProcData → Option ProcData → Type 0
-LeastOrNone test after processes None = NonePasses test after processes
+LeastOrNone test after processes None = (q : ProcData) → process_of q.pid processes ≡ Some q → after < q.pid → test q ≡ false
 LeastOrNone test after processes (Some p) = IsLeast test after processes p
 
 -- a walk returns this result if the numbers rise
@@ -40,10 +34,7 @@ NextChildLeast = (pid : ℕ) → GivesLeast (λ p. p.parent == pid) (next_child 
 
 -- the rows of a user's processes and of their LWPs alone
 abbrev pub only_of : ℕ → Rows → Rows
-only_of u rows = record rows {
-  processes = of_user u rows.processes;
-  lwps = filter (λ l. owns u l.pid rows.processes) rows.lwps;
-}
+only_of u rows = record rows { processes = of_user u rows.processes; lwps = filter (λ l. owns u l.pid rows.processes) rows.lwps }
 
 -- a user's query has the same result if no other user has rows
 abbrev pub SeesOwn : {A : Type 0} → (ℕ → Rows → A) → Type 0

@@ -1,7 +1,6 @@
 -- Doubly linked lists through slots, each in rising order of pid.
-use Rattle.std.specs.Prelude.{◌≡◌, ℕ, ◌<◌, ◌≤◌, ◌&&◌, Option, Some, None, is_none, nat_eq, if◌then◌else◌}
-use Rattle.std.specs.Option.{option_map, option_and_then}
-use Rattle.lwp_table.specs.Chain.{Node as Member, IsChain, leads_to}
+use Rattle.proc_table.specs.CommonNames.{◌≡◌, ℕ, ◌<◌, ◌≤◌, ◌&&◌, Option, Some, None, is_none, nat_eq, if◌then◌else◌, option_map, option_and_then, IsChain, leads_to}
+use Rattle.lwp_table.specs.Chain.{Node as Member}
 
 -- what lists see of a slot: the pid of its row, the number whose list contains the row, the slots of the first and the
 -- last row of its own list, and of the rows before and after it in the list that contains it
@@ -13,13 +12,9 @@ pub record Node : Type 0 where
   pub prev : Option ℕ
   pub next : Option ℕ
 
--- what lists are built from: a node's pid and the number whose list contains it
-abbrev pub key_of : Node → ℕ × Option ℕ
-key_of node = (node.pid, node.list_owner)
-
--- the key at each slot
+-- what lists are built from, at each slot: the node's pid and the number whose list contains it
 abbrev pub keys : (ℕ → Option Node) → ℕ → Option (ℕ × Option ℕ)
-keys nodes slot = option_map key_of (nodes slot)
+keys nodes slot = option_map (λ node. (node.pid, node.list_owner)) (nodes slot)
 
 -- the slot `o` has the least pid above `after` in the list of t, or there is none
 abbrev pub IsNext : (ℕ → Option (ℕ × Option ℕ)) → ℕ → ℕ → Option ℕ → Type 0

@@ -1,19 +1,9 @@
 -- What the lists of each kind see of a slot, and what the table's rows see of it.
-use Rattle.std.specs.Prelude.{◌≡◌, ℕ, ◌<◌, Bool, true, false, List, Option, Some, None, nat_eq, ◌==◌, ltb, ◌&&◌, find, if◌then◌else◌}
-use Rattle.std.specs.Map.{lookup}
-use Rattle.std.specs.Option.{option_map, IsSomeAnd}
-use Rattle.proc_table.specs.declared.ProcData.{ProcData}
-use Rattle.proc_table.specs.declared.links.ListKind.{ListKind}
-use Rattle.proc_table.specs.declared.links.ListKind.TheVariants.{Tracees, Children}
-use Rattle.proc_table.specs.declared.links.Links.{Links}
-use Rattle.proc_table.specs.declared.links.Slot.{Slot}
+use Rattle.proc_table.specs.CommonNames.{◌≡◌, ℕ, ◌<◌, Bool, true, false, List, Option, Some, None, nat_eq, ◌==◌, ltb, ◌&&◌, find, if◌then◌else◌, lookup, option_map, IsSomeAnd, ProcData, ListKind}
+use Rattle.proc_table.specs.CommonNames.{Tracees, Children, Links, Slot}
 use Rattle.proc_table.specs.Links.{Node, IsLinked, keys}
 use Rattle.proc_table.specs.Slots.{IsSlotted}
 use Rattle.proc_table.specs.Processes.{is_this}
-
-abbrev pub links_in : ListKind → Slot → Links
-links_in Tracees slot = slot.tracees
-links_in Children slot = slot.children
 
 abbrev pub put_links : ListKind → Links → Slot → Slot
 put_links Tracees links slot = record slot { tracees = links }
@@ -24,9 +14,12 @@ other Tracees = Children
 other Children = Tracees
 
 -- one value for each kind
-abbrev pub pick : ListKind → Option ℕ → Option ℕ → Option ℕ
-pick Tracees tracer parent = tracer
-pick Children tracer parent = parent
+abbrev pub pick : {A : Type 0} → ListKind → A → A → A
+pick Tracees tracees children = tracees
+pick Children tracees children = children
+
+abbrev pub links_in : ListKind → Slot → Links
+links_in kin slot = pick kin slot.tracees slot.children
 
 -- the number of the row that a row names. No row has the number 1
 abbrev pub parent_named : ℕ → Option ℕ

@@ -1,11 +1,5 @@
 -- How slots contain the rows of processes: a slot for each number, and a row in each slot.
-use Rattle.std.specs.Prelude.{◌≡◌, ℕ, zero, suc, ◌+◌, List, [], ◌==◌, Option, Some, nat_eq, count_by, get_or, refl}
-use Rattle.std.specs.List.{cons_option}
-use Rattle.std.specs.Option.{option_and_then}
-use Rattle.std.specs.Map.{lookup}
-use Rattle.pid_blocks.specs.Users.{IsUser}
-use Rattle.pid_blocks.specs.Blocks.{slot}
-use Rattle.proc_table.specs.declared.ProcData.{ProcData}
+use Rattle.proc_table.specs.CommonNames.{◌≡◌, ℕ, List, ◌==◌, Option, Some, nat_eq, count_by, get_or, option_and_then, lookup, IsUser, slot, listing, ProcData}
 use Rattle.proc_table.specs.Kept.{InOwnBlock}
 
 -- what contracts see of the processes alone: the rows by rising number, and how many more fit without allocation
@@ -13,18 +7,10 @@ pub record ProcRows : Type 0 where
   pub rows : List ProcData
   pub spare : ℕ
 
--- the rows that this many numbers find, starting at `first`
-abbrev pub listing : (ℕ → Option ProcData) → ℕ → ℕ → List ProcData
-listing f first zero = []
-listing f first (suc count) = cons_option (f first) (listing f (first + 1) count)
-
--- how many numbers all blocks have together. It does not unfold, so no list of all numbers is ever computed
-pub pid_count : ℕ
+-- how many numbers all blocks have together. It unfolds only where a proof says so, and no list of all numbers is ever
+-- computed
+unfoldable pub pid_count : ℕ
 pid_count = 64000
-
-pub pid_count-is : pid_count ≡ 64000
-unfolding pid_count
-pid_count-is = refl
 
 -- the rows of all numbers, by rising number
 abbrev pub all_rows : (ℕ → Option ProcData) → List ProcData

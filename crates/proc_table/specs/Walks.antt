@@ -1,6 +1,5 @@
 -- Walks over processes: each step returns the least greater number.
-use Rattle.std.specs.Prelude.{◌≡◌, ℕ, Bool, ◌==◌, ◌&&◌, ltb, List, Option, Some, find}
-use Rattle.proc_table.specs.declared.ProcData.{ProcData}
+use Rattle.proc_table.specs.CommonNames.{◌≡◌, ℕ, Bool, ◌==◌, ◌&&◌, ltb, List, Option, Some, find, ProcData}
 use Rattle.proc_table.specs.Processes.{process_of, traces}
 
 -- the first process above a number: of a user, traced by a process, or a child of one

@@ -1,19 +1,11 @@
 -- The LWPs of a process that ends, and its own end once no row names it and no LWP waits for it.
-use Rattle.process_end.proofs.CommonNames.{◌≡◌, ℕ, List, [], ◌∷◌, true, false, ◌&&◌, ◌==◌, if◌then◌else◌, Option, Some, None, refl, sym, ap, ◌∙◌, arith, eqb-true, option_map, fun_ext, nat_tests, AllByRecursion, list_any}
-use Rattle.process_end.proofs.CommonNames.{ProcData, LwpData, Rows, Rise, each, process_of, is_live, is_this, traces, unless, uncollected, collector, orphaned, dead, process_after, lwp_after, notified, set_process}
+use Rattle.process_end.proofs.CommonNames.{◌≡◌, ℕ, List, [], ◌∷◌, true, false, ◌&&◌, ◌==◌, Some, None, sym, ap, ◌∙◌, arith, eqb-true, option_map, fun_ext, nat_tests, AllByRecursion, list_any}
+use Rattle.process_end.proofs.CommonNames.{ProcData, LwpData, Rows, Rise, each, process_of, is_live, traces, uncollected, collector, dead, process_after, lwp_after, notified, set_process}
 use Rattle.process_end.proofs.CommonNames.{drop_process, end_alone, LeavingRow, LeavingLwp, IsLeaving, All-imply, All-both, none_of, find_some, find_passes, each_equal, the_row, live_row, found_row}
 use Rattle.process_end.proofs.Taken.{left_lwps}
 use Rattle.process_end.proofs.Told.{any_but, fallen, tell, told, told-is, tells, told_by, whom, whom-is, end_tell}
 use Rattle.process_end.proofs.EndsTwice.{alone}
 use Rattle.process_end.proofs.Steps.{replaced, same_lwp, leaving_told, alive_q, live_owners, collected_none, collected_some, collector_none, collector_some}
-
--- a row that doesn't name q
-unnamed_same : (q : ℕ) (r : ProcData) → traces q r ≡ false → (r.parent == q) ≡ false → orphaned (alone q) r ≡ r
-unnamed_same q r free other = let same = unless_other q r.tracer free in rw (same, other) refl
-  where
-    unless_other : (q : ℕ) (o : Option ℕ) → is_this q o ≡ false → unless (alone q) o ≡ o
-    unless_other q None e = refl
-    unless_other q (Some t) e = ap (λ b. if b then None else Some t) e
 
 module _ (q w : ℕ) (rows : Rows) (rise : Rise rows.processes) (v : IsLeaving q rows) (p : ProcData) (at : process_of q rows.processes ≡ Some p)
     (untraced : list_any (traces q) rows.processes ≡ false) (childless : list_any (λ r. r.parent == q) rows.processes ≡ false) where
@@ -42,12 +34,7 @@ module _ (q w : ℕ) (rows : Rows) (rise : Rise rows.processes) (v : IsLeaving q
 
   -- what becomes of each row
   row_ends : (r : ProcData) → Row r → process_after (fallen (alone q)) (alone q) q w r ≡ replaced p.pid (uncollected (dead w p)) r
-  row_ends r h =
-      let named = unnamed_same q r h.free h.other in
-      let one = h.one in
-      let left = h.fits.left in
-      let other = h.other in
-      grind (arith, nat_tests, named, one, left, other, p_live, p_number)
+  row_ends r h = grind (arith, nat_tests, h.free, h.one, h.fits.left, h.other, p_live, p_number)
 
   lwp_ends : (l : LwpData) → LeavingLwp v.alive q l × ((r : ProcData) → process_of l.pid ps ≡ Some r → is_live r ≡ true) → (r : ProcData) → process_of l.pid ps ≡ Some r → lwp_after (fallen (alone q)) (alone q) r l ≡ same_lwp r l
   lwp_ends l h r found = let same = (find_some (λ k. k.pid == l.pid) Row ps all r found).1 in let waits = h.0.waits in let other = h.0.other in grind (arith, nat_tests, same, waits, other)

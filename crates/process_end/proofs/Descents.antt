@@ -1,24 +1,22 @@
 -- The way down the tracees of a process that ends, and one turn of its end.
 use Rattle.process_end.proofs.CommonNames.{◌≡◌, ℕ, zero, suc, ◌+◌, ◌-◌, ◌<◌, ◌≤◌, List, Bool, true, false, ◌&&◌, ◌||◌, ◌==◌, Option, Some, None, length, refl, sym, ap, ◌∙◌, arith, true≢false, eq-eqb, eqb-true, subst}
-use Rattle.process_end.proofs.CommonNames.{unwrap_or, rules, count_by, ltb, MatchOption, and-false, nat_tests, AllByRecursion, SIGKILL, ProcData, process_of, is_live, is_this, traces, Rows, next_tracee, InOwnBlock}
+use Rattle.process_end.proofs.CommonNames.{unwrap_or, rules, count_by, ltb, MatchOption, nat_tests, AllByRecursion, SIGKILL, ProcData, process_of, is_live, is_this, traces, Rows, next_tracee, InOwnBlock}
 use Rattle.process_end.proofs.CommonNames.{TableInvariant, LeastOrNone, IsLeast, MidStepInvariant, IsSound, is_live_at, end, tracer_in, tracer_of, meets, dooms, chain, traces_live, end_alone, EndSound, TraceeDoomed}
-use Rattle.process_end.proofs.CommonNames.{LeafExists, kills, traces_live_above, IsLiveTracee, EndsToo, or_true, and_left, and_right, by_bool, any_holds, All-both, none_of, none_passes, some_is, passes, own_rows}
+use Rattle.process_end.proofs.CommonNames.{LeafExists, kills, traces_live_above, IsLiveTracee, EndsToo, or_true, and_left, and_right, by_bool, any_holds, All-both, none_of, none_passes, some_is, exists, own_rows}
 use Rattle.process_end.proofs.CommonNames.{any_by_number, listed, live_row, meets-suc, no_ring, chains_end, chains_meet, tracee_deeper, meets-more, end_at}
 use Rattle.proc_table.proofs.Least.{next_tracee-least}
 use Rattle.proc_table.proofs.Finds.{below_or_not}
-use Rattle.trace_stop.specs.End.{holds_of}
 use Rattle.process_end.proofs.LeafEnd.{is_kills, leaf_end, leaf_ends_no_other, leaf_end_leaves_fewer}
 use Rattle.process_end.proofs.LeafEndsFirst.{dooms_is, dooms_meets, q_traced, law, dooms_left}
 
 -- A live tracee
 
 this_is : (x : ℕ) (o : Option ℕ) → is_this x o ≡ true → o ≡ Some x
-this_is x None is = absurd (true≢false (sym is))
-this_is x (Some t) is = grind (arith, nat_tests, is)
+this_is x o is = grind (arith, nat_tests, is)
 
 tracee_is : (x : ℕ) (rows : Rows) → MidStepInvariant rows → (y : ProcData) → process_of y.pid rows.processes ≡ Some y → (is_live y && traces x y) ≡ true → IsLiveTracee x rows y.pid
 tracee_is x rows s y own is = record {
-  live = any_by_number is_live y.pid rows.processes s.rising ∙ ap (passes is_live) own ∙ and_left (is_live y) (traces x y) is;
+  live = any_by_number is_live y.pid rows.processes s.rising ∙ ap (exists is_live) own ∙ and_left (is_live y) (traces x y) is;
   link = ap tracer_in own ∙ this_is x y.tracer (and_right (is_live y) (traces x y) is);
 }
 
@@ -83,7 +81,7 @@ module _ (q after : ℕ) (rows : Rows) (kept : TableInvariant rows) where
   pub walk_found : (t : ProcData) → next_tracee q after ps ≡ Some t → is_live t ≡ true → IsLiveTracee q rows t.pid
   walk_found t at live =
       let l = least t at in record {
-        live = any_by_number is_live t.pid ps kept.rising ∙ ap (passes is_live) l.row ∙ live;
+        live = any_by_number is_live t.pid ps kept.rising ∙ ap (exists is_live) l.row ∙ live;
         link = ap tracer_in l.row ∙ this_is q t.tracer l.passes;
       }
 
@@ -94,7 +92,7 @@ module _ (q after : ℕ) (rows : Rows) (kept : TableInvariant rows) where
   walk_more t from at ended none = search (rules, below_or_not, by_bool, least, and_right, and_left, some_is)
 
   pub walk_none : (from : ℕ) → next_tracee q after ps ≡ None → NoneBetween q ps from after → traces_live_above from q rows ≡ false
-  walk_none from at none = search (rules, next_tracee-least, none_passes, below_or_not, and-false, own_rows)
+  walk_none from at none = none_passes _ (λ r. process_of r.pid ps ≡ Some r) (λ r own. grind (arith, nat_tests, subst (LeastOrNone (traces q) after ps) at (next_tracee-least q after ps kept.rising) r own, none r own)) ps (own_rows ps kept.rising)
 
 -- every number is above 0
 pub none_above_zero : (q : ℕ) (rows : Rows) → AllByRecursion InOwnBlock rows.processes → traces_live_above 0 q rows ≡ false → traces_live q rows ≡ false
@@ -103,8 +101,7 @@ none_above_zero q rows in_own_blocks none =
     rows.processes (All-both InOwnBlock _ rows.processes in_own_blocks (none_of (λ r. ltb 0 r.pid && (is_live r && traces q r)) rows.processes none))
 
 pub sought : (q : ℕ) (rows : Rows) → AllByRecursion InOwnBlock rows.processes → (o : Option ℕ) → MatchOption o (traces_live_above 0 q rows ≡ false) (IsLiveTracee q rows) → MatchOption o (traces_live q rows ≡ false) (IsLiveTracee q rows)
-sought q rows in_own_blocks None none = none_above_zero q rows in_own_blocks none
-sought q rows in_own_blocks (Some t) is = is
+sought q rows in_own_blocks o is = grind (arith, none_above_zero q rows in_own_blocks)
 
 -- sound rows are sound after the end of a live process
 pub end_sound : EndSound
@@ -133,7 +130,7 @@ module _ (rows : Rows) (p q : ℕ) (s : IsSound rows) (other : (q == p) ≡ fals
   turn_ends (Some t) link =
       let met : dooms kills rows.processes p t ≡ true = rw (← link) at (q_traced rows p q s.stands other doomed leaf) in
       let ring = no_ring rows s.stands q in
-      let chained = meets-suc 249 rows.processes q q ∙ ap (holds_of (λ n. (n == q) || meets 249 rows.processes q n)) (sym link) in
+      let chained = meets-suc 249 rows.processes q q ∙ ap (exists (λ n. (n == q) || meets 249 rows.processes q n)) (sym link) in
       let was = dooms_left rows p q s.stands other doomed leaf t in
       grind (arith, nat_tests, met, ring, chained, was)
 

@@ -1,6 +1,6 @@
 -- One row, when a process that is doomed and traces no live one ends before the process that dooms it.
-use Rattle.process_end.proofs.CommonNames.{is_this, ◌≡◌, ℕ, Bool, true, false, not, ◌&&◌, ◌||◌, ◌==◌, if◌then◌else◌, Option, Some, None, refl, arith, rules, option_and_then, SIGKILL, by_owner, ProcData, LwpData, is_live, unless}
-use Rattle.process_end.proofs.CommonNames.{holds_of, process_after, lwp_after, nat_tests, passes}
+use Rattle.process_end.proofs.CommonNames.{is_this, ◌≡◌, ℕ, Bool, true, false, not, ◌&&◌, ◌||◌, ◌==◌, if◌then◌else◌, Option, arith, rules, option_and_then, SIGKILL, by_owner, ProcData, LwpData, is_live, keep}
+use Rattle.process_end.proofs.CommonNames.{exists, process_after, lwp_after, nat_tests}
 use Rattle.process_end.proofs.Told.{fallen, tells, told_by}
 
 -- the doom of q alone, and a doom without q
@@ -14,9 +14,8 @@ module _ (d : ℕ → Bool) (q : ℕ) (dq : d q ≡ true) where
   parent_twice : (n : ℕ) → (if rest d q (if alone q n then 1 else n) then 1 else (if alone q n then 1 else n)) ≡ (if d n then 1 else n)
   parent_twice n = grind (arith, nat_tests)
 
-  tracer_twice : (o : Option ℕ) → unless (rest d q) (unless (alone q) o) ≡ unless d o
-  tracer_twice None = refl
-  tracer_twice (Some t) = grind (arith, nat_tests)
+  tracer_twice : (o : Option ℕ) → keep (λ t. not (rest d q t)) (keep (λ t. not (alone q t)) o) ≡ keep (λ t. not (d t)) o
+  tracer_twice o = grind (arith, nat_tests)
 
   module _ (p status : ℕ) (qp : (q == p) ≡ false) (r : ProcData) (free : is_live r ≡ true → is_this q r.tracer ≡ false) where
     abbrev ended : Option ProcData
@@ -30,9 +29,9 @@ module _ (d : ℕ → Bool) (q : ℕ) (dq : d q ≡ true) where
 
     module _ (x : ℕ) where
       abbrev Twice : Type 0
-      Twice = tells d x r ≡ ((tells (alone q) x r && not (rest d q x)) || passes (tells (rest d q) x) ended)
+      Twice = tells d x r ≡ ((tells (alone q) x r && not (rest d q x)) || exists (tells (rest d q) x) ended)
 
-      tells-live : is_live r ≡ true → (alone q r.pid ≡ true → holds_of d r.tracer ≡ true) → Twice
+      tells-live : is_live r ≡ true → (alone q r.pid ≡ true → exists d r.tracer ≡ true) → Twice
       unfolding tells told_by
       tells-live live traced = let untraced = free live in rw live (grind (arith, nat_tests, traced, untraced, parent_twice, tracer_twice))
 
@@ -40,5 +39,5 @@ module _ (d : ℕ → Bool) (q : ℕ) (dq : d q ≡ true) where
       unfolding tells told_by
       tells-zombie dead = rw dead (grind (arith, nat_tests, parent_twice))
 
-      pub tells_twice : (is_live r ≡ true → alone q r.pid ≡ true → holds_of d r.tracer ≡ true) → Twice
+      pub tells_twice : (is_live r ≡ true → alone q r.pid ≡ true → exists d r.tracer ≡ true) → Twice
       tells_twice traced = search (rules, tells-live, tells-zombie)

@@ -3,7 +3,7 @@ use Rattle.process_end.proofs.CommonNames.{or-false, ◌≡◌, ◌≢◌, ℕ, 
 use Rattle.process_end.proofs.CommonNames.{subst, ◌<◌, count_by, true≢false, fun_ext, nat_tests, AllByRecursion, list_any, ProcData, process_of, is_live, is_live_at, traces, Rows, Rise, each, untraced, notified}
 use Rattle.process_end.proofs.CommonNames.{lost_signals, end, end_each, end_of, is_live_of, Linked, MidStepInvariant, meets, is_doomed, dooms, notifies_of, traces_live, end_alone, LeafEnd, DetachedEnd, LeafEndsNoOther}
 use Rattle.process_end.proofs.CommonNames.{LeafEndLeavesFewer, kills, spares, and_left, All-imply, All-both, All-any, any_holds, any_more, none_of, find_some, count-cons, count_more, live_named, live_found, any_by_number}
-use Rattle.process_end.proofs.CommonNames.{listed, meets-suc, meets-zero, passes, filter_map_same, any_same, any_edited, count_edited, each_same, own_rows, If_more}
+use Rattle.process_end.proofs.CommonNames.{listed, meets-suc, meets-zero, exists, filter_map_same, any_same, any_edited, count_edited, each_same, own_rows, If_more}
 use Rattle.trace_stop.specs.declared.Settings.{Settings}
 use Rattle.trace_stop.specs.End.{process_after, lwp_after, left_alone}
 use Rattle.process_end.proofs.Told.{any_but, heard, notified_row, fallen, turned, turned_lwp, told, told_by, tells, told-is, end_turned, turned_keeps}
@@ -23,7 +23,7 @@ pub sound_fits : (rows : Rows) (q : ℕ) → MidStepInvariant rows → traces_li
 sound_fits rows q s leaf =
     All-imply (λ r. ((process_of r.pid rows.processes ≡ Some r) × Linked rows r) × ((is_live r && traces q r) ≡ false)) (Fits (λ n. is_live_at n rows) q)
     (λ r h. record {
-      lives = sym (any_by_number is_live r.pid rows.processes s.rising ∙ ap (passes is_live) h.0.0);
+      lives = sym (any_by_number is_live r.pid rows.processes s.rising ∙ ap (exists is_live) h.0.0);
       tracer = If_more _ _ (live_of rows s.rising r.uid) r.tracer h.0.1.tracer;
       parent = λ other. live_of rows s.rising r.uid r.parent (h.0.1.parent other);
       free = λ live. rw live at h.1;
@@ -78,8 +78,8 @@ pub leaf_end : LeafEnd
 leaf_end settings rows q status on s found leaf = rw (is_kills settings on)
     (q_alone kills q status rows (let all = sound_fits rows q s leaf in All-imply _ _ (doomed_alone (λ n. is_live_at n rows) rows.processes q all) rows.processes all) found)
 
-pub any_kept : (t : ProcData → Bool) (f : ProcData → Option ProcData) (ps : List ProcData) → ((r : ProcData) → passes t (f r) ≡ t r) → list_any t (filter_map f ps) ≡ list_any t ps
-any_kept t f ps same = any_edited f t ps ∙ any_same (λ r. passes t (f r)) t ps (All-any _ same ps)
+pub any_kept : (t : ProcData → Bool) (f : ProcData → Option ProcData) (ps : List ProcData) → ((r : ProcData) → exists t (f r) ≡ t r) → list_any t (filter_map f ps) ≡ list_any t ps
+any_kept t f ps same = any_edited f t ps ∙ any_same (λ r. exists t (f r)) t ps (All-any _ same ps)
 
 pub detached_end : DetachedEnd
 detached_end settings rows q status off found = rw (is_spares settings off)
@@ -102,13 +102,9 @@ end_alone_told alive q status rows all here = end_each_same (λ r. r.pid == q) (
 
 pub count_fewer : {X : Type 0} (q t : X → Bool) (xs : List X) → AllByRecursion (λ x. q x ≡ true → t x ≡ true) xs → list_any (λ x. t x && not (q x)) xs ≡ true → count_by q xs < count_by t xs
 count_fewer q t [] all is = absurd (true≢false (sym is))
-count_fewer q t (x ∷ xs) all is =
-    let some = count-cons q x xs in
-    let every = count-cons t x xs in
-    let less = count_more q t xs all.1 in
-    grind (arith, nat_tests, all.0, is, some, every, less, count_fewer q t xs all.1)
+count_fewer q t (x ∷ xs) all is = grind (arith, nat_tests, all.0, is, count-cons q x xs, count-cons t x xs, count_more q t xs all.1, count_fewer q t xs all.1)
 
-same_live : (q n : ℕ) (r : ProcData) (o : Option ProcData) → IfSome o (λ s. s.pid ≡ r.pid) → passes is_live o ≡ (is_live r && not (r.pid == q)) → passes (λ k. (k.pid == n) && is_live k) o ≡ (((r.pid == n) && is_live r) && not (n == q))
+same_live : (q n : ℕ) (r : ProcData) (o : Option ProcData) → IfSome o (λ s. s.pid ≡ r.pid) → exists is_live o ≡ (is_live r && not (r.pid == q)) → exists (λ k. (k.pid == n) && is_live k) o ≡ (((r.pid == n) && is_live r) && not (n == q))
 same_live q n r o keeps lives = grind (arith, nat_tests, lives)
 
 module _ (q status : ℕ) (rows : Rows) (s : MidStepInvariant rows) (here : is_live_at q rows ≡ true) (leaf : traces_live q rows ≡ false) where
@@ -124,13 +120,13 @@ module _ (q status : ℕ) (rows : Rows) (s : MidStepInvariant rows) (here : is_l
       ∙ end_alone_told (λ n. is_live_at n rows) q status rows (sound_fits rows q s leaf) here
       ∙ end_turned (alone q) q status rows s.rising
 
-  lives : (r : ProcData) → passes is_live (change r) ≡ (is_live r && not (r.pid == q))
+  lives : (r : ProcData) → exists is_live (change r) ≡ (is_live r && not (r.pid == q))
   unfolding notified_row heard
   lives r = grind (arith, nat_tests)
 
   pub live_at : (n : ℕ) → is_live_at n after ≡ (is_live_at n rows && not (n == q))
   live_at n = any_edited change (λ r. (r.pid == n) && is_live r) rows.processes
-      ∙ any_but (λ r. (r.pid == n) && is_live r) (λ r. passes (λ k. (k.pid == n) && is_live k) (change r)) (not (n == q)) rows.processes
+      ∙ any_but (λ r. (r.pid == n) && is_live r) (λ r. exists (λ k. (k.pid == n) && is_live k) (change r)) (not (n == q)) rows.processes
       (All-any _ (λ r. same_live q n r (change r) (turned_keeps (alone q) q status (told (alone q) q status rows) r) (lives r)) rows.processes)
 
 pub leaf_ends_no_other : LeafEndsNoOther
@@ -141,5 +137,5 @@ leaf_end_leaves_fewer settings rows q status on s is leaf =
     let alike = lives q status rows s is leaf in
     rw (is_kills settings on) (subst (λ (rs : Rows). count_by is_live rs.processes < count_by is_live rows.processes) (sym (ended q status rows s is leaf))
     (rw (count_edited (change q status rows s is leaf) is_live rows.processes)
-    (count_fewer (λ r. passes is_live (change q status rows s is leaf r)) is_live rows.processes (All-any _ (λ r h. and_left (is_live r) _ (sym (alike r) ∙ h)) rows.processes)
+    (count_fewer (λ r. exists is_live (change q status rows s is leaf r)) is_live rows.processes (All-any _ (λ r h. and_left (is_live r) _ (sym (alike r) ∙ h)) rows.processes)
     (any_more (λ r. (r.pid == q) && is_live r) _ (λ r h. rw (alike r) (grind (arith, nat_tests, h))) rows.processes is))))

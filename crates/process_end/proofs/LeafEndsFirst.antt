@@ -1,8 +1,8 @@
 -- A process that is doomed and traces no live one ends before the process that dooms it.
-use Rattle.process_end.proofs.CommonNames.{◌≡◌, ℕ, zero, suc, List, Bool, true, false, not, ◌&&◌, ◌||◌, ◌==◌, Option, Some, None, IfSome, refl, sym, ap, ◌∙◌, true≢false, eqb-true, arith, rules, fun_ext, nat_tests}
-use Rattle.process_end.proofs.CommonNames.{option_and_then, AllByRecursion, list_any, SIGKILL, ProcData, process_of, is_live, is_live_at, Rows, Rise, each, holds_of, process_after, lwp_after, end, end_each}
+use Rattle.process_end.proofs.CommonNames.{◌≡◌, ℕ, zero, suc, List, Bool, true, false, not, ◌&&◌, ◌||◌, ◌==◌, Option, Some, IfSome, refl, sym, ap, ◌∙◌, true≢false, eqb-true, arith, rules, fun_ext, nat_tests}
+use Rattle.process_end.proofs.CommonNames.{option_and_then, AllByRecursion, list_any, SIGKILL, ProcData, process_of, is_live, is_live_at, Rows, Rise, each, exists, process_after, lwp_after, end, end_each}
 use Rattle.process_end.proofs.CommonNames.{MidStepInvariant, WithOwner, Standing, tracer_in, tracer_of, meets, is_doomed, dooms, traces_live, LeafEndsFirst, LeafEndSparesNoDoomed, kills, process_of-pid, All-imply}
-use Rattle.process_end.proofs.CommonNames.{All-both, find_some, passes, any_edited, own_rows, process_edited, rise_edited, If_more, any_by_number, live_row, meets-suc, meets-zero, meets-more}
+use Rattle.process_end.proofs.CommonNames.{All-both, find_some, any_edited, own_rows, process_edited, rise_edited, If_more, any_by_number, live_row, meets-suc, meets-zero, meets-more}
 use Rattle.process_end.proofs.Told.{any_but_or, heard, notified_row, fallen, turned, turned_lwp, either, ends_keep, ends_keep_lwp, turned_keeps, told, told-is, tells, end_tell, end_turned, stepped, Ends}
 use Rattle.process_end.proofs.EndsTwice.{alone, rest, row_twice, lwp_twice, tells_twice}
 use Rattle.process_end.proofs.LeafEnd.{Fits, sound_fits, live_of, told_alive, end_each_same, is_kills, live_at, ended}
@@ -18,7 +18,7 @@ module _ (alive d : ℕ → Bool) (p q status : ℕ) (rows : Rows) (rise : Rise 
 
   -- q's tracer ends with p
   abbrev Traced : ProcData → Type 0
-  Traced r = is_live r ≡ true → alone q r.pid ≡ true → holds_of d r.tracer ≡ true
+  Traced r = is_live r ≡ true → alone q r.pid ≡ true → exists d r.tracer ≡ true
 
   rows_twice : AllByRecursion (Fits alive q) rows.processes → AllByRecursion Traced rows.processes → AllByRecursion (WithOwner rows (λ r l. is_live r ≡ true)) rows.lwps
       → end_each (fallen (rest d q)) (rest d q) p status (end_each (fallen (alone q)) (alone q) q SIGKILL rows) ≡ end_each (fallen d) d p status rows
@@ -37,8 +37,8 @@ module _ (alive d : ℕ → Bool) (p q status : ℕ) (rows : Rows) (rise : Rise 
       same : (x : ℕ) → either (rest d q) t (told (rest d q) p status (each f (lwp_after (fallen (alone q)) (alone q)) rows)) x ≡ told d p status rows x
       same x =
           ap (λ b. (t x && not (rest d q x)) || b) (told-is (rest d q) p status (each f (lwp_after (fallen (alone q)) (alone q)) rows) x ∙ any_edited f (tells (rest d q) x) rows.processes)
-          ∙ ap (λ b. (b && not (rest d q x)) || list_any (λ r. passes (tells (rest d q) x) (f r)) rows.processes) (told-is (alone q) q SIGKILL rows x)
-          ∙ sym (told-is d p status rows x ∙ any_but_or (tells d x) (tells (alone q) x) (λ r. passes (tells (rest d q) x) (f r)) (not (rest d q x)) rows.processes
+          ∙ ap (λ b. (b && not (rest d q x)) || list_any (λ r. exists (tells (rest d q) x) (f r)) rows.processes) (told-is (alone q) q SIGKILL rows x)
+          ∙ sym (told-is d p status rows x ∙ any_but_or (tells d x) (tells (alone q) x) (λ r. exists (tells (rest d q) x) (f r)) (not (rest d q x)) rows.processes
           (All-imply _ _ (λ r h. tells_twice d q dq p status qp r h.0.free x h.1) rows.processes (All-both _ Traced rows.processes fits traced)))
 
 -- The processes that end with p
@@ -48,12 +48,11 @@ dooms_is rows p rise n here =
     any_by_number (is_doomed kills rows.processes p) n rows.processes rise
     ∙ at_row (process_of n rows.processes) refl (λ same. sym lives ∙ here same) ∙ ap (λ b. b && ((n == p) || meets 250 rows.processes p n)) (sym lives)
   where
-    lives : is_live_at n rows ≡ passes is_live (process_of n rows.processes)
+    lives : is_live_at n rows ≡ exists is_live (process_of n rows.processes)
     lives = any_by_number is_live n rows.processes rise
 
-    at_row : (o : Option ProcData) → process_of n rows.processes ≡ o → ((n == p) ≡ true → passes is_live o ≡ true) → passes (is_doomed kills rows.processes p) o ≡ (passes is_live o && ((n == p) || meets 250 rows.processes p n))
-    at_row None at live = refl
-    at_row (Some r) at live = let same = process_of-pid n r rows.processes at in grind (arith, nat_tests, same, live)
+    at_row : (o : Option ProcData) → process_of n rows.processes ≡ o → ((n == p) ≡ true → exists is_live o ≡ true) → exists (is_doomed kills rows.processes p) o ≡ (exists is_live o && ((n == p) || meets 250 rows.processes p n))
+    at_row o at live = grind (arith, nat_tests, process_of-pid n, at, live)
 
 tracer_lives : (rows : Rows) → MidStepInvariant rows → (n : ℕ) → IfSome (tracer_of rows.processes n) (λ t. is_live_at t rows ≡ true)
 tracer_lives rows s n = search (rules, find_some, live_of)
@@ -69,14 +68,13 @@ dooms_meets rows p n rise other is = let doomed = dooms_is rows p rise n (λ sam
 end_fallen : (rows : Rows) (p status : ℕ) → Rise rows.processes → is_live_at p rows ≡ true → end kills p status rows ≡ end_each (fallen (dooms kills rows.processes p)) (dooms kills rows.processes p) p status rows
 end_fallen rows p status rise live =
     end_each_same (is_doomed kills rows.processes p) (fallen (dooms kills rows.processes p)) (dooms kills rows.processes p) (dooms kills rows.processes p) p status rows
-    (All-imply (λ r. process_of r.pid rows.processes ≡ Some r) _ (λ r own. by_row r (any_by_number is_live r.pid rows.processes rise ∙ ap (passes is_live) own)) rows.processes (own_rows rows.processes rise)) (λ n. refl)
+    (All-imply (λ r. process_of r.pid rows.processes ≡ Some r) _ (λ r own. by_row r (any_by_number is_live r.pid rows.processes rise ∙ ap (exists is_live) own)) rows.processes (own_rows rows.processes rise)) (λ n. refl)
   where
     by_row : (r : ProcData) → is_live_at r.pid rows ≡ is_live r → is_doomed kills rows.processes p r ≡ (is_live r && dooms kills rows.processes p r.pid)
     by_row r lives = let same = eqb-true r.pid p in let doomed = dooms_is rows p rise r.pid (λ is. ap (λ n. is_live_at n rows) (same is) ∙ live) in grind (arith, nat_tests, lives, live, doomed)
 
-holds_agree : (f g : ℕ → Bool) (o : Option ℕ) → IfSome o (λ t. f t ≡ g t) → holds_of f o ≡ holds_of g o
-holds_agree f g None h = refl
-holds_agree f g (Some t) h = h
+holds_agree : (f g : ℕ → Bool) (o : Option ℕ) → IfSome o (λ t. f t ≡ g t) → exists f o ≡ exists g o
+holds_agree f g o h = grind (arith, h)
 
 module _ (rows : Rows) (p q : ℕ) (s : MidStepInvariant rows) (qp : (q == p) ≡ false) (dq : dooms kills rows.processes p q ≡ true) (leaf : traces_live q rows ≡ false) where
   abbrev ps : List ProcData
@@ -98,12 +96,8 @@ module _ (rows : Rows) (p q : ℕ) (s : MidStepInvariant rows) (qp : (q == p) �
   fits = sound_fits rows q s leaf
 
   -- q's tracer ends with p
-  pub q_traced : holds_of doomed (tracer_of ps q) ≡ true
-  q_traced = at_tracer (tracer_of ps q) (tracer_lives rows s q) (sym (meets-suc 249 ps p q) ∙ q_row.1)
-    where
-      at_tracer : (o : Option ℕ) → IfSome o (λ t. is_live_at t rows ≡ true) → holds_of (λ t. (t == p) || meets 249 ps p t) o ≡ true → holds_of doomed o ≡ true
-      at_tracer None live h = h
-      at_tracer (Some t) live h = let is = doomed-is t in let more = meets-more 249 ps p t in grind (arith, nat_tests, is, more)
+  pub q_traced : exists doomed (tracer_of ps q) ≡ true
+  q_traced = grind (arith, nat_tests, tracer_lives rows s q, sym (meets-suc 249 ps p q) ∙ q_row.1, doomed-is, meets-more 249 ps p)
 
   -- q's end, as an edit of each row
   abbrev edit : ProcData → Option ProcData
@@ -146,11 +140,7 @@ module _ (rows : Rows) (p q : ℕ) (s : MidStepInvariant rows) (qp : (q == p) �
 
   -- the same rows are doomed, but for q
   doomed-after : (n : ℕ) → dooms kills left.processes p n ≡ rest doomed q n
-  doomed-after n =
-      let is = dooms_is left p left-rises n (λ same. ap (λ m. is_live_at m left) (eqb-true n p same) ∙ p_left) in
-      let was = doomed-is n in
-      let lives = lives-after n in
-      grind (arith, nat_tests, is, was, lives, meets-after 250 n)
+  doomed-after n = grind (arith, nat_tests, dooms_is left p left-rises n (λ same. ap (λ m. is_live_at m left) (eqb-true n p same) ∙ p_left), doomed-is n, lives-after n, meets-after 250 n)
 
   abbrev killed : end kills q SIGKILL rows ≡ left
   killed = ended q SIGKILL rows s q_row.0 leaf
@@ -168,7 +158,7 @@ module _ (rows : Rows) (p q : ℕ) (s : MidStepInvariant rows) (qp : (q == p) �
       ∙ ap (end kills p status) (sym killed)
     where
       traced : AllByRecursion (Traced (λ n. is_live_at n rows) doomed p q status rows s.rising dq qp) ps
-      traced = All-imply (λ r. process_of r.pid ps ≡ Some r) _ (λ r own live same. ap (λ o. holds_of doomed (tracer_in o)) (sym own) ∙ ap (λ n. holds_of doomed (tracer_of ps n)) (eqb-true r.pid q same) ∙ q_traced) ps (own_rows ps s.rising)
+      traced = All-imply (λ r. process_of r.pid ps ≡ Some r) _ (λ r own live same. ap (λ o. exists doomed (tracer_in o)) (sym own) ∙ ap (λ n. exists doomed (tracer_of ps n)) (eqb-true r.pid q same) ∙ q_traced) ps (own_rows ps s.rising)
 
       owners : AllByRecursion (WithOwner rows (λ r l. is_live r ≡ true)) rows.lwps
       owners = All-imply (WithOwner rows (Standing rows)) _ (λ l h r is. (h r is).live) rows.lwps s.standing

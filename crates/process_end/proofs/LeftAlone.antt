@@ -1,7 +1,7 @@
 -- Tracees detached one after another.
 use Rattle.process_end.proofs.CommonNames.{lost_at, ◌≡◌, ℕ, ◌<◌, Bool, true, false, ◌&&◌, ◌==◌, if◌then◌else◌, Option, Some, refl, sym, ap, ◌∙◌, arith, count_by, option_map, nat_tests, option_and_then, LwpData, ProcData}
 use Rattle.process_end.proofs.CommonNames.{process_of, is_live, traces, Rows, by_owner, is_numbered, Rise, reported, untraced, untraced_lwp, detached, left_alone, lost_signals, MidStepInvariant, is_live_at, traces_live}
-use Rattle.process_end.proofs.CommonNames.{spares, IsLiveTracee, All-imply, All-any, any_more, none_of, find_passes, passes, any_edited, count_edited, each_same, each_twice, the_row, live_row, notified-none}
+use Rattle.process_end.proofs.CommonNames.{spares, IsLiveTracee, All-imply, All-any, any_more, none_of, find_passes, exists, any_edited, count_edited, each_same, each_twice, the_row, live_row, notified-none}
 use Rattle.process_end.proofs.CommonNames.{process_of-pid}
 use Rattle.trace_stop.proofs.CommonNames.{tracer_in}
 use Rattle.process_end.proofs.LeafEnd.{count_fewer}
@@ -51,7 +51,7 @@ module _ (q : ℕ) (rows rows' : Rows) (s : MidStepInvariant rows) (t : ℕ) (is
       (All-imply (λ r. r.pid ≡ t → r ≡ row.0) _ (λ r one. let tracee = λ (same : r.pid ≡ t). ap (is_tracee q) (one same) ∙ traced in (row_twice r tracee, lwp_twice r tracee)) rows.processes (the_row t rows.processes row.0 s.rising row.1))
 
   pub left_fewer : count_by (is_tracee q) rows'.processes < count_by (is_tracee q) rows.processes
-  left_fewer = rw (made, count_edited edit (is_tracee q) rows.processes) (count_fewer (λ r. passes (is_tracee q) (edit r)) (is_tracee q) rows.processes (All-any _ (λ r h. grind (arith, nat_tests, h)) rows.processes)
+  left_fewer = rw (made, count_edited edit (is_tracee q) rows.processes) (count_fewer (λ r. exists (is_tracee q) (edit r)) (is_tracee q) rows.processes (All-any _ (λ r h. grind (arith, nat_tests, h)) rows.processes)
       (find_passes (λ r. r.pid == t) _ rows.processes row.0 row.1 (grind (arith, nat_tests, traced, process_of-pid t row.0 rows.processes row.1))))
 
   pub left_lives : (n : ℕ) → is_live_at n rows ≡ true → is_live_at n rows' ≡ true

@@ -2,7 +2,7 @@
 use Rattle.process_end.proofs.CommonNames.{◌≡◌, ℕ, List, [], ◌∷◌, map, filter, filter_map, Bool, true, false, not, ◌==◌, if◌then◌else◌, Option, Some, None, IfSome, refl, sym, ap, ◌∙◌, true≢false, arith, nat_tests}
 use Rattle.process_end.proofs.CommonNames.{option_and_then, AllByRecursion, LwpData, ProcData, process_of, is_live, is_live_at, IsLiveChild, Rows, each, by_owner, own_lwp, map_lwps, InOwnersBlock, released, lwp_after}
 use Rattle.process_end.proofs.CommonNames.{end_each, list_any, FitProcess, Standing, WithOwner, IsSound, map-id, process_of-pid, traces_live, end_alone, without_lwps, lwps_ended, LeavingRow, LeavingLwp, IsLeaving}
-use Rattle.process_end.proofs.CommonNames.{All-imply, All-both, All-any, All-edit, any_holds, choose, passes, the_row, edit_none, any_by_number, live_row}
+use Rattle.process_end.proofs.CommonNames.{All-imply, All-both, All-any, All-edit, any_holds, choose, exists, the_row, edit_none, any_by_number, live_row}
 use Rattle.process_end.proofs.Told.{fallen, told-is, tells, untold, stepped}
 use Rattle.process_end.proofs.EndsTwice.{alone}
 use Rattle.process_end.proofs.LeafEnd.{Fits, sound_fits, end_alone_told}
@@ -75,7 +75,7 @@ module _ (rows : Rows) (s : IsSound rows) (q : ℕ) (p : ProcData) (at : process
     lwp_fits : (l : LwpData) → Owned l → IfSome (made l) (LeavingLwp alive q)
     lwp_fits l o =
         let number = o.number in
-        let lives : alive l.pid ≡ true = any_by_number is_live l.pid ps s.stands.rising ∙ ap (passes is_live) o.found ∙ o.stands.live in
+        let lives : alive l.pid ≡ true = any_by_number is_live l.pid ps s.stands.rising ∙ ap (exists is_live) o.found ∙ o.stands.live in
         rw o.found (choose (o.r.pid == q) None (Some (released (alone q) o.r l)) (λ k. IfSome k (LeavingLwp alive q)) (λ e. tt) (λ other. record {
           lives = rw (released-pid (alone q) o.r l) lives;
           other = rw (released-pid (alone q) o.r l) (grind (arith, nat_tests, number, other));

@@ -2,7 +2,7 @@
 use Rattle.process_end.proofs.CommonNames.{◌≡◌, ℕ, List, [], ◌∷◌, filter, filter_map, Bool, true, false, not, ◌&&◌, ◌||◌, ◌==◌, if◌then◌else◌, Option, Some, None, IfSome, refl, sym, ap, ◌∙◌, eqb-true, eq-eqb, subst}
 use Rattle.process_end.proofs.CommonNames.{arith, option_map, fun_ext, or-false, nat_tests, AllByRecursion, list_any, option_and_then, ProcData, LwpData, Rows, Rise, each, by_owner, process_of, is_live, set_process}
 use Rattle.process_end.proofs.CommonNames.{put_process, drop_process, notified, uncollected, collector, process_after, lwp_after, end_each, WithOwner, end_alone, LeavingRow, LeavingLwp, IsLeaving, choose, All-imply}
-use Rattle.process_end.proofs.CommonNames.{All-both, All-edit, any_holds, find_some, find_passes, passes, any_same, any_edited, KeepsNumbers, the_row, filter_map-map, lwps_left, If_more}
+use Rattle.process_end.proofs.CommonNames.{All-both, All-edit, any_holds, find_some, find_passes, exists, any_same, any_edited, KeepsNumbers, the_row, filter_map-map, lwps_left, If_more}
 use Rattle.process_end.proofs.Told.{is_gone, any_but_or, heard, heard_lwp, notified_row, notified_lwp, fallen, tell, told, told-is, tells, either, untold, told_these, stepped, Ends}
 use Rattle.process_end.proofs.EndsTwice.{alone}
 use Rattle.process_end.proofs.LeafEnd.{Fits, any_kept, end_alone_told}
@@ -70,7 +70,7 @@ collector_some z m some = grind (arith, nat_tests)
 -- what the code makes of a zombie k that replaces a row
 module _ (k : ProcData) (rows : Rows) where
   abbrev made_of : Option ProcData → Rows
-  made_of o = tell (λ x. passes (λ n. n == x) (option_map collector o)) (each (replaced k.pid o) same_lwp rows)
+  made_of o = tell (λ x. exists (λ n. n == x) (option_map collector o)) (each (replaced k.pid o) same_lwp rows)
 
   abbrev pub zombie_made : Rows
   zombie_made = made_of (uncollected k)
@@ -88,10 +88,10 @@ module _ (k : ProcData) (rows : Rows) where
 pub record Replaces (alive : ℕ → Bool) (q : ℕ) (z : ProcData) (o : Option ProcData) (t : ℕ → Bool) : Type 0 where
   pub number : IfSome o (λ s. s.pid ≡ z.pid)
   pub fits : IfSome o (LeavingRow alive q)
-  pub live : passes is_live o ≡ is_live z
+  pub live : exists is_live o ≡ is_live z
   pub row : (w : ℕ) → option_and_then (process_after (fallen (alone q)) (alone q) q w) o ≡ process_after (fallen (alone q)) (alone q) q w z
   pub lwps : is_live z ≡ true → (l : LwpData) → by_owner (lwp_after (fallen (alone q)) (alone q)) l o ≡ lwp_after (fallen (alone q)) (alone q) z l
-  pub tells : (x : ℕ) → tells (alone q) x z ≡ ((t x && not (x == q)) || passes (tells (alone q) x) o)
+  pub tells : (x : ℕ) → tells (alone q) x z ≡ ((t x && not (x == q)) || exists (tells (alone q) x) o)
   pub told : (x : ℕ) → t x ≡ true → alive x ≡ true
 
 module _ (q : ℕ) (rows : Rows) (v : IsLeaving q rows) (rise : Rise rows.processes) (z : ProcData) (at : process_of z.pid rows.processes ≡ Some z) (o : Option ProcData) (t : ℕ → Bool) (k : Replaces v.alive q z o t) where
@@ -109,7 +109,7 @@ module _ (q : ℕ) (rows : Rows) (v : IsLeaving q rows) (rise : Rise rows.proces
       by_number r one true same = changes r same (one (eqb-true r.pid z.pid same))
       by_number r one false other = stays r other
 
-  edited-live : AllByRecursion (λ r. passes (λ s. (s.pid == q) && is_live s) (f r) ≡ ((r.pid == q) && is_live r)) rows.processes
+  edited-live : AllByRecursion (λ r. exists (λ s. (s.pid == q) && is_live s) (f r) ≡ ((r.pid == q) && is_live r)) rows.processes
   edited-live = each_row _ (λ r other. rw other refl) (λ r same is. let number = k.number in let live = k.live in rw same (grind (arith, nat_tests, is, number, live)))
 
   edited-fits : AllByRecursion (λ r. IfSome (f r) (LeavingRow v.alive q)) rows.processes
@@ -144,6 +144,6 @@ module _ (q : ℕ) (rows : Rows) (v : IsLeaving q rows) (rise : Rise rows.proces
       same : (x : ℕ) → either (alone q) t (told (alone q) q w edited) x ≡ told (alone q) q w rows x
       same x =
           ap (λ b. (t x && not (x == q)) || b) (told-is (alone q) q w edited x ∙ any_edited f (tells (alone q) x) rows.processes)
-          ∙ ap (λ b. (b && (t x && not (x == q))) || list_any (λ r. passes (tells (alone q) x) (f r)) rows.processes) (sym (find_passes (λ r. r.pid == z.pid) (λ r. r.pid == z.pid) rows.processes z at (eq-eqb z.pid z.pid refl)))
-          ∙ sym (told-is (alone q) q w rows x ∙ any_but_or (tells (alone q) x) (λ r. r.pid == z.pid) (λ r. passes (tells (alone q) x) (f r)) (t x && not (x == q)) rows.processes
+          ∙ ap (λ b. (b && (t x && not (x == q))) || list_any (λ r. exists (tells (alone q) x) (f r)) rows.processes) (sym (find_passes (λ r. r.pid == z.pid) (λ r. r.pid == z.pid) rows.processes z at (eq-eqb z.pid z.pid refl)))
+          ∙ sym (told-is (alone q) q w rows x ∙ any_but_or (tells (alone q) x) (λ r. r.pid == z.pid) (λ r. exists (tells (alone q) x) (f r)) (t x && not (x == q)) rows.processes
           (each_row _ (λ r other. rw other refl) (λ r same is. rw (is, eq-eqb z.pid z.pid refl) (k.tells x))))

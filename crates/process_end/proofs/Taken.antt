@@ -1,10 +1,10 @@
 -- A tracee or a child that is taken from a process that ends, over the tables' edits.
-use Rattle.process_end.proofs.CommonNames.{◌≡◌, ℕ, ◌<◌, List, [], ◌∷◌, find, filter_map, Bool, true, false, not, ◌&&◌, ◌||◌, ◌==◌, if◌then◌else◌, Option, Some, None, IfSome, is_some, refl, sym, ap, ◌∙◌, arith, true≢false}
+use Rattle.process_end.proofs.CommonNames.{◌≡◌, ℕ, ◌<◌, List, [], ◌∷◌, find, filter_map, Bool, true, false, not, ◌&&◌, ◌||◌, ◌==◌, if◌then◌else◌, Option, Some, None, is_some, refl, sym, ap, ◌∙◌, arith, true≢false}
 use Rattle.process_end.proofs.CommonNames.{subst, option_map, count_by, ltb, and-false, nat_tests, AllByRecursion, list_any, first_lwp, ProcData, Rows, each, process_of, is_live, traces, next_tracee, next_child}
 use Rattle.process_end.proofs.CommonNames.{InOwnBlock, Rise, TableInvariant, Named, set_process, drop_process, notified, uncollected, collector, end_alone, LeavingRow, LeavingLwp, IsLeaving, every_found, found_tested}
-use Rattle.process_end.proofs.CommonNames.{named-untraced, choose, by_bool, and_left, and_right, All-imply, All-any, count_same, any_holds, find_some, find_none, none_of, none_passes, find_passes, passes, any_edited}
+use Rattle.process_end.proofs.CommonNames.{named-untraced, choose, by_bool, and_left, and_right, All-imply, All-any, count_same, any_holds, find_some, find_none, none_of, none_passes, find_passes, exists, any_edited}
 use Rattle.process_end.proofs.CommonNames.{count_edited, own_rows}
-use Rattle.process_end.proofs.Told.{is_gone, heard, notified_row, tell, told_by, tells, whom, untold}
+use Rattle.process_end.proofs.Told.{heard, notified_row, tell, told_by, tells, whom, untold}
 use Rattle.process_end.proofs.LeafEnd.{count_fewer}
 use Rattle.process_end.proofs.Steps.{replaced, same_lwp, drop_each, set_each, collected_none, collected_some, collector_none, collector_some, zombie_made, Replaces, step_leaving, step_same}
 
@@ -15,8 +15,8 @@ pub record Step (q : ℕ) (u : ProcData → Bool) (rows rows' : Rows) : Type 0 w
   pub same : (w : ℕ) → end_alone q w rows' ≡ end_alone q w rows
 
 module _ (q : ℕ) (u : ProcData → Bool) (rows rows' : Rows) (kept : TableInvariant rows) (v : IsLeaving q rows) (z : ProcData) (at : process_of z.pid rows.processes ≡ Some z) (is : u z ≡ true)
-    (o : Option ProcData) (t : ℕ → Bool) (alike : (r : ProcData) → u (notified_row t r) ≡ u r) (none : passes u o ≡ false) (made : rows' ≡ tell t (each (replaced z.pid o) same_lwp rows)) where
-  passed : (r : ProcData) → passes u (replaced z.pid o r) ≡ (u r && not (r.pid == z.pid))
+    (o : Option ProcData) (t : ℕ → Bool) (alike : (r : ProcData) → u (notified_row t r) ≡ u r) (none : exists u o ≡ false) (made : rows' ≡ tell t (each (replaced z.pid o) same_lwp rows)) where
+  passed : (r : ProcData) → exists u (replaced z.pid o r) ≡ (u r && not (r.pid == z.pid))
   passed r = grind (arith, nat_tests, none)
 
   fewer : count_by u rows'.processes < count_by u rows.processes
@@ -24,7 +24,7 @@ module _ (q : ℕ) (u : ProcData → Bool) (rows rows' : Rows) (kept : TableInva
       let left : List ProcData = filter_map (replaced z.pid o) rows.processes in
       let told = count_edited (λ r. Some (notified_row t r)) u left ∙ count_same (λ r. u (notified_row t r)) u left (All-any _ alike left) in
       let taken = count_edited (replaced z.pid o) u rows.processes in
-      let less = count_fewer (λ r. passes u (replaced z.pid o r)) u rows.processes (All-any _ (λ r h. and_left (u r) _ (sym (passed r) ∙ h)) rows.processes)
+      let less = count_fewer (λ r. exists u (replaced z.pid o r)) u rows.processes (All-any _ (λ r h. and_left (u r) _ (sym (passed r) ∙ h)) rows.processes)
       (find_passes (λ r. r.pid == z.pid) _ rows.processes z at (grind (arith, nat_tests, is, passed z))) in
       rw made (omega (arith, told, taken, less))
 
@@ -36,8 +36,8 @@ module _ (q : ℕ) (u : ProcData → Bool) (rows rows' : Rows) (kept : TableInva
   }
 
 -- nor does any other row pass a test that the new row fails
-pub none_left : (u : ProcData → Bool) (n : ℕ) (o : Option ProcData) (rows : Rows) → passes u o ≡ false → list_any u rows.processes ≡ false → list_any u (each (replaced n o) same_lwp rows).processes ≡ false
-none_left u n o rows none all = any_edited (replaced n o) u rows.processes ∙ none_passes (λ r. passes u (replaced n o r)) (λ r. u r ≡ false) (λ r e. grind (arith, nat_tests, none, e)) rows.processes (none_of u rows.processes all)
+pub none_left : (u : ProcData → Bool) (n : ℕ) (o : Option ProcData) (rows : Rows) → exists u o ≡ false → list_any u rows.processes ≡ false → list_any u (each (replaced n o) same_lwp rows).processes ≡ false
+none_left u n o rows none all = any_edited (replaced n o) u rows.processes ∙ none_passes (λ r. exists u (replaced n o r)) (λ r. u r ≡ false) (λ r e. grind (arith, nat_tests, none, e)) rows.processes (none_of u rows.processes all)
 
 traced-told : (q : ℕ) (t : ℕ → Bool) (r : ProcData) → traces q (notified_row t r) ≡ traces q r
 unfolding notified_row heard
@@ -89,9 +89,7 @@ module _ (q : ℕ) (rows rows' : Rows) (kept : TableInvariant rows) (v : IsLeavi
     zombie_tracees = unnamed (traces z.pid) rows.processes (none_passes (traces z.pid) (LeavingRow v.alive q) (λ r h. let tracer = h.tracer in grind (arith, nat_tests, tracer, dead)) rows.processes v.processes)
 
     pub zombie_children : next_child z.pid 0 rows.processes ≡ None
-    zombie_children =
-        let low = (every_found InOwnBlock (λ r. r.pid == z.pid) rows.processes z kept.in_own_blocks at).block.0 in
-        unnamed (λ r. r.parent == z.pid) rows.processes (none_passes (λ r. r.parent == z.pid) (LeavingRow v.alive q) (λ r h. let parent = h.parent in grind (arith, nat_tests, parent, dead, low)) rows.processes v.processes)
+    zombie_children = unnamed (λ r. r.parent == z.pid) rows.processes (none_passes (λ r. r.parent == z.pid) (LeavingRow v.alive q) (λ r h. grind (arith, nat_tests, h.parent, dead, every_found InOwnBlock (λ k. k.pid == z.pid) rows.processes z kept.in_own_blocks at)) rows.processes v.processes)
 
     pub zombie_lwps : first_lwp z.pid rows.lwps ≡ None
     zombie_lwps = find_none _ rows.lwps (All-imply (LeavingLwp v.alive q) _ (λ l h. let lives = h.lives in grind (arith, nat_tests, lives, dead)) rows.lwps v.lwps)
@@ -102,20 +100,7 @@ module _ (q : ℕ) (rows rows' : Rows) (kept : TableInvariant rows) (v : IsLeavi
 
     tracee_replaced : Replaces v.alive q z (uncollected (orphan_of q z)) (whom (orphan_of q z))
     unfolding tells told_by
-    tracee_replaced =
-        let fits = z_fits in
-        let parent = fits.parent in
-        let ended = tracee_ended in
-        record {
-          number = grind (arith, nat_tests);
-          fits = choose (is_gone (orphan_of q z)) None (Some (orphan_of q z)) (λ o. IfSome o (LeavingRow v.alive q)) (λ gone. tt)
-              (λ left. record { lives = fits.lives; tracer = tt; parent = λ other. grind (arith, nat_tests, left, parent); free = λ live. refl; left = λ dead. left });
-          live = grind (arith, nat_tests, ended);
-          row = λ w. grind (arith, nat_tests, ended, traced);
-          lwps = λ live. absurd (true≢false (sym live ∙ ended));
-          tells = λ x. grind (arith, nat_tests, ended, traced);
-          told = λ x is. grind (arith, nat_tests, is, parent);
-        }
+    tracee_replaced = grind (arith, nat_tests, z_fits, tracee_ended, traced)
 
     tracee_step : rows' ≡ zombie_made (orphan_of q z) rows → Step q (traces q) rows rows'
     tracee_step made = step q (traces q) rows rows' kept v z at traced (uncollected (orphan_of q z)) (whom (orphan_of q z)) (traced-told q (whom (orphan_of q z))) (grind arith) made tracee_replaced
@@ -140,19 +125,7 @@ module _ (q : ℕ) (rows rows' : Rows) (kept : TableInvariant rows) (v : IsLeavi
 
     child_replaced : Replaces v.alive q z (if stays then Some (orphan z) else None) (λ x. false)
     unfolding tells told_by
-    child_replaced =
-        let fits = z_fits in
-        let left = fits.left in
-        record {
-          number = grind arith;
-          fits = choose stays (Some (orphan z)) None (λ o. IfSome o (LeavingRow v.alive q))
-              (λ some. record { lives = fits.lives; tracer = fits.tracer; parent = λ other. absurd (other refl); free = fits.free; left = λ dead. grind (arith, nat_tests, dead, some) }) (λ gone. tt);
-          live = grind arith;
-          row = λ w. grind (arith, nat_tests, child);
-          lwps = λ live l. rw live (grind (arith, nat_tests, child));
-          tells = λ x. grind (arith, nat_tests, child);
-          told = λ x is. absurd (true≢false (sym is));
-        }
+    child_replaced = grind (arith, nat_tests, z_fits, child)
 
     pub child_is_named : Named rows (orphan z)
     child_is_named = record { tracer = (every_found (Named rows) (λ r. r.pid == z.pid) rows.processes z kept.named at).tracer; parent = λ other. absurd (other refl) }

@@ -1,7 +1,7 @@
 -- The end of processes as an edit of each row, and then the notifications; what an earlier notification changes.
 use Rattle.process_end.proofs.CommonNames.{◌≡◌, ℕ, Bool, true, false, not, ◌&&◌, ◌||◌, ◌==◌, if◌then◌else◌, Option, Some, None, IfSome, refl, sym, ap, ◌∙◌, arith, bit_or, rules, filter_map, option_map, is_none, List, []}
 use Rattle.process_end.proofs.CommonNames.{◌∷◌, fun_ext, nat_tests, AllByRecursion, list_any, option_and_then, without, SIGCHLD, ProcData, LwpData, Rows, Rise, each, by_owner, process_of, is_live}
-use Rattle.process_end.proofs.CommonNames.{posted_process, posted_lwp, process_after, lwp_after, end_each, unless, holds_of, uncollected, collector, notified, notified-none, All-imply, All-edit, passes, any_edited}
+use Rattle.process_end.proofs.CommonNames.{posted_process, posted_lwp, process_after, lwp_after, end_each, keep, exists, uncollected, collector, notified, notified-none, All-imply, All-edit, any_edited}
 use Rattle.process_end.proofs.CommonNames.{any_same, KeepsNumbers, KeepsOwners, each_same, each_twice, each_agree, rise_edited}
 use Rattle.std.proofs.lemmas.Nat.Bits.{bit_at_or, bit_at_xor, same_from_bits}
 use Rattle.trace_stop.proofs.CommonNames.{notifies_of}
@@ -111,11 +111,11 @@ told_by (Some t) parent x = t == x
 
 -- whether a process is notified of the row: of one that ends, and of a zombie whose tracer ends
 abbrev pub tells_any : (ℕ → Bool) → ProcData → Bool
-tells_any over r = fallen over r || (not (is_live r) && holds_of over r.tracer)
+tells_any over r = fallen over r || (not (is_live r) && exists over r.tracer)
 
 -- whether x is notified of the row
 unfoldable pub tells : (ℕ → Bool) → ℕ → ProcData → Bool
-tells over x r = tells_any over r && told_by (unless over r.tracer) (if over r.parent then 1 else r.parent) x
+tells over x r = tells_any over r && told_by (keep (λ t. not (over t)) r.tracer) (if over r.parent then 1 else r.parent) x
 
 -- a zombie that no process collects
 abbrev pub is_gone : ProcData → Bool
@@ -123,15 +123,15 @@ is_gone z = is_none z.tracer && (z.parent == 1)
 
 -- the process that is notified of a zombie, if any
 abbrev pub whom : ProcData → ℕ → Bool
-whom z x = passes (λ n. n == x) (option_map collector (uncollected z))
+whom z x = exists (λ n. n == x) (option_map collector (uncollected z))
 
 pub whom-is : (z : ProcData) (x : ℕ) → whom z x ≡ told_by z.tracer z.parent x
 unfolding told_by
 whom-is z x = grind (arith, nat_tests)
 
-tells-is : (over : ℕ → Bool) (p status x : ℕ) (r : ProcData) → passes (λ n. n == x) (notifies_of (fallen over) over p status r) ≡ tells over x r
+tells-is : (over : ℕ → Bool) (p status x : ℕ) (r : ProcData) → exists (λ n. n == x) (notifies_of (fallen over) over p status r) ≡ tells over x r
 unfolding tells
-tells-is over p status x r = search (rules, passes, fallen, whom-is)
+tells-is over p status x r = search (rules, exists, fallen, whom-is)
 
 -- whether x is notified
 unfoldable pub told : (ℕ → Bool) → ℕ → ℕ → Rows → ℕ → Bool

@@ -1,9 +1,5 @@
 -- From a process that ends down to its tracees, where a debugger's end kills and where it detaches.
-use Rattle.std.specs.Prelude.{◌≡◌, ℕ, Bool, true, false, ltb, ◌==◌, ◌&&◌, ◌||◌, Option, Some, None}
-use Rattle.std.specs.List.{list_any}
-use Rattle.proc_table.specs.declared.ProcData.{ProcData}
-use Rattle.proc_table.specs.Processes.{is_live, traces}
-use Rattle.proc_table.specs.Rows.{Rows}
+use Rattle.trace_stop.specs.CommonNames.{◌≡◌, ℕ, Bool, true, false, ltb, ◌==◌, ◌&&◌, ◌||◌, Option, Some, option_map_or, list_any, ProcData, is_live, traces, Rows}
 use Rattle.trace_stop.specs.declared.Settings.{Settings}
 use Rattle.trace_stop.specs.End.{tracer_of, dooms, lost_signals}
 use Rattle.trace_stop.specs.Sound.{is_live_at}
@@ -16,8 +12,7 @@ spares = record { kill_on_debugger_exit = false }
 
 -- the signals that a tracee loses when its debugger ends, by the tracee's row
 abbrev pub lost_at : Option ProcData → ℕ
-lost_at None = 0
-lost_at (Some p) = lost_signals p
+lost_at tracee = option_map_or lost_signals tracee 0
 
 -- whether the process numbered n traces a live process with a number above this one
 abbrev pub traces_live_above : ℕ → ℕ → Rows → Bool

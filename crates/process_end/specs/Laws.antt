@@ -1,11 +1,5 @@
 -- The end of a process as a sequence of ends of processes without live tracees.
-use Rattle.std.specs.Prelude.{◌≡◌, ◌<◌, ℕ, Bool, true, false, ◌==◌, ◌&&◌, ◌||◌, Some, not, count_by}
-use Rattle.std.specs.List.{list_any}
-use Rattle.signals.specs.Table.{SIGKILL}
-use Rattle.proc_table.specs.declared.ProcData.{ProcData}
-use Rattle.proc_table.specs.Processes.{process_of, is_live, traces}
-use Rattle.proc_table.specs.Rows.{Rows}
-use Rattle.proc_table.specs.Fresh.{is_process}
+use Rattle.trace_stop.specs.CommonNames.{◌≡◌, ◌<◌, ℕ, Bool, true, false, ◌==◌, ◌&&◌, ◌||◌, Some, not, count_by, list_any, SIGKILL, ProcData, process_of, is_live, traces, Rows, is_process}
 use Rattle.trace_stop.specs.declared.Settings.{Settings}
 use Rattle.trace_stop.specs.End.{dooms, left_alone, end_each, end}
 use Rattle.trace_stop.specs.Sound.{is_live_at, is_end}

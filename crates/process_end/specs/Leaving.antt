@@ -1,10 +1,5 @@
 -- The rows during the end of a process without live tracees, after its LWPs are gone and no LWP waits for it.
-use Rattle.std.specs.Prelude.{◌≡◌, ◌≢◌, ℕ, Bool, true, false, ◌==◌, ◌&&◌, not, IfSome, filter, is_none}
-use Rattle.std.specs.List.{AllByRecursion}
-use Rattle.lwp_table.specs.declared.LwpData.{LwpData}
-use Rattle.proc_table.specs.declared.ProcData.{ProcData}
-use Rattle.proc_table.specs.Processes.{is_live, traces}
-use Rattle.proc_table.specs.Rows.{Rows, by_owner, owner, edit_lwps}
+use Rattle.trace_stop.specs.CommonNames.{◌≡◌, ◌≢◌, ℕ, Bool, true, false, ◌==◌, ◌&&◌, not, IfSome, filter, is_none, AllByRecursion, LwpData, ProcData, is_live, traces, Rows, by_owner, owner, edit_lwps}
 use Rattle.trace_stop.specs.End.{waits_where, lwp_after}
 use Rattle.trace_stop.specs.Sound.{is_live_at}
 

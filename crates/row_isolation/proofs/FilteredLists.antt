@@ -1,8 +1,9 @@
 -- Filters, and what is looked up in a filtered list.
 use Rattle.std.proofs.Common.{◌≡◌, ◌<◌, List, [], ◌∷◌, map, filter, find, filter_map, Bool, true, false, Option, Some, None, IfSome, refl, arith, ltb}
-use Rattle.trace_stop.proofs.CommonNames.{nat_tests, AllByRecursion, cons_option, list_any, ProcData, placed, AllAbove, Rise}
+use Rattle.trace_stop.proofs.CommonNames.{nat_tests, AllByRecursion, cons_option, ProcData, placed, AllAbove, Rise}
 use Rattle.std.proofs.lemmas.List.Elements.{filter-append}
 use Rattle.proc_table.proofs.Every.{every_filter}
+pub use Rattle.proc_table.proofs.OwnRows.{find-only as find_only, any-only as any_only}
 use Rattle.trace_stop.proofs.Every.{All-any, All-both, All-edit}
 use Rattle.proc_table.proofs.Placed.{stands}
 use Rattle.trace_stop.proofs.Placed.{IsFree}
@@ -14,17 +15,9 @@ find_some q P (x ∷ xs) e = grind (arith, e.0, find_some q P xs e.1)
 -- What asks for elements that pass a test doesn't see the others
 
 module _ {X : Type 0} (q p : X → Bool) (P : X → Type 0) (h : (x : X) → P x → q x ≡ true → p x ≡ true) where
-  pub find_only : (xs : List X) → AllByRecursion P xs → find q (filter p xs) ≡ find q xs
-  find_only [] e = refl
-  find_only (x ∷ xs) e = grind (arith, h x e.0, find_only xs e.1)
-
   pub filter_only : (xs : List X) → AllByRecursion P xs → filter q (filter p xs) ≡ filter q xs
   filter_only [] e = refl
   filter_only (x ∷ xs) e = grind (arith, h x e.0, filter_only xs e.1)
-
-  pub any_only : (xs : List X) → AllByRecursion P xs → list_any q (filter p xs) ≡ list_any q xs
-  any_only [] e = refl
-  any_only (x ∷ xs) e = grind (arith, h x e.0, any_only xs e.1)
 
 module _ {X : Type 0} (p : X → Bool) (f : X → Option X) (P : X → Type 0) where
   pub filter_edit : ((x : X) → P x → IfSome (f x) (λ y. p y ≡ p x)) → (xs : List X) → AllByRecursion P xs → filter p (filter_map f xs) ≡ filter_map f (filter p xs)

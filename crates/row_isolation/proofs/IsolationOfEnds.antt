@@ -1,19 +1,18 @@
 -- The end of a process; posting any signal, trace stops, and what resumes a process.
-use Rattle.std.proofs.Common.{arith, ◌≡◌, ◌≢◌, ℕ, zero, suc, List, filter_map, Bool, true, false, ◌==◌, ◌&&◌, ◌||◌, if◌then◌else◌, Option, Some, None, is_some, IfSome, refl, sym, ap, ◌∙◌, true≢false, eqb-true, subst, rules}
+use Rattle.std.proofs.Common.{arith, ◌≡◌, ◌≢◌, ℕ, zero, suc, List, filter_map, Bool, true, false, ◌==◌, ◌&&◌, ◌||◌, if◌then◌else◌, Option, Some, None, is_some, IfSome, refl, sym, ap, ◌∙◌, true≢false, subst, rules}
 use Rattle.std.proofs.Math.Path.{fun_ext}
 use Rattle.trace_stop.proofs.CommonNames.{nat_tests, AllByRecursion, list_any, IsUser, SIGKILL, SIGTRAP, bit, ProcData, Trace, LwpData, is_live, traces, reporting, Rows, each}
-use Rattle.trace_stop.proofs.CommonNames.{is_numbered, change_process, change_lwp, notified, post, tracers, stop, ends_process, resume, detach}
+use Rattle.trace_stop.proofs.CommonNames.{tracer_in, is_numbered, change_process, change_lwp, notified, post, tracers, stop, ends_process, resume, detach}
 use Rattle.pid_blocks.specs.Blocks.{pid_owner, tid_owner}
 use Rattle.trace_stop.specs.declared.Settings.{Settings}
 use Rattle.trace_stop.specs.declared.Shown.{Shown}
-use Rattle.trace_stop.specs.End.{tracer_in, tracer_of, meets, is_doomed, dooms, process_after, released, lwp_after, notifies_of, end_each, end_of, end}
-use Rattle.trace_stop.proofs.Every.{not_same, and_left, by_bool, choose, choose_both, none_passes, All-edit, All-filter}
+use Rattle.trace_stop.specs.End.{tracer_of, meets, is_doomed, dooms, process_after, released, lwp_after, notifies_of, end_each, end_of, end}
+use Rattle.trace_stop.proofs.Every.{not_same, by_bool, choose, choose_both, none_passes, All-edit, All-filter}
 use Rattle.row_isolation.specs.Closed.{Mine, GoodProc, GoodLwp}
 use Rattle.row_isolation.proofs.FilteredLists.{any_only, filter_map_only}
-use Rattle.row_isolation.proofs.IsolationRelation.{Sim, Kin, KinLwp, Keeps, own, is_own, not_own, either, named, process_same, at_number, each_same}
+use Rattle.row_isolation.proofs.IsolationRelation.{Sim, Kin, KinLwp, Keeps, own, is_own, either, process_same, at_number, each_same}
 use Rattle.row_isolation.proofs.IsolationOfEdits.{process_same_after, lwp_same_after, branch_rows}
-use Rattle.row_isolation.proofs.IsolationOfSignals.{Mines, owner_of_1, notified_same, posted_same, resumed_same, detached_same, is_numbered_foreign}
-use Rattle.std.proofs.Math.Bool.{and-false}
+use Rattle.row_isolation.proofs.IsolationOfSignals.{owner_of_1, notified_same, posted_same, resumed_same, detached_same, is_numbered_foreign}
 
 -- Chains of tracers
 

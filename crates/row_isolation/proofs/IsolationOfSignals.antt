@@ -40,15 +40,12 @@ notified_same s ns all = change_same s (λ p. list_any (λ n. n == p.pid) ns) (p
     (λ p good ne. not_among p.pid ns all (not_one p good) (λ e. ne (sym good.block ∙ e)))
     (λ p good is e. posted_stays SIGCHLD None p good) (λ p l good well. (refl, record { block = well.block; waits = well.waits }))
 
-notifies_mine : (u sig : ℕ) (o : Option ProcData) → IfSome o (λ p. GoodProc p × (p.uid ≡ u)) → Mines u (notifies sig o)
-notifies_mine u sig o g = grind (arith, g)
-
 pub own_some : {u : ℕ} {start c v : Rows} → Sim u start c v → (n : ℕ) → pid_owner n ≡ u → IfSome (process_of n c.processes) (λ p. GoodProc p × (p.uid ≡ u))
 own_some {u} {start} {c} s n here = at_number c.processes s.kept.closed.processes n (λ o. IfSome o (λ p. GoodProc p × (p.uid ≡ u))) tt (λ p is good at. (good, named here p good at))
 
 pub posted_same : {u : ℕ} {start c v : Rows} → Sim u start c v → (sig : ℕ) (to : Option ℕ) (n : ℕ) → pid_owner n ≡ u → Sim u start (posted sig to n c) (posted sig to n v)
 posted_same {u} {start} {c} {v} s sig to n here = subst (λ o. Sim u start (posted sig to n c) (notified (notifies sig o) (change (is_numbered n) (posted_process sig to) (posted_lwp sig to) v))) (process_same s n here)
-    (notified_same (change_same s (is_numbered n) (posted_process sig to) (posted_lwp sig to) (is_numbered_foreign n here) (λ p good is e. posted_stays sig to p good) (λ p l good well. (refl, record { block = well.block; waits = well.waits }))) (notifies sig (process_of n c.processes)) (notifies_mine u sig (process_of n c.processes) (own_some s n here)))
+    (notified_same (change_same s (is_numbered n) (posted_process sig to) (posted_lwp sig to) (is_numbered_foreign n here) (λ p good is e. posted_stays sig to p good) (λ p l good well. (refl, record { block = well.block; waits = well.waits }))) (notifies sig (process_of n c.processes)) (grind (arith, own_some s n here)))
 
 -- Running on
 

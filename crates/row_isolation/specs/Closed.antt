@@ -1,13 +1,7 @@
 -- Rows that keep users apart: each row names only numbers of one user.
-use Rattle.std.specs.Prelude.{◌≡◌, ◌≢◌, ℕ, false, true, List, Option, Some, None, IfSome, length, get_or}
-use Rattle.std.specs.List.{AllByRecursion}
-use Rattle.pid_blocks.specs.Users.{IsUser}
-use Rattle.pid_blocks.specs.Blocks.{pid_owner, tid_owner, pid_block, tid_block, slot, InBlock}
-use Rattle.proc_table.specs.declared.ProcData.{ProcData}
+use Rattle.trace_stop.specs.CommonNames.{◌≡◌, ◌≢◌, ℕ, false, true, List, Option, None, IfSome, length, get_or, AllByRecursion, IsUser, pid_owner, tid_owner, pid_block, tid_block, slot, InBlock}
+use Rattle.trace_stop.specs.CommonNames.{IsSomeAnd, ProcData, is_live, reporting, process_of, Rows, Rise}
 use Rattle.lwp_table.specs.declared.LwpData.{LwpData}
-use Rattle.proc_table.specs.Processes.{is_live, reporting, process_of}
-use Rattle.proc_table.specs.Rows.{Rows}
-use Rattle.proc_table.specs.Kept.{Rise}
 use Rattle.trace_stop.specs.Facts.{waited_for}
 
 -- the number 1, or a number of a process in the user's block
@@ -29,8 +23,7 @@ pub record GoodLwp (l : LwpData) : Type 0 where
   pub waits : IfSome (waited_for l.mode) (λ c. pid_owner c ≡ pid_owner l.pid)
 
 abbrev pub LiveRow : Option ProcData → Type 0
-LiveRow None = ⊥
-LiveRow (Some p) = is_live p ≡ true
+LiveRow found = IsSomeAnd found (λ p. is_live p ≡ true)
 
 -- the process of an LWP is live
 abbrev pub LiveOwner : List ProcData → LwpData → Type 0

@@ -1,8 +1,5 @@
 -- The end of a process, as one user's rows show it.
-use Rattle.std.specs.Prelude.{◌≡◌, ◌≢◌, ℕ, true}
-use Rattle.proc_table.specs.Rows.{Rows}
-use Rattle.proc_table.specs.Seen.{owns}
-use Rattle.proc_table.specs.Laws.{only_of}
+use Rattle.trace_stop.specs.CommonNames.{◌≡◌, ◌≢◌, ℕ, true, Rows, owns, only_of}
 use Rattle.trace_stop.specs.declared.Settings.{Settings}
 use Rattle.trace_stop.specs.End.{end}
 use Rattle.trace_stop.specs.Facts.{IsSound}

@@ -1,13 +1,7 @@
 -- Sets of signals as numbers, bit by bit.
-use Rattle.std.proofs.Common.{◌≡◌, ℕ, zero, suc, ◌+◌, ◌-◌, ◌^◌, ◌<◌, ◌≤◌, Bool, true, false, arith, refl, sym, ap, ◌∙◌, bit_and, bit_or, w32, rules}
-use Rattle.std.specs.Int.{bit_at, trailing_zeros}
-use Rattle.std.proofs.lemmas.Nat.{or_lt, xor_lt, pow_pos, and_le_l}
-use Rattle.std.proofs.lemmas.Nat.Bits.{bit_at_and, bit_at_or, bit_at_xor, bit_at_not, bit_at-lt, same_from_bits_below, and_pow, bit_at-trailing_zeros, bit_at_above}
-use Rattle.std.specs.Prelude.{Some, find, Result, Ok, Err, OkIff}
-use Rattle.std.specs.Result.{result_ok}
-use Rattle.std.proofs.lemmas.Bool.{cases_lt}
-use Rattle.std.specs.List.{range_with_len}
-use Rattle.signals.specs.Sets.{without, has, lowest}
+use Rattle.signals.proofs.CommonNames.{◌≡◌, ℕ, zero, suc, ◌+◌, ◌-◌, ◌^◌, ◌<◌, ◌≤◌, Bool, true, false, arith, refl, sym, ap, ◌∙◌, bit_and, bit_or, w32, rules, bit_at, trailing_zeros, or_lt, xor_lt}
+use Rattle.signals.proofs.CommonNames.{pow_pos, and_le_l, bit_at_and, bit_at_or, bit_at_xor, bit_at_not, bit_at-lt, same_from_bits_below, and_pow, bit_at-trailing_zeros, bit_at_above, Some, find}
+use Rattle.signals.proofs.CommonNames.{Result, Ok, Err, OkIff, result_ok, cases_lt, range_with_len, without, has, lowest}
 use Rattle.signals.proofs.Rising.{find-over, find-here}
 
 -- a difference, computed in two ways

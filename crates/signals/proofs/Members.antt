@@ -1,12 +1,7 @@
 -- The members of sets of signals.
-use Rattle.std.proofs.Common.{◌≡◌, ℕ, zero, suc, ◌+◌, ◌-◌, ◌%◌, max, ◌<◌, ◌≤◌, Bool, true, false, arith, inl, inr, bit_or, rules}
-use Rattle.std.specs.Prelude.{◌==◌, not, ◌&&◌, ◌||◌, find, IfSome, IfNone, Option, Some, None}
-use Rattle.std.specs.Int.{bit_at}
-use Rattle.std.specs.List.{range_with_len}
-use Rattle.std.proofs.lemmas.Bool.{cases_lt, cases_Bool}
-use Rattle.std.proofs.lemmas.Nat.Bits.{bit_at_or, bit_at_xor, bit_at-lt, bit_at-pow_same, bit_at-pow_other}
-use Rattle.signals.specs.Sets.{has, bit, without, lowest}
-use Rattle.signals.specs.Laws.{IsSignal, IsLowest, MembersAfter}
+use Rattle.signals.proofs.CommonNames.{◌≡◌, ℕ, zero, suc, ◌+◌, ◌-◌, ◌%◌, max, ◌<◌, ◌≤◌, Bool, true, false, arith, inl, inr, bit_or, rules, ◌==◌, not, ◌&&◌, ◌||◌, find, IfSome, IfNone, Option, Some}
+use Rattle.signals.proofs.CommonNames.{None, bit_at, range_with_len, cases_lt, cases_Bool, bit_at_or, bit_at_xor, bit_at-lt, bit_at-pow_same, bit_at-pow_other, has, bit, without, lowest, IsSignal}
+use Rattle.signals.proofs.CommonNames.{IsLowest, MembersAfter}
 use Rattle.signals.proofs.Bits.{has-one, has-zero}
 
 -- whether a signal is in the set, by its bit

@@ -1,11 +1,7 @@
 -- A set's signals, rising: the lowest one and then those of the set without it.
-use Rattle.std.proofs.lemmas.Bool.Decides.{nat_tests}
-use Rattle.std.proofs.Common.{◌≡◌, ℕ, zero, suc, ◌+◌, ◌<◌, ◌≤◌, Bool, true, false, [], ◌∷◌, arith, refl, inl, inr, rules}
-use Rattle.std.specs.Prelude.{◌==◌, not, ◌&&◌, filter, Some, None}
-use Rattle.std.specs.List.{range_with_len}
-use Rattle.std.proofs.lemmas.Bool.{cases_lt, cases_Bool, eq-eqb, ne_eqb}
-use Rattle.signals.specs.Sets.{has, bit, without, lowest, members}
-use Rattle.signals.specs.Laws.{IsLowest}
+use Rattle.signals.proofs.CommonNames.{nat_tests, ◌≡◌, ℕ, zero, suc, ◌+◌, ◌<◌, ◌≤◌, Bool, true, false, [], ◌∷◌, arith, refl, inl, inr, rules, ◌==◌, not, ◌&&◌, filter, Some, None, range_with_len}
+use Rattle.signals.proofs.CommonNames.{cases_lt, cases_Bool, eq-eqb, ne_eqb, has, bit, without, lowest, IsLowest}
+use Rattle.signals.specs.Sets.{members}
 use Rattle.signals.proofs.Members.{members_after, lowest-some, lowest-none}
 
 -- two tests that agree on all the numbers let the same ones pass

@@ -1,8 +1,5 @@
 -- A search over rising numbers, one number further.
-use Rattle.std.proofs.lemmas.Bool.Decides.{nat_tests}
-use Rattle.std.proofs.Common.{◌≡◌, ℕ, zero, suc, ◌+◌, ◌-◌, ◌<◌, Bool, true, false, arith, refl}
-use Rattle.std.specs.Prelude.{Some, find}
-use Rattle.std.specs.List.{range_with_len}
+use Rattle.signals.proofs.CommonNames.{nat_tests, ◌≡◌, ℕ, zero, suc, ◌+◌, ◌-◌, ◌<◌, Bool, true, false, arith, refl, Some, find, range_with_len}
 
 -- a number that doesn't pass is passed over
 pub find-over : (p : ℕ → Bool) (n left : ℕ) → 0 < left → p n ≡ false → find p (range_with_len n left) ≡ find p (range_with_len (n + 1) (left - 1))

@@ -1,11 +1,8 @@
 -- The text of a set of signals, one signal further.
-use Rattle.std.proofs.Common.{◌≡◌, ℕ, List, [], ◌∷◌, ◌++◌, map, sym, ap, ◌∙◌, append_assoc}
+use Rattle.signals.proofs.CommonNames.{◌≡◌, ℕ, List, [], ◌∷◌, ◌++◌, map, sym, ap, ◌∙◌, append_assoc, flat_map-append, Some, None, codes, decimal, join_with_byte, flat_map, signal_name, named, bit}
+use Rattle.signals.proofs.CommonNames.{without, lowest, set_text, joined}
 use Rattle.std.proofs.lemmas.List.{append-nil}
-use Rattle.std.proofs.lemmas.Grind.{flat_map-append}
-use Rattle.std.specs.Prelude.{Some, None, codes, decimal}
-use Rattle.std.specs.List.{join_with_byte, flat_map}
-use Rattle.signals.specs.Names.{signal_name, named}
-use Rattle.signals.specs.Sets.{bit, without, lowest, members, set_text, joined}
+use Rattle.signals.specs.Sets.{members}
 use Rattle.signals.proofs.Rest.{members-first, members-none}
 
 -- what follows the first number

@@ -1,19 +1,17 @@
 -- Chains of tracers end within as many links as a user has processes, less one.
 use Rattle.trace_stop.proofs.CommonNames.{cases_lt, nat_tests, AllByRecursion, list_any, ProcData, process_of, is_live, Rows, InOwnBlock, IsLiveOf, Linked, MidStepInvariant, ◌≡◌, ℕ, zero, suc, ◌+◌, ◌≤◌, List, [], ◌∷◌, length, filter, Bool}
-use Rattle.trace_stop.proofs.CommonNames.{true, false, not, ◌&&◌, ◌||◌, ◌==◌, Option, Some, IfSome, refl, sym, ◌∙◌, arith, true≢false, eqb-true, subst, rules, count_by, tracer_of, holds_of, every_found, process_of-pid}
+use Rattle.trace_stop.proofs.CommonNames.{true, false, not, ◌&&◌, ◌||◌, ◌==◌, Option, Some, IfSome, refl, sym, ◌∙◌, arith, true≢false, eqb-true, subst, rules, count_by, tracer_of, exists, every_found, process_of-pid}
 use Rattle.std.proofs.Common.{◌-◌}
 use Rattle.trace_stop.specs.End.{meets}
-use Rattle.trace_stop.specs.Laws.{onward, chain, ChainsEnd, ChainsMeet, TraceeDeeper}
+use Rattle.std.specs.Option.{option_map_or}
+use Rattle.trace_stop.specs.Laws.{chain, ChainsEnd, ChainsMeet, TraceeDeeper}
 use Rattle.trace_stop.proofs.CommonLemmas.{none_of, and_left, by_bool, find_passes, All-imply, All-both, any_holds, any_more, find_some, count-cons, own_rows, if_at}
 
 -- A chain link by link
 
-pub meets-suc : (k : ℕ) (ps : List ProcData) (p n : ℕ) → meets (suc k) ps p n ≡ holds_of (λ t. (t == p) || meets k ps p t) (tracer_of ps n)
+pub meets-suc : (k : ℕ) (ps : List ProcData) (p n : ℕ) → meets (suc k) ps p n ≡ exists (λ t. (t == p) || meets k ps p t) (tracer_of ps n)
 unfolding meets
 meets-suc k ps p n = refl
-
-pub or_more : (a b c : Bool) → (b ≡ true → c ≡ true) → (a || b) ≡ true → (a || c) ≡ true
-or_more a b c h is = grind (arith, h, is)
 
 pub meets-zero : (ps : List ProcData) (p n : ℕ) → meets zero ps p n ≡ false
 unfolding meets
@@ -66,15 +64,15 @@ no_more u (x ∷ xs) ps differ rows = omega (
 
 -- What a chain passes is what its links meet
 
-pub chain-suc : (k : ℕ) (ps : List ProcData) (n : ℕ) → chain (suc k) ps n ≡ n ∷ onward (chain k ps) (tracer_of ps n)
+pub chain-suc : (k : ℕ) (ps : List ProcData) (n : ℕ) → chain (suc k) ps n ≡ n ∷ option_map_or (chain k ps) (tracer_of ps n) []
 unfolding chain
 chain-suc k ps n = refl
 
 -- what holds of no chain, and of the chain from what the link leads to
-if_onward : (P : List ℕ → Type 0) (f : ℕ → List ℕ) (o : Option ℕ) → P [] → ((t : ℕ) → o ≡ Some t → P (f t)) → P (onward f o)
+if_onward : (P : List ℕ → Type 0) (f : ℕ → List ℕ) (o : Option ℕ) → P [] → ((t : ℕ) → o ≡ Some t → P (f t)) → P (option_map_or f o [])
 if_onward P f o none some = grind (arith, none, some)
 
-onward_meets : (k : ℕ) (ps : List ProcData) (x : ℕ) → ((t : ℕ) → is_in (chain k ps t) x ≡ ((t == x) || meets k ps x t)) → (o : Option ℕ) → is_in (onward (chain k ps) o) x ≡ holds_of (λ t. (t == x) || meets k ps x t) o
+onward_meets : (k : ℕ) (ps : List ProcData) (x : ℕ) → ((t : ℕ) → is_in (chain k ps t) x ≡ ((t == x) || meets k ps x t)) → (o : Option ℕ) → is_in (option_map_or (chain k ps) o []) x ≡ exists (λ t. (t == x) || meets k ps x t) o
 onward_meets k ps x h o = grind (arith, h)
 
 pub chain_meets : (k : ℕ) (ps : List ProcData) (x t : ℕ) → is_in (chain k ps t) x ≡ ((t == x) || meets k ps x t)
@@ -82,7 +80,7 @@ unfolding meets chain
 chain_meets zero ps x t = grind arith
 chain_meets (suc k) ps x t = grind (arith, chain_meets k ps x, onward_meets k ps x)
 
-pub meets-onward : (k : ℕ) (ps : List ProcData) (x n : ℕ) → meets (suc k) ps x n ≡ is_in (onward (chain k ps) (tracer_of ps n)) x
+pub meets-onward : (k : ℕ) (ps : List ProcData) (x n : ℕ) → meets (suc k) ps x n ≡ is_in (option_map_or (chain k ps) (tracer_of ps n) []) x
 meets-onward k ps x n = meets-suc k ps x n ∙ sym (onward_meets k ps x (chain_meets k ps x) (tracer_of ps n))
 
 pub meets-up : (j k : ℕ) (ps : List ProcData) (x n : ℕ) → meets k ps x n ≡ true → meets (j + k) ps x n ≡ true
@@ -105,7 +103,7 @@ module _ (rows : Rows) (s : MidStepInvariant rows) where
   unfolding chain
   chain_differs zero le n = (refl, tt)
   chain_differs (suc k) le n = (
-    by_bool (is_in (onward (chain k ps) (tracer_of ps n)) n) (λ is. true≢false (sym (meets_within (suc k) 250 le ps n n (meets-onward k ps n n ∙ is)) ∙ no_ring n)),
+    by_bool (is_in (option_map_or (chain k ps) (tracer_of ps n) []) n) (λ is. true≢false (sym (meets_within (suc k) 250 le ps n n (meets-onward k ps n n ∙ is)) ∙ no_ring n)),
     if_onward (AllDiffer) (chain k ps) (tracer_of ps n) tt (λ t is. chain_differs k (omega (arith, le)) t),
   )
 
@@ -128,9 +126,7 @@ module _ (rows : Rows) (s : MidStepInvariant rows) where
   chain_rows u (suc k) n is = (is, if_onward (AllByRecursion (OfUser u)) (chain k ps) (tracer_of ps n) tt (λ t to. chain_rows u k t (if_at _ _ t to (tracer_of_user u n is))))
 
   of_row : (n : ℕ) (r : ProcData) → process_of n ps ≡ Some r → length (chain 250 ps n) ≤ 250
-  of_row n r is =
-      let few = s.few_processes r.uid (every_found InOwnBlock (λ x. x.pid == n) ps r s.in_own_blocks is).user in
-      omega (arith, few, no_more r.uid (chain 250 ps n) ps (chain_differs 250 (omega arith) n) (chain_rows r.uid 250 n (of_user-found r.uid n r is refl)))
+  of_row n r is = omega (arith, s.few_processes r.uid (every_found InOwnBlock (λ x. x.pid == n) ps r s.in_own_blocks is).user, no_more r.uid (chain 250 ps n) ps (chain_differs 250 (omega arith) n) (chain_rows r.uid 250 n (of_user-found r.uid n r is refl)))
 
   short : (n : ℕ) → length (chain 250 ps n) ≤ 250
   short n = grind (arith, chain-suc 249 ps n, of_row n)
@@ -152,7 +148,7 @@ module _ (rows : Rows) (s : MidStepInvariant rows) where
   chain-later zero n = refl
   chain-later (suc j) n = grind (arith, chain-suc (j + 249) qs n, chain-suc 249 qs n, settled n, chain-later j)
 
-  found_again : (k n x : ℕ) → 249 ≤ k → is_in (onward (chain k qs) (tracer_of qs n)) x ≡ is_in (onward (chain 248 qs) (tracer_of qs n)) x
+  found_again : (k n x : ℕ) → 249 ≤ k → is_in (option_map_or (chain k qs) (tracer_of qs n) []) x ≡ is_in (option_map_or (chain 248 qs) (tracer_of qs n) []) x
   found_again k n x le = grind (arith, nat_tests, chain-later (k - 249), short rows s n, chain-suc 249 qs n, chain-ended 248 qs, le)
 
 pub chains_end : ChainsEnd

@@ -1,6 +1,6 @@
 -- The lemmas that the proofs after an edit share, from one place.
 pub use Rattle.trace_stop.proofs.Every.{All-any, All-append, All-both, All-edit, All-imply, and_left, and_right, any_forward, any_holds, any_more, both, by_bool, choose, count-cons, find_passes, find_some, none_of, not_same}
-pub use Rattle.trace_stop.proofs.Passes.{own_rows, passes}
+pub use Rattle.trace_stop.proofs.Passes.{own_rows}
 pub use Rattle.trace_stop.proofs.Edited.{If_more, count_kept, edit_none, if_at, if_from, lwps_left, some_is}
 pub use Rattle.trace_stop.proofs.Found.{any_by_number, own_row}
 pub use Rattle.trace_stop.proofs.Numbers.{own_lwps, the_row}

@@ -2,8 +2,9 @@
 use Rattle.trace_stop.proofs.CommonNames.{◌≤◌, nat_tests, AllByRecursion, list_any, list_all, ◌≡◌, ◌+◌, List, [], ◌∷◌, ◌++◌, filter, find, filter_map, Bool, true, false, cond, not, ◌&&◌, ◌||◌, Option, Some, None, IfSome, refl, sym}
 use Rattle.trace_stop.proofs.CommonNames.{arith, true≢false, if◌then◌else◌, is_some, count_by, every_found}
 use Rattle.std.proofs.lemmas.List.Elements.{All-from_recursion, recursion_from_All}
-use Rattle.std.proofs.lemmas.List.Sums.{AllPass-from_list_all, list_all-from_AllPass, sum_by-cons, sum_by-append}
+use Rattle.std.proofs.lemmas.List.Sums.{AllPass-from_list_all, list_all-from_AllPass, sum_by-append}
 use Rattle.proc_table.proofs.Every.{every_filter, found_tested}
+pub use Rattle.lwp_table.proofs.Numbered.{count-cons}
 pub use Rattle.proc_table.proofs.Every.{every_weaken as All-imply, every_both as All-both, every_append as All-append}
 pub use Rattle.std.proofs.lemmas.Bool.{eqb-false as not_same, cond_both, and_from as both, or_left, or_right, false_from_ne_true as by_bool, not-true as not_true}
 
@@ -85,9 +86,6 @@ any_more q t h (x ∷ xs) is = grind (arith, is, h x, any_more q t h xs)
 pub any_forward : {X : Type 0} (q t : X → Bool) (P : X → Type 0) (f : X → Option X) → ((x : X) → P x → q x ≡ true → (y : X) × (f x ≡ Some y) × (t y ≡ true)) → (xs : List X) → AllByRecursion P xs → list_any q xs ≡ true → list_any t (filter_map f xs) ≡ true
 any_forward q t P f h [] all is = is
 any_forward {X} q t P f h (x ∷ xs) all is = grind (arith, nat_tests, any_forward q t P f h xs all.1)
-
-pub count-cons : {X : Type 0} (q : X → Bool) (x : X) (xs : List X) → count_by q (x ∷ xs) ≡ cond (q x) 1 0 + count_by q xs
-count-cons q x xs = sum_by-cons (λ y. cond (q y) 1 0) x xs
 
 pub count-append : {X : Type 0} (q : X → Bool) (xs ys : List X) → count_by q (xs ++ ys) ≡ count_by q xs + count_by q ys
 count-append q xs ys = sum_by-append (λ y. cond (q y) 1 0) xs ys

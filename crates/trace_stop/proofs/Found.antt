@@ -1,13 +1,13 @@
 -- Rows that are found by their numbers.
 use Rattle.trace_stop.proofs.CommonNames.{nat_tests, list_any, ProcData, process_of, is_live, Rows, is_process, IsRow, Rise, is_live_at, is_live_of, ◌≡◌, ◌∙◌, ℕ, Bool, true, ◌==◌, List, [], ◌∷◌, ap, refl, Some, IsSome, is_some, arith, ◌&&◌}
-use Rattle.trace_stop.proofs.CommonNames.{process_of-pid, lwp_of-tid, none_above}
+use Rattle.trace_stop.proofs.CommonNames.{exists, process_of-pid, lwp_of-tid, none_above}
 use Rattle.proc_table.proofs.Rows.{row_found}
 use Rattle.proc_table.proofs.Stays.{lwp_there}
 use Rattle.trace_stop.proofs.Every.{and_left, any_more, find_passes, any_holds}
-use Rattle.trace_stop.proofs.Passes.{passes, own_rows}
+use Rattle.trace_stop.proofs.Passes.{own_rows}
 
 -- a test of the row with a number
-pub any_by_number : (t : ProcData → Bool) (n : ℕ) (ps : List ProcData) → Rise ps → list_any (λ r. (r.pid == n) && t r) ps ≡ passes t (process_of n ps)
+pub any_by_number : (t : ProcData → Bool) (n : ℕ) (ps : List ProcData) → Rise ps → list_any (λ r. (r.pid == n) && t r) ps ≡ exists t (process_of n ps)
 any_by_number t n [] rise = refl
 any_by_number t n (p ∷ ps) rise = grind (arith, nat_tests, none_above p.pid n, any_by_number t n ps rise.1, rise.0)
 

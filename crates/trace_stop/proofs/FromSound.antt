@@ -1,13 +1,12 @@
 -- The test of soundness, and soundness as facts: each gives the other.
-use Rattle.trace_stop.proofs.CommonNames.{nat_tests, AllByRecursion, list_any, list_all, le-leb, leb-true, IsUser, pid_block, tid_block, in_block, InBlock, slot, users, rising, LwpData, Mode, Differ, LacksLwp, ProcData, is_live, is_run}
-use Rattle.trace_stop.proofs.CommonNames.{is_job, reporting, Rows, process_count, lwp_count_of, lwp_count, Rise, AllAbove, InOwnBlock, InOwnersBlock, unwanted, rises, differ, implies, holds, exists, of_owner, is_live_of}
-use Rattle.trace_stop.proofs.CommonNames.{sound_numbers, sound_limits, names_own, is_state, waits_for, sound_lwp, sound_rows, IsLiveChild, Linked, State, IfEnded, FitProcess, waited_for, Standing, FitLwp, IsSound, ◌≡◌, ℕ, zero, suc, ◌+◌}
-use Rattle.trace_stop.proofs.CommonNames.{◌<◌, ◌≤◌, List, [], ◌∷◌, length, map, Bool, true, ◌==◌, ◌&&◌, ◌||◌, not, Option, None, is_some, is_none, IfSome, refl, arith, eqb-true, eq-eqb, rules}
+use Rattle.trace_stop.proofs.CommonNames.{nat_tests, AllByRecursion, list_any, list_all, le-leb, leb-true, IsUser, pid_block, tid_block, in_block, InBlock, slot, users, rising, LwpData, Mode, Differ, ProcData, is_live}
+use Rattle.trace_stop.proofs.CommonNames.{reporting, Rows, process_count, lwp_count_of, lwp_count, Rise, InOwnBlock, InOwnersBlock, pairwise, implies, holds, of_owner}
+use Rattle.trace_stop.proofs.CommonNames.{sound_numbers, sound_limits, sound_link, sound_state, names_own, is_state, is_live_child, sound_lwp, sound_rows, IsLiveChild, Linked, State, IfEnded, FitProcess, waited_for, Standing, FitLwp, IsSound, ◌≡◌, ℕ, zero, suc, ◌+◌}
+use Rattle.trace_stop.proofs.CommonNames.{◌<◌, ◌≤◌, List, [], ◌∷◌, length, map, Bool, true, ◌==◌, ◌&&◌, not, Option, None, is_none, IfSome, refl, arith, eqb-true, eq-eqb, rules}
 use Rattle.std.proofs.Common.{zip, leb, ltb, get_or}
 use Rattle.std.specs.Bool.{Decides}
-use Rattle.std.specs.Int.RustNames.{bit_and}
 use Rattle.pid_blocks.specs.declared.Block.{Block}
-use Rattle.trace_stop.specs.End.{meets}
+use Rattle.proc_table.proofs.Changes.{map-id}
 use Rattle.trace_stop.proofs.Every.{implies_at, implies_from, not_true, All-from_list_all, list_all-from_All}
 use Rattle.trace_stop.proofs.CommonLemmas.{and_left, and_right, both, All-imply, All-both}
 
@@ -49,55 +48,33 @@ zip_users q xs d h = zip_from q 64 1001 xs d (λ k lt. let place : slot (1001 + 
 block_tells : (b : Block) (n : ℕ) → Decides (in_block b n) (InBlock b n)
 block_tells b n = grind (arith, nat_tests)
 
-above_tells : (n : ℕ) (ps : List ProcData) → Decides (list_all (λ m. ltb n m) (map (λ p. p.pid) ps)) (AllAbove n ps)
-above_tells n [] = (λ is. tt, λ h. refl)
-above_tells n (p ∷ ps) = grind (arith, nat_tests, above_tells n ps)
-
-rises_tells : (ps : List ProcData) → Decides (rises (map (λ p. p.pid) ps)) (Rise ps)
-rises_tells [] = (λ is. tt, λ h. refl)
-rises_tells (p ∷ ps) = grind (arith, above_tells p.pid ps, rises_tells ps)
-
-lacks_tells : (n : ℕ) (ls : List LwpData) → Decides (not (list_any (λ m. m == n) (map (λ l. l.tid) ls))) (LacksLwp n ls)
-lacks_tells n [] = (λ is. tt, λ h. refl)
-lacks_tells n (l ∷ ls) = grind (arith, nat_tests, lacks_tells n ls)
-
-differ_tells : (ls : List LwpData) → Decides (differ (map (λ l. l.tid) ls)) (Differ ls)
-differ_tells [] = (λ is. tt, λ h. refl)
-differ_tells (l ∷ ls) = grind (arith, lacks_tells l.tid ls, differ_tells ls)
+mapped_tells : {X Y : Type 0} (f : X → Y) (q : Y → Bool) (P : X → Type 0) → ((x : X) → Decides (q (f x)) (P x)) → (xs : List X) → Decides (list_all q (map f xs)) (AllByRecursion P xs)
+mapped_tells f q P h [] = (λ is. tt, λ h. refl)
+mapped_tells f q P h (x ∷ xs) = grind (arith, h x, mapped_tells f q P h xs)
 
 every_tells : {X : Type 0} (q : X → Bool) (P : X → Type 0) → ((x : X) → Decides (q x) (P x)) → (xs : List X) → Decides (list_all q xs) (AllByRecursion P xs)
-every_tells q P h [] = (λ is. tt, λ h. refl)
-every_tells q P h (x ∷ xs) = grind (arith, h x, every_tells q P h xs)
+every_tells q P h xs = rw map-id at (mapped_tells (λ x. x) q P h xs)
+
+rises_tells : (ps : List ProcData) → Decides (pairwise ltb (map (λ p. p.pid) ps)) (Rise ps)
+rises_tells [] = (λ is. tt, λ h. refl)
+rises_tells (p ∷ ps) = grind (arith, mapped_tells (λ (q : ProcData). q.pid) (ltb p.pid) (λ q. p.pid < q.pid) (λ q. grind (arith, nat_tests)) ps, rises_tells ps)
+
+differ_tells : (ls : List LwpData) → Decides (pairwise (λ m n. not (n == m)) (map (λ l. l.tid) ls)) (Differ ls)
+differ_tells [] = (λ is. tt, λ h. refl)
+differ_tells (l ∷ ls) = grind (arith, mapped_tells (λ (k : LwpData). k.tid) (λ n. not (n == l.tid)) (λ k. k.tid ≡ l.tid → ⊥) (λ k. grind (arith, nat_tests)) ls, differ_tells ls)
 
 -- a process on its own, an LWP's process, and what rows say of them
 
-pub none_is : {X : Type 0} (o : Option X) → is_none o ≡ true → o ≡ None
-none_is o is = grind (arith, is)
-
 home_tells : (p : ProcData) → Decides (list_any (λ u. u == p.uid) users && in_block (pid_block p.uid) p.pid) (InOwnBlock p)
-home_tells p =
-    let user = user_tells p.uid in
-    let block = block_tells (pid_block p.uid) p.pid in
-    (λ is. record { user = user.0 (and_left _ _ is); block = block.0 (and_right _ _ is) }, λ h. both _ _ (user.1 h.user) (block.1 h.block))
-
-abbrev links_test : Rows → ProcData → Bool
-links_test rows p = not (p.parent == p.pid) && holds (is_live_of rows p.uid) p.tracer && ((p.parent == 1) || is_live_of rows p.uid p.parent) && not (meets 250 rows.processes p.pid p.pid)
+home_tells p = (λ is. record { user = (user_tells p.uid).0 (and_left _ _ is); block = (block_tells (pid_block p.uid) p.pid).0 (and_right _ _ is) }, λ h. both _ _ ((user_tells p.uid).1 h.user) ((block_tells (pid_block p.uid) p.pid).1 h.block))
 
 abbrev people_test : Rows → ProcData → Bool
 people_test rows p = implies (is_live p) (leb 1 (lwp_count p.pid rows))
 
-abbrev pub state_test : Rows → ProcData → Bool
-state_test rows p =
-    implies (is_some (reporting p)) (is_some p.tracer && exists (names_own rows p) (reporting p))
-    && implies (is_job p) (is_none p.tracer)
-    && implies p.continued (is_none p.tracer && is_run p)
-    && implies (is_none p.tracer) ((p.mask.0 == 0) && (bit_and p.pending (unwanted p) == 0))
-    && is_state p p.state
-
-names_tell : (rows : Rows) (p : ProcData) → state_test rows p ≡ true → IfSome (reporting p) (λ tid. names_own rows p tid ≡ true)
+names_tell : (rows : Rows) (p : ProcData) → sound_state rows p ≡ true → IfSome (reporting p) (λ tid. names_own rows p tid ≡ true)
 names_tell rows p is = grind (arith, nat_tests)
 
-links_tell : (rows : Rows) (p : ProcData) → IfSome (reporting p) (λ tid. names_own rows p tid ≡ true) → Decides (links_test rows p && people_test rows p) (Linked rows p)
+links_tell : (rows : Rows) (p : ProcData) → IfSome (reporting p) (λ tid. names_own rows p tid ≡ true) → Decides (sound_link rows p && people_test rows p) (Linked rows p)
 links_tell rows p named = grind (arith, nat_tests, named)
 
 none_tells : {X : Type 0} (o : Option X) → Decides (is_none o) (o ≡ None)
@@ -106,13 +83,13 @@ none_tells o = grind arith
 ended_tells : (p : ProcData) (s : State) → Decides (is_state p s) (IfEnded p s)
 ended_tells p s = grind (arith, nat_tests)
 
-fit_from : (rows : Rows) (p : ProcData) → state_test rows p ≡ true → FitProcess p
+fit_from : (rows : Rows) (p : ProcData) → sound_state rows p ≡ true → FitProcess p
 fit_from rows p is = search (rules, and_left, and_right, implies_at, none_tells, eqb-true, ended_tells)
 
-fit_test : (rows : Rows) (p : ProcData) → IfSome (reporting p) (λ tid. names_own rows p tid ≡ true) → FitProcess p → state_test rows p ≡ true
+fit_test : (rows : Rows) (p : ProcData) → IfSome (reporting p) (λ tid. names_own rows p tid ≡ true) → FitProcess p → sound_state rows p ≡ true
 fit_test rows p named f = grind (arith, nat_tests)
 
-waits_tell : (rows : Rows) (p : ProcData) (m : Mode) → Decides (waits_for rows p m) (IfSome (waited_for m) (IsLiveChild rows p))
+waits_tell : (rows : Rows) (p : ProcData) (m : Mode) → Decides (holds (is_live_child rows p) (waited_for m)) (IfSome (waited_for m) (IsLiveChild rows p))
 waits_tell rows p m = grind (arith, nat_tests)
 
 standing_from : (rows : Rows) (p : ProcData) (l : LwpData) → is_live p ≡ true → sound_lwp rows p l ≡ true → Standing rows p l
@@ -140,8 +117,8 @@ module _ (rows : Rows) where
       let limits : sound_limits rows ≡ true = search (and_left, and_right, is) in
       let pid_slots : length rows.pid_cursors ≡ 64 = eqb-true _ 64 (search (and_left, and_right, numbers) depth 9) in
       let tid_slots : length rows.tid_cursors ≡ 64 = eqb-true _ 64 (search (and_left, and_right, numbers) depth 9) in
-      let tests : AllByRecursion (λ p. state_test rows p ≡ true) ps = All-from_list_all _ ps (search (and_left, and_right, is)) in
-      let links : AllByRecursion (λ p. links_test rows p ≡ true) ps = All-from_list_all _ ps (search (and_left, and_right, is)) in
+      let tests : AllByRecursion (λ p. sound_state rows p ≡ true) ps = All-from_list_all _ ps (search (and_left, and_right, is)) in
+      let links : AllByRecursion (λ p. sound_link rows p ≡ true) ps = All-from_list_all _ ps (search (and_left, and_right, is)) in
       let people : AllByRecursion (λ p. people_test rows p ≡ true) ps = All-from_list_all _ ps (search (and_left, and_right, is)) in
       let live : AllByRecursion (λ l. of_owner rows (λ p k. is_live p) l ≡ true) rows.lwps = All-from_list_all _ rows.lwps (search (and_left, and_right, is)) in
       let fits : AllByRecursion (λ l. of_owner rows (sound_lwp rows) l ≡ true) rows.lwps = All-from_list_all _ rows.lwps (search (and_left, and_right, is)) in
@@ -177,9 +154,9 @@ module _ (rows : Rows) where
       let pid_cursors = zip_users (λ c. in_block (pid_block c.0) c.1) rows.pid_cursors 0 (λ u user. (block_tells (pid_block u) _).1 (stands.pid_cursors u user)) in
       let tid_cursors = zip_users (λ c. in_block (tid_block c.0) c.1) rows.tid_cursors 0 (λ u user. (block_tells (tid_block u) _).1 (stands.tid_cursors u user)) in
       let limits = limits_tell.1 (λ u user. (stands.few_processes u user, stands.few_lwps u user)) in
-      let links = list_all-from_All (links_test rows) ps (All-imply _ _ (λ p l. and_left _ _ ((links_tell rows p l.named).1 l)) ps stands.linked) in
-      let people = list_all-from_All (people_test rows) ps (All-imply _ _ (λ p l. and_right (links_test rows p) _ ((links_tell rows p l.named).1 l)) ps stands.linked) in
-      let states = list_all-from_All (state_test rows) ps (All-imply _ _ (λ p h. fit_test rows p h.0.named h.1) ps (All-both _ _ ps stands.linked s.processes)) in
+      let links = list_all-from_All (sound_link rows) ps (All-imply _ _ (λ p l. and_left _ _ ((links_tell rows p l.named).1 l)) ps stands.linked) in
+      let people = list_all-from_All (people_test rows) ps (All-imply _ _ (λ p l. and_right (sound_link rows p) _ ((links_tell rows p l.named).1 l)) ps stands.linked) in
+      let states = list_all-from_All (sound_state rows) ps (All-imply _ _ (λ p h. fit_test rows p h.0.named h.1) ps (All-both _ _ ps stands.linked s.processes)) in
       let homed = All-both _ _ rows.lwps stands.in_owners_block (All-both _ _ rows.lwps stands.standing s.lwps) in
       let live = list_all-from_All (of_owner rows (λ p l. is_live p)) rows.lwps (All-imply _ _ (λ l h. rw h.0.1 (h.1.0 h.0.0 h.0.1).live) rows.lwps homed) in
       let fits = list_all-from_All (of_owner rows (sound_lwp rows)) rows.lwps (All-imply _ _ (λ l h. rw h.0.1 (lwp_test rows h.0.0 l (h.1.0 h.0.0 h.0.1) (h.1.1 h.0.0 h.0.1))) rows.lwps homed) in

@@ -1,6 +1,6 @@
 -- Lists edited twice, and what is found after an edit.
-use Rattle.trace_stop.proofs.CommonNames.{◌≡◌, ℕ, ◌<◌, List, [], ◌∷◌, filter_map, find, Bool, true, false, ◌||◌, ◌==◌, Option, Some, None, IfSome, refl, arith, rules, count_by, option_and_then, AllByRecursion, list_any, nat_tests, ProcData}
-use Rattle.trace_stop.proofs.CommonNames.{LwpData, process_of, is_live, Rows, by_owner, each, AllAbove, Rise, every_found, none_above, once, Once}
+use Rattle.trace_stop.proofs.CommonNames.{◌≡◌, ℕ, ◌<◌, List, [], ◌∷◌, filter_map, find, Bool, true, ◌==◌, Option, Some, IfSome, refl, arith, rules, count_by, option_and_then, AllByRecursion, list_any, nat_tests, ProcData}
+use Rattle.trace_stop.proofs.CommonNames.{LwpData, process_of, is_live, Rows, by_owner, each, AllAbove, Rise, every_found, none_above, once, Once, exists}
 use Rattle.trace_stop.proofs.Every.{All-edit, All-imply, All-any, All-both, count-cons}
 
 pub filter_map_same : {X Y : Type 0} (f g : X → Option Y) (xs : List X) → AllByRecursion (λ x. f x ≡ g x) xs → filter_map f xs ≡ filter_map g xs
@@ -15,22 +15,13 @@ pub any_same : {X : Type 0} (q t : X → Bool) (xs : List X) → AllByRecursion 
 any_same q t [] all = refl
 any_same q t (x ∷ xs) all = rw (all.0, any_same q t xs all.1) refl
 
-pub any_or : {X : Type 0} (f g h : X → Bool) (xs : List X) → AllByRecursion (λ x. f x ≡ (g x || h x)) xs → list_any f xs ≡ (list_any g xs || list_any h xs)
-any_or f g h [] same = refl
-any_or f g h (x ∷ xs) same = grind (arith, nat_tests, same.0, any_or f g h xs same.1)
-
--- whether the test holds of what there is
-abbrev pub passes : {X : Type 0} → (X → Bool) → Option X → Bool
-passes q None = false
-passes q (Some x) = q x
-
-pub any_edited : {X Y : Type 0} (f : X → Option Y) (q : Y → Bool) (xs : List X) → list_any q (filter_map f xs) ≡ list_any (λ x. passes q (f x)) xs
+pub any_edited : {X Y : Type 0} (f : X → Option Y) (q : Y → Bool) (xs : List X) → list_any q (filter_map f xs) ≡ list_any (λ x. exists q (f x)) xs
 any_edited f q [] = refl
 any_edited f q (x ∷ xs) = grind (arith, any_edited f q xs)
 
-pub count_edited : {X Y : Type 0} (f : X → Option Y) (q : Y → Bool) (xs : List X) → count_by q (filter_map f xs) ≡ count_by (λ x. passes q (f x)) xs
+pub count_edited : {X Y : Type 0} (f : X → Option Y) (q : Y → Bool) (xs : List X) → count_by q (filter_map f xs) ≡ count_by (λ x. exists q (f x)) xs
 count_edited f q [] = refl
-count_edited {X} {Y} f q (x ∷ xs) = grind (arith, count-cons {X = Y} q, count-cons (λ y. passes q (f y)) x xs, count_edited f q xs)
+count_edited {X} {Y} f q (x ∷ xs) = grind (arith, count-cons {A = Y} q, count-cons (λ y. exists q (f y)) x xs, count_edited f q xs)
 
 -- Rows by their numbers
 

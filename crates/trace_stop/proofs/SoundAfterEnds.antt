@@ -1,5 +1,5 @@
 -- Ends keep rows sound, if each live process whose tracer ends also ends.
-use Rattle.trace_stop.proofs.CommonNames.{nat_tests, AllByRecursion, SIGKILL, LwpData, ProcData, is_live, Rows, each, unless, process_after, released, lwp_after, collector, notifies_of, end_each, is_end, IsLiveOf, IsLiveChild, Linked}
+use Rattle.trace_stop.proofs.CommonNames.{nat_tests, AllByRecursion, SIGKILL, LwpData, ProcData, is_live, Rows, each, keep, not, process_after, released, lwp_after, collector, notifies_of, end_each, is_end, IsLiveOf, IsLiveChild, Linked}
 use Rattle.trace_stop.proofs.CommonNames.{FitProcess, waited_for, FitLwp, IsSound, MayTell, ◌≡◌, ℕ, Bool, true, false, ◌==◌, if◌then◌else◌, filter_map, option_map, Option, None, IfSome, refl, sym, ◌∙◌, arith}
 use Rattle.trace_stop.proofs.SoundAfterEdit.{LivesOn, IfKept, KeptLwp, linked_at}
 use Rattle.trace_stop.proofs.Settling.{zero_apart}
@@ -49,7 +49,7 @@ module _ (rows : Rows) (ends : ProcData → Bool) (over : ℕ → Bool) (p statu
   stays : (q : ProcData) → Row rows (Fact rows ends over) q → ends q ≡ false → Stay rows after q
   stays q row e = stay rows to to_lwp same q row.at (λ l. (released over q l, rw e refl))
 
-  tracer_left : (u : ℕ) (o : Option ℕ) → IfSome o (IsLiveOf rows u) → IfSome (unless over o) (LivesOn rows over u)
+  tracer_left : (u : ℕ) (o : Option ℕ) → IfSome o (IsLiveOf rows u) → IfSome (keep (λ t. not (over t)) o) (LivesOn rows over u)
   tracer_left u o live = grind (arith, live)
 
   last_word : (q : ProcData) → is_end (if q.pid == p then status else SIGKILL) ≡ true

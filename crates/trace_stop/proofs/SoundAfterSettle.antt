@@ -20,10 +20,6 @@ pending_fits p n fit live apart = grind (arith, nat_tests)
 pub lwp_pending_fits : (p q : ProcData) (l : LwpData) (n : ℕ) → FitLwp p l → q.tracer ≡ p.tracer → (reporting q ≡ reporting p) ⊎ (reporting q ≡ None) → (reporting q ≡ None → reporting p ≡ None) → (q.tracer ≡ None → bit_and n (unwanted q) ≡ 0) → FitLwp q (record l { pending = n })
 lwp_pending_fits p q l n fit same by none apart = grind (arith, nat_tests)
 
--- an LWP of a row that is traced and reports as before, and wants the same signals
-pub beside_fits : (p q : ProcData) (l : LwpData) → q.tracer ≡ p.tracer → reporting q ≡ reporting p → unwanted q ≡ unwanted p → FitLwp p l → FitLwp q l
-beside_fits p q l tracer report wants fit = grind (arith, nat_tests)
-
 -- A process that a signal is posted to
 
 pub posted_report : (s : ℕ) (to : Option ℕ) (p : ProcData) → reporting (posted_process s to p) ≡ reporting p

@@ -1,16 +1,6 @@
 -- What rows must satisfy before a change that makes them sound.
-use Rattle.std.specs.Prelude.{◌≡◌, ◌≢◌, ◌≤◌, ℕ, true, false, None, is_some}
-use Rattle.std.specs.List.{AllByRecursion}
-use Rattle.std.specs.Option.{IsSomeAnd}
-use Rattle.event_masks.specs.Exits.{shows}
-use Rattle.event_masks.specs.declared.TheConstants.StopFlags.{PL_FLAG_EXITED}
-use Rattle.lwp_table.specs.declared.LwpData.{LwpData}
-use Rattle.lwp_table.specs.Lwps.{lwp_of}
-use Rattle.proc_table.specs.declared.ProcData.{ProcData}
-use Rattle.proc_table.specs.Processes.{is_live, reporting}
-use Rattle.proc_table.specs.Rows.{Rows}
-use Rattle.proc_table.specs.Fresh.{lwp_count}
-use Rattle.trace_stop.specs.declared.Shown.{Shown}
+use Rattle.trace_stop.specs.CommonNames.{◌≡◌, ◌≢◌, ◌≤◌, ℕ, true, false, None, is_some, AllByRecursion, IsSomeAnd, shows, PL_FLAG_EXITED, LwpData, lwp_of, ProcData, is_live, reporting, Rows, lwp_count}
+use Rattle.trace_stop.specs.CommonNames.{Shown}
 use Rattle.trace_stop.specs.Facts.{FitProcess, FitLwp, WithOwner, MidStepInvariant}
 use Rattle.trace_stop.specs.Sound.{is_live_at}
 

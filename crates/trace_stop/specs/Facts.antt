@@ -1,25 +1,9 @@
 -- What the rows of a host always satisfy, as a fact of each row.
-use Rattle.std.specs.Prelude.{◌≡◌, ◌≢◌, ◌≤◌, ℕ, true, false, Option, Some, None, IfSome, is_some, length, get_or}
-use Rattle.std.specs.Int.RustNames.{bit_and}
-use Rattle.std.specs.List.{AllByRecursion}
-use Rattle.pid_blocks.specs.Users.{IsUser}
-use Rattle.pid_blocks.specs.Blocks.{slot, pid_block, tid_block, InBlock}
-use Rattle.signals.specs.Table.{unblockable_set}
-use Rattle.event_masks.specs.Exits.{shows}
-use Rattle.event_masks.specs.declared.TheConstants.StopFlags.{PL_FLAG_EXITED}
-use Rattle.lwp_table.specs.declared.LwpData.{LwpData}
-use Rattle.lwp_table.specs.declared.Mode.{Mode}
-use Rattle.lwp_table.specs.declared.Mode.TheVariants.{User, InCall, VforkWait}
-use Rattle.lwp_table.specs.Lwps.{Differ}
-use Rattle.proc_table.specs.declared.ProcData.{ProcData}
-use Rattle.proc_table.specs.declared.State.{State}
-use Rattle.proc_table.specs.declared.State.TheVariants.{Run, Trace, Job, Zombie}
-use Rattle.proc_table.specs.Processes.{is_live, is_run, is_job, reporting, is_this, process_of}
-use Rattle.proc_table.specs.Rows.{Rows}
-use Rattle.proc_table.specs.Fresh.{process_count, lwp_count_of, lwp_count}
-use Rattle.proc_table.specs.Kept.{Rise, InOwnBlock, InOwnersBlock}
+use Rattle.trace_stop.specs.CommonNames.{◌≡◌, ◌≢◌, ◌≤◌, ℕ, true, false, Some, None, IfSome, is_some, length, get_or, bit_and, AllByRecursion, IsUser, slot, pid_block, tid_block, InBlock}
+use Rattle.trace_stop.specs.CommonNames.{unblockable_set, shows, PL_FLAG_EXITED, LwpData, Differ, ProcData, State, Zombie, is_live, is_run, is_job, reporting, is_this, process_of, Rows, process_count}
+use Rattle.trace_stop.specs.CommonNames.{lwp_count_of, lwp_count, Rise, InOwnBlock, InOwnersBlock}
 use Rattle.trace_stop.specs.Post.{unwanted}
-use Rattle.trace_stop.specs.End.{meets}
+pub use Rattle.trace_stop.specs.End.{meets, waited_for}
 use Rattle.trace_stop.specs.Sound.{is_live_of, is_live_child, is_end, names_own, is_due, mode_fits}
 
 -- a live process of the user has the number
@@ -48,10 +32,8 @@ pub record Ended (p : ProcData) (w : ℕ) : Type 0 where
   pub collector : p.tracer ≡ None → p.parent ≢ 1
 
 abbrev pub IfEnded : ProcData → State → Type 0
-IfEnded p Run = Unit {0}
-IfEnded p (Trace tid sig told) = Unit {0}
-IfEnded p (Job sig told) = Unit {0}
 IfEnded p (Zombie w) = Ended p w
+IfEnded p other = Unit {0}
 
 -- an untraced process has nothing that only a tracer gives, and no pending signal whose action is nothing
 pub record Untraced (p : ProcData) : Type 0 where
@@ -65,12 +47,6 @@ pub record FitProcess (p : ProcData) : Type 0 where
   pub continued : p.continued ≡ true → (p.tracer ≡ None) × (is_run p ≡ true)
   pub untraced : p.tracer ≡ None → Untraced p
   pub ended : IfEnded p p.state
-
--- the process that an LWP waits for
-abbrev pub waited_for : Mode → Option ℕ
-waited_for User = None
-waited_for (InCall call) = None
-waited_for (VforkWait c) = Some c
 
 -- an LWP of a live process p; an LWP that has exited isn't the last one, and one that waits for a process waits for a
 -- live child of p

@@ -1,21 +1,13 @@
 -- Chains of tracers, and rows after processes were detached.
-use Rattle.std.specs.Prelude.{◌≡◌, ◌≤◌, ℕ, zero, suc, Bool, true, List, [], ◌∷◌, Option, Some, None, length}
-use Rattle.proc_table.specs.declared.ProcData.{ProcData}
-use Rattle.proc_table.specs.Processes.{process_of, is_live}
-use Rattle.proc_table.specs.Rows.{Rows}
+use Rattle.trace_stop.specs.CommonNames.{◌≡◌, ◌≤◌, ℕ, zero, suc, Bool, true, List, [], ◌∷◌, Some, length, option_map_or, ProcData, process_of, is_live, Rows}
 use Rattle.trace_stop.specs.Detach.{detached}
 use Rattle.trace_stop.specs.End.{tracer_of, meets}
 use Rattle.trace_stop.specs.Facts.{MidStepInvariant, IsSound}
 
--- what a link leads to
-abbrev pub onward : (ℕ → List ℕ) → Option ℕ → List ℕ
-onward chain None = []
-onward chain (Some t) = chain t
-
 -- the numbers of a process, its tracer, that process's tracer and so on, over at most this many links
 unfoldable pub chain : ℕ → List ProcData → ℕ → List ℕ
 chain zero processes n = n ∷ []
-chain (suc links) processes n = n ∷ onward (chain links processes) (tracer_of processes n)
+chain (suc links) processes n = n ∷ option_map_or (chain links processes) (tracer_of processes n) []
 
 -- a chain of tracers has at most 249 links
 abbrev pub ChainsEnd : Type 0

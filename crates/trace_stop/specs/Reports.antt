@@ -1,13 +1,6 @@
 -- What the LWP of a trace stop reports, and how it is dropped.
-use Rattle.std.specs.Prelude.{◌≡◌, ℕ, List, Option, Some, None, if◌then◌else◌}
-use Rattle.event_masks.specs.Exits.{no_flags, shows}
-use Rattle.event_masks.specs.declared.TheConstants.StopFlags.{PL_FLAG_EXITED}
-use Rattle.lwp_table.specs.declared.LwpData.{LwpData}
-use Rattle.lwp_table.specs.Lwps.{lwp_of}
-use Rattle.proc_table.specs.declared.ProcData.{ProcData}
-use Rattle.proc_table.specs.Processes.{process_of, reporting}
-use Rattle.proc_table.specs.Rows.{Rows}
-use Rattle.proc_table.specs.Kept.{set_lwp, drop_lwp}
+use Rattle.trace_stop.specs.CommonNames.{◌≡◌, ℕ, List, Option, Some, None, option_and_then, if◌then◌else◌, no_flags, shows, PL_FLAG_EXITED, LwpData, lwp_of, ProcData, process_of, reporting, Rows}
+use Rattle.trace_stop.specs.CommonNames.{set_lwp, drop_lwp}
 
 -- an LWP of the process has stopped it for its tracer
 pub record IsStopped (pid : ℕ) (rows : Rows) : Type 0 where
@@ -21,8 +14,7 @@ pub record IsStopped (pid : ℕ) (rows : Rows) : Type 0 where
 
 -- the LWP with the number, if there is a number
 abbrev pub reporter : Option ℕ → List LwpData → Option LwpData
-reporter None lwps = None
-reporter (Some tid) lwps = lwp_of tid lwps
+reporter number lwps = option_and_then (λ tid. lwp_of tid lwps) number
 
 abbrev pub unreported : LwpData → LwpData
 unreported l = record l { flags = no_flags; child = 0; code = 0 }

@@ -2,7 +2,8 @@
 
 ghost use Rattle.std.specs.Prelude.{◌≡◌};
 ghost use Rattle.proc_table.specs.Edits.{map_lwps};
-ghost use Rattle.trace_stop.specs.Edits.{edited, pending_taken, signal_put};
+ghost use Rattle.trace_stop.specs.Edits.{edited, pending_taken};
+ghost use Rattle.trace_stop.specs.Post.{signal_put};
 
 use lwp_table::{Due, LwpData};
 use pid_blocks::{Pid, Tid};

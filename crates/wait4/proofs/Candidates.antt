@@ -1,19 +1,10 @@
 -- The child that is reported, and whether there is a child, by the lists of tracees and of children, and by number.
-use Rattle.std.proofs.Common.{None, if◌then◌else◌, true, SFits, to_z, of_z, w64, false, Option, ◌≡◌, ℕ, ℤ, pos, negsuc, List, [], ◌∷◌, find, Bool, ◌&&◌, ◌||◌, ltb, Some, is_some, refl, sym, ap, ◌∙◌, subst, nat_eq, rules, arith}
-use Rattle.trace_stop.proofs.CommonNames.{AllByRecursion, list_any, cases_Bool, nat_tests, ProcData, keep, process_of, Rows, Rise, InOwnBlock, LeastOrNone}
-use Rattle.std.proofs.Math.Path.{fun_ext}
-use Rattle.proc_table.proofs.Seen.{any-found}
-use Rattle.proc_table.proofs.Least.{least_or_none}
-use Rattle.trace_stop.proofs.Every.{All-filter, find_some}
-use Rattle.wait4.specs.declared.Options.{Options}
-use Rattle.wait4.specs.declared.collecting.Kin.TheVariants.{Tracer, Parent}
-use Rattle.std.proofs.lemmas.Int.{to_z-of_z}
-use Rattle.wait4.specs.declared.Collected.TheVariants.{Nothing, NoChild}
-use Rattle.wait4.specs.Collect.{answer, collect, is_child, fits, names_as, reportable, lesser, candidates, reported}
-use Rattle.wait4.specs.Laws.{ReportedLeast}
-use Rattle.proc_table.proofs.Firsts.{find-above_zero}
+use Rattle.wait4.proofs.CommonNames.{None, if◌then◌else◌, true, SFits, to_z, of_z, w64, false, Option, ◌≡◌, ℕ, ℤ, pos, negsuc, List, [], ◌∷◌, find, Bool, ◌&&◌, ◌||◌, ltb, Some, is_some, refl, sym, ap}
+use Rattle.wait4.proofs.CommonNames.{◌∙◌, subst, nat_eq, rules, arith, AllByRecursion, list_any, cases_Bool, nat_tests, ProcData, keep, process_of, Rows, Rise, InOwnBlock, LeastOrNone, fun_ext}
+use Rattle.wait4.proofs.CommonNames.{any-found, least_or_none, All-filter, Options, Tracer, Parent, to_z-of_z, Nothing, NoChild, answer, collect, is_child, fits, names_as, reportable, lesser}
+use Rattle.wait4.proofs.CommonNames.{candidates, reported, ReportedLeast, find-above_zero, lt_z}
+use Rattle.trace_stop.proofs.Every.{find_some}
 use Rattle.wait4.proofs.Whole.{is_negative, is_natural, read_back}
-use Rattle.std.specs.Int.Signed.{lt_z}
 use Rattle.wait4.proofs.Search.{answer-none, find-filter, find-lesser, only_numbered}
 
 same_find : (s t : ProcData → Bool) → ((p : ProcData) → s p ≡ t p) → (ps : List ProcData) → find s ps ≡ find t ps

@@ -1,11 +1,7 @@
 -- The rows after one process is collected, as an edit of its row.
-use Rattle.std.proofs.Common.{arith, ◌≡◌, ℕ, List, [], ◌∷◌, filter, filter_map, map, true, false, cond, ◌==◌, not, Option, Some, None, refl, ap, ◌∙◌, nat_eq, if◌then◌else◌, rules}
-use Rattle.trace_stop.proofs.CommonNames.{nat_tests, nat_tests, AllByRecursion, ProcData, is_live, process_of, Rows, each, Rise, put_process, set_process, drop_process, notified}
-use Rattle.proc_table.proofs.Finds.{equal_or_not}
-use Rattle.trace_stop.proofs.Edited.{lwps_left}
-use Rattle.trace_stop.proofs.Numbers.{the_row}
-use Rattle.trace_stop.proofs.Notified.{notified-none}
-use Rattle.wait4.specs.Collect.{told, stays, collected, collect_one}
+use Rattle.wait4.proofs.CommonNames.{arith, ◌≡◌, ℕ, List, [], ◌∷◌, filter, filter_map, map, true, false, cond, ◌==◌, not, Option, Some, None, refl, ap, ◌∙◌, nat_eq, if◌then◌else◌, rules, nat_tests}
+use Rattle.wait4.proofs.CommonNames.{AllByRecursion, ProcData, is_live, process_of, Rows, each, Rise, put_process, set_process, drop_process, notified, equal_or_not, lwps_left, the_row, notified-none}
+use Rattle.wait4.proofs.CommonNames.{told, stays, collected, collect_one}
 
 -- an edit of the row with one number
 module _ (f : ProcData → Option ProcData) (n : ℕ) (p : ProcData) where

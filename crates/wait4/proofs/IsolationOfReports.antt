@@ -1,15 +1,8 @@
 -- What is collected, among one user's rows.
-use Rattle.std.proofs.Common.{arith, ◌≡◌, ◌≢◌, ℕ, ℤ, find, true, ◌==◌, ◌&&◌, if◌then◌else◌, Option, Some, IfSome, refl, ap, ◌∙◌, eqb-true, subst, eq-eqb, inl, rules}
-use Rattle.trace_stop.proofs.CommonNames.{nat_tests, IsUser, ProcData, State, Rows}
-use Rattle.pid_blocks.specs.Blocks.{pid_owner}
-use Rattle.wait4.specs.declared.Options.{Options}
-use Rattle.wait4.specs.Collect.{answer, is_child, fits, reportable, collected_in, collected, stays, told, collect_one, candidates, reported, collect, without_report, rows_after}
-use Rattle.row_isolation.specs.Closed.{GoodProc}
-use Rattle.row_isolation.proofs.FilteredLists.{find_some, All-where}
-use Rattle.row_isolation.proofs.IsolationRelation.{Sim, Kin, not_own, either, named, rows_query, each_same}
-use Rattle.trace_stop.proofs.Edited.{If_more}
-use Rattle.row_isolation.proofs.IsolationOfSignals.{user_not_one, notified_same}
-use Rattle.trace_stop.proofs.Every.{and_left}
+use Rattle.wait4.proofs.CommonNames.{arith, ◌≡◌, ◌≢◌, ℕ, ℤ, find, true, ◌==◌, ◌&&◌, if◌then◌else◌, Option, Some, IfSome, refl, ap, ◌∙◌, eqb-true, subst, eq-eqb, inl, rules, nat_tests, IsUser}
+use Rattle.wait4.proofs.CommonNames.{ProcData, State, Rows, pid_owner, Options, answer, is_child, fits, reportable, collected_in, collected, stays, told, collect_one, candidates, reported, collect}
+use Rattle.wait4.proofs.CommonNames.{without_report, rows_after, GoodProc, All-where, Sim, Kin, not_own, either, named, rows_query, each_same, If_more, user_not_one, notified_same, and_left}
+use Rattle.row_isolation.proofs.FilteredLists.{find_some}
 
 pub child_own : (u caller : ℕ) → IsUser u → pid_owner caller ≡ u → (p : ProcData) → GoodProc p → is_child caller p ≡ true → p.uid ≡ u
 child_own u caller user mine p good is = search (rules, eqb-true, user_not_one, either, not_own)

@@ -1,13 +1,6 @@
 -- A wait among all rows, and among one user's own rows.
-use Rattle.std.proofs.Common.{arith, ◌≡◌, ◌≢◌, ℕ, ℤ, true, Option, sym, rules}
-use Rattle.pid_blocks.specs.Blocks.{pid_owner}
-use Rattle.trace_stop.proofs.CommonNames.{ProcData, Rows, owns, only_of, IsSound}
-use Rattle.row_isolation.specs.Closed.{Closed}
-use Rattle.row_isolation.proofs.IsolationRelation.{Sim}
-use Rattle.row_isolation.proofs.SoundRowsAreApart.{owns_owner, owns_user, sound_closed, own_start, own_after, others_after}
-use Rattle.wait4.specs.declared.Options.{Options}
-use Rattle.wait4.specs.Collect.{reported, collect, without_report, rows_after}
-use Rattle.wait4.specs.Laws.{ReportedOwn, CollectOwn, AfterOwn, AfterOthers}
+use Rattle.wait4.proofs.CommonNames.{arith, ◌≡◌, ◌≢◌, ℕ, ℤ, true, Option, sym, rules, pid_owner, ProcData, Rows, owns, only_of, IsSound, Closed, Sim, owns_owner, owns_user, sound_closed, own_start}
+use Rattle.wait4.proofs.CommonNames.{own_after, others_after, Options, reported, collect, without_report, rows_after, ReportedOwn, CollectOwn, AfterOwn, AfterOthers}
 use Rattle.wait4.proofs.IsolationOfReports.{reported_same, collect_same, rows_after_same}
 
 -- collecting takes no number

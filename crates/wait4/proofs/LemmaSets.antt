@@ -1,7 +1,5 @@
 -- The sets of lemmas that functions name: for laws, and for the collection of one process.
-use Rattle.proc_table.proofs.Rows.{found_row}
-use Rattle.proc_table.proofs.Stays.{named-same, named-untraced}
-use Rattle.proc_table.proofs.Finds.{below_or_not}
+use Rattle.wait4.proofs.CommonNames.{found_row, named-same, named-untraced, below_or_not}
 use Rattle.wait4.proofs.Search.{none_outside}
 use Rattle.wait4.proofs.Whole.{is_negative, is_natural, read_back}
 use Rattle.wait4.proofs.Candidates.{reported-any, reported-numbered, reported-least}

@@ -1,3 +1,4 @@
+pub mod CommonNames
 pub mod SoundAfterCollect
 pub mod Search
 pub mod Whole

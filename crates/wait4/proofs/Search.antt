@@ -1,23 +1,13 @@
 -- Searches for the child that is reported.
-use Rattle.std.proofs.Common.{◌≡◌, ℕ, ◌≤◌, List, [], ◌∷◌, filter, find, Bool, ◌&&◌, ◌||◌, Option, Some, None, refl, arith, nat_eq, if◌then◌else◌, rules}
-use Rattle.trace_stop.proofs.CommonNames.{AllByRecursion, list_any, cases_Bool, nat_tests, ProcData, keep, process_of, AllAbove, Rise, InOwnBlock}
-use Rattle.proc_table.proofs.Rising.{none_above}
-use Rattle.trace_stop.proofs.Passes.{found_above}
-use Rattle.wait4.specs.declared.Collected.TheVariants.{Nothing, NoChild}
-use Rattle.wait4.specs.Collect.{lesser, answer}
+use Rattle.wait4.proofs.CommonNames.{◌≡◌, ℕ, ◌≤◌, List, [], ◌∷◌, filter, find, Bool, ◌&&◌, ◌||◌, None, refl, arith, nat_eq, if◌then◌else◌, rules, AllByRecursion, list_any, cases_Bool}
+use Rattle.wait4.proofs.CommonNames.{nat_tests, ProcData, keep, process_of, Rise, InOwnBlock, none_above, found_above, Nothing, NoChild, lesser, answer}
 
 -- The first of two kinds is the lesser of the first ones of each
 
 module _ (x y : ProcData → Bool) where
-  lesser_left : (q : ProcData) (ps : List ProcData) (o : Option ProcData) → AllAbove q.pid ps → find y ps ≡ o → lesser (Some q) o ≡ Some q
-  lesser_left q ps o above is = grind (arith, nat_tests, found_above y q.pid ps, above, is)
-
-  lesser_right : (q : ProcData) (ps : List ProcData) (o : Option ProcData) → AllAbove q.pid ps → find x ps ≡ o → lesser o (Some q) ≡ Some q
-  lesser_right q ps o above is = grind (arith, nat_tests, found_above x q.pid ps, above, is)
-
   pub find-lesser : (ps : List ProcData) → Rise ps → find (λ p. x p || y p) ps ≡ lesser (find x ps) (find y ps)
   find-lesser [] up = refl
-  find-lesser (q ∷ ps) up = grind (arith, nat_tests, find-lesser ps up.1, lesser_left q ps (find y ps) up.0, lesser_right q ps (find x ps) up.0)
+  find-lesser (q ∷ ps) up = grind (arith, nat_tests, find-lesser ps up.1, found_above y q.pid ps, found_above x q.pid ps, up.0)
 
 -- By number
 

@@ -1,14 +1,8 @@
 -- Collecting a status keeps rows sound.
-use Rattle.std.proofs.Common.{ℤ, w64, SFits, to_z, of_z, arith, ◌≡◌, ℕ, false, ◌==◌, if◌then◌else◌, Option, Some, None, refl}
-use Rattle.trace_stop.proofs.CommonNames.{nat_tests, LwpData, ProcData, is_live, process_of, Rows, each, FitProcess, FitLwp, IsSound, MayTell}
-use Rattle.trace_stop.proofs.SoundAfterEdit.{Row, Same, Edit, Stay, nobody, holds_sound, sound_holds, row_at, none_gone, no_ring, stay, lives_after, edit_holds}
-use Rattle.trace_stop.proofs.Settling.{zero_apart}
-use Rattle.trace_stop.proofs.SoundAfterNotify.{live_told, notified_sound}
-use Rattle.std.proofs.lemmas.Int.{to_z-of_z}
-use Rattle.trace_stop.proofs.Passes.{own_rows}
-use Rattle.wait4.specs.declared.Options.{Options}
+use Rattle.wait4.proofs.CommonNames.{ℤ, w64, SFits, to_z, of_z, arith, ◌≡◌, ℕ, false, ◌==◌, if◌then◌else◌, Option, Some, None, refl, nat_tests, LwpData, ProcData, is_live, process_of, Rows, each}
+use Rattle.wait4.proofs.CommonNames.{FitProcess, FitLwp, IsSound, MayTell, Row, Same, Edit, Stay, nobody, holds_sound, sound_holds, row_at, none_gone, no_ring, stay, lives_after, edit_holds}
+use Rattle.wait4.proofs.CommonNames.{zero_apart, live_told, notified_sound, to_z-of_z, own_rows, Options, reported, collected, told, collect_one}
 use Rattle.wait4.proofs.Candidates.{reported-has}
-use Rattle.wait4.specs.Collect.{reported, collected, told, collect_one}
 
 -- a collection leaves none of a zombie's row, or the row of the same process
 pub record Kept (q r : ProcData) : Type 0 where

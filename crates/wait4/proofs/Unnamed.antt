@@ -1,19 +1,13 @@
 -- No row names a zombie, and it has no LWP.
-use Rattle.std.proofs.Common.{◌≡◌, ℕ, false, ◌==◌, Option, Some, None, IfSome, arith}
-use Rattle.trace_stop.proofs.CommonNames.{nat_tests, first_lwp, ProcData, is_live, is_this, process_of, Rows, next_tracee, next_child, InOwnBlock, IsLiveOf, MidStepInvariant}
-use Rattle.trace_stop.proofs.Every.{All-imply, All-both, find_none}
-use Rattle.trace_stop.proofs.Found.{live_named}
-use Rattle.proc_table.proofs.Every.{every_found}
+use Rattle.wait4.proofs.CommonNames.{◌≡◌, ℕ, false, ◌==◌, Some, None, arith, nat_tests, first_lwp, ProcData, is_live, process_of, Rows, next_tracee, next_child, InOwnBlock}
+use Rattle.wait4.proofs.CommonNames.{IsLiveOf, MidStepInvariant, All-imply, All-both, find_none, live_named, every_found}
 
 module _ (rows : Rows) (p : ProcData) (s : MidStepInvariant rows) (at : process_of p.pid rows.processes ≡ Some p) (ended : is_live p ≡ false) where
   not_live : (u : ℕ) → IsLiveOf rows u p.pid → ⊥
   not_live u is = grind (arith, live_named rows s.rising u p.pid is, at, ended)
 
-  traced : (u : ℕ) (o : Option ℕ) → IfSome o (IsLiveOf rows u) → is_this p.pid o ≡ false
-  traced u o live = grind (arith, nat_tests, live, not_live u)
-
   pub no_tracee : next_tracee p.pid 0 rows.processes ≡ None
-  no_tracee = find_none _ rows.processes (All-imply _ _ (λ q link. grind (arith, traced q.uid q.tracer link.tracer)) rows.processes s.linked)
+  no_tracee = find_none _ rows.processes (All-imply _ _ (λ q link. grind (arith, nat_tests, link.tracer, not_live q.uid)) rows.processes s.linked)
 
   pub no_child : next_child p.pid 0 rows.processes ≡ None
   no_child = let home = every_found InOwnBlock (λ q. q.pid == p.pid) rows.processes p s.in_own_blocks at in

@@ -1,8 +1,5 @@
 -- Which child a wait reports, and how a wait depends on one user's rows alone.
-use Rattle.std.specs.Prelude.{◌≡◌, ◌≢◌, ◌&&◌, ℕ, ℤ, true}
-use Rattle.proc_table.specs.Rows.{Rows}
-use Rattle.proc_table.specs.Seen.{owns}
-use Rattle.proc_table.specs.Laws.{LeastOrNone, only_of}
+use Rattle.trace_stop.specs.CommonNames.{◌≡◌, ◌≢◌, ◌&&◌, ℕ, ℤ, true, Rows, owns, LeastOrNone, only_of}
 use Rattle.trace_stop.specs.Facts.{IsSound}
 use Rattle.wait4.specs.declared.Options.{Options}
 use Rattle.wait4.specs.Collect.{is_child, fits, reportable, reported, collect, rows_after}

@@ -1,8 +1,4 @@
-use Rattle.std.proofs.Common.{◌≡◌, ◌+◌, ◌-◌, ℕ, Bool, false, arith, ap, sym, ◌∙◌, rules}
-use Rattle.std.specs.Prelude.{nat_eq, find}
-use Rattle.std.specs.List.{range_with_len}
-use Rattle.std.specs.Cmp.Lexicographic.{pointwise}
-use Rattle.signals.specs.Names.{signal_name}
+use Rattle.signals.proofs.CommonNames.{◌≡◌, ◌+◌, ◌-◌, ℕ, Bool, false, arith, ap, sym, ◌∙◌, rules, nat_eq, find, range_with_len, pointwise, signal_name}
 use Rattle.signals.proofs.Rising.{find-over, find-here}
 use Rattle.signals.proofs.Signal.by_name.Goals as goal
 

@@ -1,8 +1,4 @@
-use Rattle.std.proofs.Common.{◌≡◌, ◌≤◌, ◌-◌}
-use Rattle.std.specs.Prelude.{nat_eq, find}
-use Rattle.std.specs.List.{range_with_len}
-use Rattle.std.specs.Cmp.Lexicographic.{pointwise}
-use Rattle.signals.specs.Names.{signal_name, by_name}
+use Rattle.signals.proofs.CommonNames.{◌≡◌, ◌≤◌, ◌-◌, nat_eq, find, range_with_len, pointwise, signal_name, by_name}
 use Rattle.signals.proofs.Signal.by_name.Given as goal
 
 -- the signals that are left give the answer of all

@@ -5,9 +5,7 @@ use Rattle.trace_stop.proofs.CommonLemmas.{own_row}
 use Rattle.trace_stop.proofs.signaling.put.Goals as goal
 
 pub set_process-requires : goal.set_process-requires
-set_process-requires c =
-    let own = own_row c.args.pid c.unwrap-p.result c.args.tables.now.rows.processes (cc) in
-    search (rules, process_there, named-same)
+set_process-requires c = search (rules, process_there, named-same, own_row c.args.pid c.unwrap-p.result c.args.tables.now.rows.processes (cc))
 
 pub returns-clause-rows : goal.returns-clause-rows
 returns-clause-rows c =

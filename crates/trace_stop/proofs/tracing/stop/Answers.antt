@@ -24,9 +24,7 @@ stop-done pid tid shown rows mid made out p l k at there set written told =
     (done, λ may. rw done (stopped_sound rows pid tid shown p l at there may))
 
 pub set_process-requires : goal.set_process-requires
-set_process-requires c =
-    let own = own_row c.args.pid c.unwrap-p.result c.args.tables.now.rows.processes (cc) in
-    search (rules, process_there, named-same)
+set_process-requires c = search (rules, process_there, named-same, own_row c.args.pid c.unwrap-p.result c.args.tables.now.rows.processes (cc))
 
 pub returns-in-Some : goal.returns-in-Some
 returns-in-Some c =

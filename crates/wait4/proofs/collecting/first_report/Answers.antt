@@ -1,5 +1,4 @@
-use Rattle.std.proofs.Common.{◌&&◌, find, rules, sym, ap, ◌∙◌}
-use Rattle.wait4.specs.Collect.{names_as, reportable}
+use Rattle.wait4.proofs.CommonNames.{◌&&◌, find, rules, sym, ap, ◌∙◌, names_as, reportable}
 use Rattle.wait4.proofs.collecting.first_report.Goals as goal
 
 pub returns-in-Tracer-clause-row : goal.returns-in-Tracer-clause-row

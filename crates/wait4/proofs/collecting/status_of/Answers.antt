@@ -1,6 +1,4 @@
-use Rattle.std.proofs.Common.{ap, is_some, subst, ◌≡◌, ℕ, true, rules}
-use Rattle.trace_stop.proofs.CommonNames.{IfEnded, Ended, cases_Bool, nat_tests, is_end}
-use Rattle.wait4.specs.Status.{ended, IsStatus, word}
+use Rattle.wait4.proofs.CommonNames.{ap, is_some, subst, ◌≡◌, ℕ, true, rules, IfEnded, Ended, cases_Bool, nat_tests, is_end, ended, IsStatus, word}
 use Rattle.wait4.proofs.collecting.status_of.Goals as goal
 
 -- the word of a process's end is that of a status

@@ -15,9 +15,7 @@ pub without-requires : goal.without-requires
 without-requires c = grind (arith, nat_tests, own_positive c.self.invariant c.unwrap-slot.result c.remove-gone.result)
 
 pub overflow_sub-self : goal.overflow_sub-self
-overflow_sub-self c =
-    let found = lwp_of-found (slot_get c.self.inside.rows) _ _ c.self.invariant.indexed c.get-number.result c.unwrap-slot.result c.remove-gone.result in
-    grind (arith, nat_tests, found, user_positive c.self.invariant c.unwrap-slot.result c.remove-gone.result)
+overflow_sub-self c = grind (arith, nat_tests, lwp_of-found (slot_get c.self.inside.rows) _ _ c.self.invariant.indexed c.get-number.result c.unwrap-slot.result c.remove-gone.result, user_positive c.self.invariant c.unwrap-slot.result c.remove-gone.result)
 
 -- what the steps up to the new ends establish
 leaves : (c : After-without) → HasLeft (slot_get c.self.inside.rows) c.self.inside.slots.entries c.self.inside.heads.entries c.args.tid c.unwrap-slot.result c.remove-gone.result (slot_get c.close_up.new.slots) c.remove.new.self.entries c.without.result

@@ -6,10 +6,7 @@ pub edit_of-requires-clause-keeps : goal.edit_of-requires-clause-keeps
 edit_of-requires-clause-keeps g c = λ l k there returned. grind (arith, nat_tests, c.requires.change.1.computes l k, c.requires.change.1.number l, c.requires.change.1.process l)
 
 pub invariant_of-self : goal.invariant_of-self
-invariant_of-self g c =
-    let its = rw (← c.self.view_is) at c.requires.change.1 in
-    let rows = c.edit_of.ensures.rows c.requires.change.0 its.computes in
-    grind (arith, nat_tests, keeps-map_lwps c.args.pid c.requires.change.0 its.number its.process _ c.self.invariant.kept)
+invariant_of-self g c = grind (arith, nat_tests, keeps-map_lwps c.args.pid c.requires.change.0 (rw (← c.self.view_is) at c.requires.change.1).number (rw (← c.self.view_is) at c.requires.change.1).process _ c.self.invariant.kept, c.edit_of.ensures.rows c.requires.change.0 (rw (← c.self.view_is) at c.requires.change.1).computes)
 
 pub returns-clause-rows : goal.returns-clause-rows
 returns-clause-rows g c = rw (← c.self.view_is) (λ change computes. let rows = c.edit_of.ensures.rows change computes in grind (arith, nat_tests))

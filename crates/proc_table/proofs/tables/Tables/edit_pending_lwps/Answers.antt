@@ -6,10 +6,7 @@ pub edit_pending_of-requires-clause-keeps : goal.edit_pending_of-requires-clause
 edit_pending_of-requires-clause-keeps g c = λ l k there returned. let its = c.requires.change.1 in grind (arith, nat_tests, its.computes l k, its.number l, its.process l)
 
 pub invariant_of-self : goal.invariant_of-self
-invariant_of-self g c =
-    let its = rw (← c.self.view_is) at c.requires.change.1 in
-    let rows = c.edit_pending_of.ensures.rows c.requires.change.0 its.computes c.requires.change.2 in
-    grind (arith, nat_tests, keeps-map_lwps c.args.pid c.requires.change.0 its.number its.process _ c.self.invariant.kept)
+invariant_of-self g c = grind (arith, nat_tests, keeps-map_lwps c.args.pid c.requires.change.0 (rw (← c.self.view_is) at c.requires.change.1).number (rw (← c.self.view_is) at c.requires.change.1).process _ c.self.invariant.kept, c.edit_pending_of.ensures.rows c.requires.change.0 (rw (← c.self.view_is) at c.requires.change.1).computes c.requires.change.2)
 
 pub returns-clause-rows : goal.returns-clause-rows
 returns-clause-rows g c = rw (← c.self.view_is) (λ change computes leaves. let rows = c.edit_pending_of.ensures.rows change computes leaves in grind (arith, nat_tests))

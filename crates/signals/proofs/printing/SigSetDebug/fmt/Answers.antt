@@ -1,7 +1,6 @@
-use Rattle.std.proofs.Common.{◌≡◌, ◌∷◌, [], ◌++◌, List, ℕ, ap, sym, ◌∙◌, rules, append_assoc, append-nil, refl, codes, arith}
-use Rattle.std.proofs.Output.{has_written_append, has_written_of_eq}
-use Rattle.signals.specs.Names.{signal_name, named}
-use Rattle.signals.specs.Sets.{members, without, bit}
+use Rattle.signals.proofs.CommonNames.{◌≡◌, ◌∷◌, [], ◌++◌, List, ℕ, ap, sym, ◌∙◌, rules, append_assoc, refl, codes, arith, has_written_append, has_written_of_eq, signal_name, named, without, bit}
+use Rattle.std.proofs.Common.{append-nil}
+use Rattle.signals.specs.Sets.{members}
 use Rattle.signals.proofs.Text.{bars, bars-last, named-first, named-none}
 use Rattle.signals.proofs.printing.SigSetDebug.fmt.Goals as goal
 

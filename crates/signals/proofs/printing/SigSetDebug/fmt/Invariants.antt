@@ -1,7 +1,4 @@
-use Rattle.std.proofs.Common.{◌≡◌, ◌++◌, codes}
-use Rattle.std.specs.Fmt.{HasWritten, IsPlainFormatter}
-use Rattle.std.specs.List.{flat_map}
-use Rattle.signals.specs.Names.{signal_name}
+use Rattle.signals.proofs.CommonNames.{◌≡◌, ◌++◌, codes, HasWritten, IsPlainFormatter, flat_map, signal_name}
 use Rattle.signals.proofs.printing.SigSetDebug.fmt.Given as goal
 
 -- the signals gone over are written

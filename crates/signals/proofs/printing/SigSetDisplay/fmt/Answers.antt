@@ -1,7 +1,6 @@
-use Rattle.std.proofs.Common.{◌≡◌, ◌∷◌, [], ◌++◌, List, ℕ, ap, sym, ◌∙◌, rules, append_assoc, append-nil, refl, arith}
-use Rattle.std.proofs.Output.{has_written_append, has_written_of_eq}
-use Rattle.std.specs.Prelude.{decimal}
-use Rattle.signals.specs.Sets.{members, without, bit, set_text}
+use Rattle.signals.proofs.CommonNames.{◌≡◌, ◌∷◌, [], ◌++◌, List, ℕ, ap, sym, ◌∙◌, rules, append_assoc, refl, arith, has_written_append, has_written_of_eq, decimal, without, bit, set_text}
+use Rattle.std.proofs.Common.{append-nil}
+use Rattle.signals.specs.Sets.{members}
 use Rattle.signals.proofs.Text.{after, after-last, text-first, text-none}
 use Rattle.signals.proofs.printing.SigSetDisplay.fmt.Goals as goal
 

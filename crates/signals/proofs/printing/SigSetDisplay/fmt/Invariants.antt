@@ -1,5 +1,4 @@
-use Rattle.std.proofs.Common.{◌≡◌, ◌++◌}
-use Rattle.std.specs.Fmt.{HasWritten, IsPlainFormatter}
+use Rattle.signals.proofs.CommonNames.{◌≡◌, ◌++◌, HasWritten, IsPlainFormatter}
 use Rattle.signals.proofs.Text.{after}
 use Rattle.signals.proofs.printing.SigSetDisplay.fmt.Given as goal
 
