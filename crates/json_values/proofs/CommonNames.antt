@@ -30,6 +30,5 @@ pub use Rattle.serde_json.specs.Data.{Data, Members, Num, array, item, member, n
 pub use Rattle.serde_json.specs.Find.{as_i64}
 pub use Rattle.serde_json.specs.Read.{converted, number_from, number_of, of_items, of_json, of_members}
 pub use lib.Count.{count_trailing_zeros}
-pub use Rattle.json_values.specs.Lexing.{Ends, HasNoEscape, IsNumberAt, IsWholeAt, LiteralOf, piece}
-pub use Rattle.json_values.specs.Places.{NotBeforeComma, may_begin, may_close, refused_at, tokens_at}
+pub use Rattle.json_values.specs.Lexing.{Ends, HasNoEscape, IsNumberAt, IsWholeAt, LiteralOf, NotBeforeComma, may_begin, may_close, piece, refused_at, tokens_at}
 pub use Rattle.json_values.specs.Reading.{IsScalar, Opens, Says, members_among, read_items, read_members, rest}

@@ -11,6 +11,13 @@ use Rattle.json_values.specs.declared.scalars.Scalar.{Scalar}
 use Rattle.json_values.specs.declared.scalars.Scalar.TheVariants as scalar
 use Rattle.json_values.specs.declared.scalars.Opening.{Opening}
 use Rattle.json_values.specs.declared.scalars.Opening.TheVariants as opening
+use Rattle.json_values.specs.declared.tokens.Source.{Source}
+use Rattle.json_values.specs.declared.tokens.Source.TheVariants.{Plain, Escaped}
+
+-- what a reader of a JSON text has before it
+abbrev pub tokens_of : Source → List Token
+tokens_of (Plain reader) = reader
+tokens_of (Escaped reader) = reader
 
 abbrev pub members_among : List (List ℕ) → Members → Bool
 members_among keys no_members = true
@@ -21,14 +28,12 @@ members_among keys (member k d ms) = list_any (bytes_eq k) keys && members_among
 -- the integer that a scalar is
 abbrev pub integer_in : Scalar → Option ℤ
 integer_in (scalar.Integer z) = Some z
-integer_in (scalar.Text s) = None
-integer_in scalar.Other = None
+integer_in s = None
 
 -- the text that a scalar is
 abbrev pub text_in : Scalar → Option (List ℕ)
-text_in (scalar.Integer z) = None
 text_in (scalar.Text s) = Some s.now
-text_in scalar.Other = None
+text_in s = None
 
 -- the scalar says which integer or which text a value is, if it is one
 pub record Says (s : Scalar) (d : Data) : Type 0 where

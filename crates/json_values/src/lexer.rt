@@ -24,7 +24,7 @@ pub(crate) struct Lexer<'a> {
 
 impl<'a> Model for Lexer<'a> {
     ghost use Rattle.std.specs.Prelude.{ℕ, List, drop};
-    ghost use Rattle.json_values.specs.Texts.{IsLexer};
+    ghost use Rattle.json_values.specs.Lexing.{IsLexer};
 
     ghost Value = { List ℕ };
 

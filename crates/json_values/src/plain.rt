@@ -9,8 +9,7 @@ ghost use Rattle.json.specs.Token.{number};
 ghost use Rattle.json.specs.Word.{head};
 ghost use Rattle.serde_json.specs.Find.{as_i64};
 ghost use Rattle.serde_json.specs.Read.{number_of};
-ghost use Rattle.json_values.specs.Lexing.{HasNoEscape};
-ghost use Rattle.json_values.specs.Places.{may_begin, may_close, refused_at, tokens_at, NotBeforeComma};
+ghost use Rattle.json_values.specs.Lexing.{HasNoEscape, may_begin, may_close, refused_at, tokens_at, NotBeforeComma};
 
 use crate::bytes::is_space;
 use crate::lexer::Lexer;
@@ -185,7 +184,7 @@ pub(crate) struct PlainReader<'a> {
 impl<'a> Model for PlainReader<'a> {
     ghost use Rattle.std.specs.Prelude.{List};
     ghost use Rattle.json.specs.Token.{Token as SpecToken, tokens_code};
-    ghost use Rattle.json_values.specs.Places.{tokens_at, NotBeforeComma};
+    ghost use Rattle.json_values.specs.Lexing.{tokens_at, NotBeforeComma};
 
     ghost Value = { List SpecToken };
 
