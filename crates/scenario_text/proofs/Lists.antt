@@ -13,7 +13,7 @@ use Rattle.scenario_text.specs.declared.fields.KeyError.TheVariants.{TooManyRule
 use Rattle.scenario_text.specs.declared.listing.Listed.{Listed}
 use Rattle.scenario_text.specs.declared.rules.RuleList.{RuleList}
 use Rattle.scenario_text.specs.Fields.{◌>>=◌, each}
-use Rattle.scenario_text.specs.Listing.{IsListOf, pushed, rules_taken, taken}
+use Rattle.scenario_text.specs.Streams.{IsListOf, pushed, rules_taken, taken}
 use Rattle.scenario_text.specs.Plan.{max_steps}
 use Rattle.scenario_text.specs.Rules.{rule_of, policy_of}
 use Rattle.scenario_text.specs.Scenarios.{steps_from}
@@ -71,7 +71,7 @@ module _ {X E : Type 0} (most : ℕ) (from : ℕ → Items → Result (List X) E
 -- ---- rules
 
 abbrev rules_from : ℕ → Items → Result (List Rule) KeyError
-rules_from n ds = each rule_of ds
+rules_from n ds = each (λ _ d. rule_of d) n ds
 
 abbrev pub HasRules : (Items → Items) → RuleList → Type 0
 HasRules front l = Has 16 rules_from front l.count (rules_taken l)

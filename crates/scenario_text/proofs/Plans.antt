@@ -14,7 +14,7 @@ use Rattle.scenario_text.specs.declared.fault.Fault.TheVariants.{BadShape, TooMa
 use Rattle.scenario_text.specs.declared.fields.KeyError.{KeyError}
 use Rattle.scenario_text.specs.declared.listing.Listed.{Listed}
 use Rattle.scenario_text.specs.Fields.{atom_of, integer, items_of}
-use Rattle.scenario_text.specs.Listing.{AreRead, StepsAre, taken}
+use Rattle.scenario_text.specs.Streams.{AreRead, StepsAre, taken}
 use Rattle.scenario_text.specs.Plan.{Plan, max_steps}
 use Rattle.scenario_text.specs.Scenarios.{Yields, head_settings, head_of, plan_of}
 
