@@ -1,13 +1,9 @@
 -- Lexemes at a place of a text, and the tokens that a reader of a text has before it.
 use Rattle.std.specs.Prelude.{◌≡◌, ◌≢◌, ℕ, ◌+◌, ◌-◌, ◌^◌, ◌<◌, ◌≤◌, Bool, true, false, List, [], ◌∷◌, ◌++◌, length, take, drop, get_or, IsUtf8, ⊤}
 use Rattle.std.specs.Str.Parse.{AllDigits, digits_value}
-use Rattle.json.specs.Token.{Token, bad}
-use Rattle.json.specs.Word.{head, ends_word}
-use Rattle.json.specs.Lex.{token, class, between, lex, fresh, after_value, after_comma, punctuate}
-use Rattle.json.specs.Align.{is_blank}
+use Rattle.json.specs.{Token.Token, Token.bad, Word.head, Word.ends_word, Lex.token, Lex.class, Lex.between, Lex.lex, Lex.fresh, Lex.after_value, Lex.after_comma, Lex.punctuate, Align.is_blank}
 use Rattle.json.specs.Print.{IsNumber}
-use Rattle.json_values.specs.declared.lexer.Lexer.TheInside.{Inside}
-use Rattle.json_values.specs.declared.plain.Place.{Place}
+use Rattle.json_values.specs.{declared.lexer.Lexer.TheInside.Inside, declared.plain.Place.Place}
 use Rattle.json_values.specs.declared.plain.Place.TheVariants.{Fresh, AfterValue, AfterComma, Failed}
 
 -- a text with no backslash

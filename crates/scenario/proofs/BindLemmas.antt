@@ -12,7 +12,7 @@ use Rattle.requests.specs.Plain.{PlainStep, with_handler}
 use Rattle.requests.specs.Run.{Asked}
 use Rattle.visibility.proofs.Answered.{map-push}
 use Rattle.scenario_text.specs.Plan.{asked, filled, first_policy, policies_after, policies_in, policy_before, step_with}
-use Rattle.scenario.specs.Binding.{IsBound}
+use Rattle.scenario.specs.Runs.{IsBound}
 use Rattle.scenario_text.proofs.FilledLemmas.{left_after}
 
 -- the steps from place i on, of which x is the first, with the policies from there on

@@ -5,10 +5,9 @@ use Rattle.std.proofs.lemmas.List.{append_assoc, at_drop_more, length-set, get_o
 use Rattle.std.proofs.lemmas.List.Sums.{count_by-le-length, sum_by-cons}
 use Rattle.std.proofs.lemmas.Bool.Decides.{nat_tests}
 use Rattle.requests.specs.declared.Reply.{Reply}
-use Rattle.scenario.specs.Lines.{Answered, Line, line, lines_after, lines_of, text_of}
+use Rattle.scenario.specs.Lines.{Answered, Line, line, lines_after, lines_of, shown_line, text_of}
 use Rattle.scenario.specs.Runs.{answered, shown}
 use Rattle.scenario.specs.declared.style.Style.{Style}
-use Rattle.scenario.specs.Shown.{shown_line}
 
 -- how many replies went to the user
 abbrev pub replies_to : ℕ → List ℕ → ℕ

@@ -1,20 +1,7 @@
 -- What a JSON value comes to at a key, and the flaw of a value.
-use Rattle.std.specs.Prelude.{◌≡◌, ℕ, ℤ, pos, negsuc, List, [], ◌∷◌, ◌+◌, Option, Some, None, Result, Ok, Err, ok_or, option_and_then, nat_lt, true, if◌then◌else◌}
-use Rattle.json_values.specs.declared.scalars.Scalar.{Scalar}
-use Rattle.json_values.specs.Reading.{integer_in, text_in}
-use Rattle.serde_json.specs.Data.{Data, Items, no_items, item}
-use Rattle.serde_json.specs.Find.{as_number, as_i64, as_str, as_array}
-use Rattle.signals.specs.Sets.{with}
-use Rattle.event_masks.specs.declared.EventMask.{EventMask}
-use Rattle.event_masks.specs.declared.StopFlags.{StopFlags}
-use Rattle.event_masks.specs.Exits.{no_events, no_flags, mask_with, both}
-use Rattle.event_masks.specs.Reading.{events_named, flag_named}
-use Rattle.wait4.specs.declared.Options.{Options}
-use Rattle.requests.specs.Handle.{no_options}
-use Rattle.scenario_text.specs.declared.fields.KeyError.{KeyError}
-use Rattle.scenario_text.specs.declared.fields.KeyError.TheVariants.{Shape, Name, Number}
-use Rattle.scenario_text.specs.declared.names.WaitOption.{WaitOption}
-use Rattle.scenario_text.specs.declared.names.WaitOption.TheVariants.{Nohang, Untraced, Continued}
+use Rattle.scenario_text.specs.CommonNames.{◌≡◌, ℕ, ℤ, pos, negsuc, List, [], ◌∷◌, ◌+◌, Option, Some, None, Result, Ok, Err, ok_or, option_and_then, nat_lt, true, if◌then◌else◌, Scalar, integer_in}
+use Rattle.scenario_text.specs.CommonNames.{text_in, Data, Items, no_items, item, as_number, as_i64, as_str, as_array, with, EventMask, StopFlags, no_events, no_flags, mask_with, both, events_named}
+use Rattle.scenario_text.specs.CommonNames.{flag_named, Options, no_options, KeyError, Shape, Name, Number, WaitOption, Nohang, Untraced, Continued}
 use Rattle.scenario_text.specs.Names.{option_named}
 
 infixl 10 ◌>>=◌

@@ -1,15 +1,9 @@
 -- The keys of steps and of rules.
-use Rattle.std.specs.Prelude.{⊤, ℕ, ◌==◌, List, [], ◌∷◌, Bool, Option, Some, None, Result, Ok, Err, codes, if◌then◌else◌}
-use Rattle.std.specs.Int.RustNames.{bit_and, bit_or}
-use Rattle.serde_json.specs.Data.{Members, no_members, member}
-use Rattle.scenario_text.specs.declared.fields.KeyError.{KeyError}
-use Rattle.scenario_text.specs.declared.fields.KeyError.TheVariants.{Shape}
-use Rattle.scenario_text.specs.declared.keys.Key.{Key}
+use Rattle.scenario_text.specs.CommonNames.{⊤, ℕ, ◌==◌, List, [], ◌∷◌, Bool, Option, Some, None, Result, Ok, Err, codes, if◌then◌else◌, bit_and, bit_or, Members, no_members, member, KeyError, Shape}
+use Rattle.scenario_text.specs.CommonNames.{Key, Keys}
+use Rattle.scenario_text.specs.{Fields.◌>>=◌, Names.named}
 use Rattle.scenario_text.specs.declared.keys.Key.TheVariants as key
-use Rattle.scenario_text.specs.declared.keys.Keys.{Keys}
 use Rattle.scenario_text.specs.declared.keys.TheConstants.Keys as keys
-use Rattle.scenario_text.specs.Fields.{◌>>=◌}
-use Rattle.scenario_text.specs.Names.{named}
 
 -- tools/format names
 abbrev pub key_rows : List (List ℕ × Key)

@@ -1,7 +1,8 @@
+pub mod Plan
+pub mod CommonNames
 pub mod Fields
 pub mod Keys
 pub mod Names
-pub mod Plan
 pub mod Rules
 pub mod Steps
 pub mod Faults

@@ -1,12 +1,6 @@
 -- A text that is one step.
-use Rattle.std.specs.Prelude.{⊤, ◌<◌, ◌≤◌, ℕ, List, length, Result, Ok, Err}
-use Rattle.serde_json.specs.Data.{Data}
-use Rattle.requests.specs.Run.{Asked}
-use Rattle.scenario_text.specs.declared.fault.Fault.{Fault}
-use Rattle.scenario_text.specs.declared.fault.Fault.TheVariants.{TooLong, BadJson}
-use Rattle.scenario_text.specs.Scenarios.{numbered, HasValue, HasNoValue, Answers}
-use Rattle.scenario_text.specs.Fields.{seen}
-use Rattle.scenario_text.specs.Steps.{step_of}
+use Rattle.scenario_text.specs.CommonNames.{⊤, ◌<◌, ◌≤◌, ℕ, List, length, Result, Ok, Err, Data, Asked, Fault, TooLong, BadJson}
+use Rattle.scenario_text.specs.{Scenarios.numbered, Scenarios.HasValue, Scenarios.HasNoValue, Scenarios.Answers, Fields.seen, Steps.step_of}
 
 abbrev pub max_step_bytes : ℕ
 max_step_bytes = 65536

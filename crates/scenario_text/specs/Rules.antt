@@ -1,22 +1,10 @@
 -- The rules of a policy, from their JSON values.
-use Rattle.std.specs.Prelude.{ℕ, List, Option, Some, None, Result, Ok, Err, codes, nat_lt, if◌then◌else◌}
-use Rattle.serde_json.specs.Data.{Data, Items, Members, object}
-use Rattle.serde_json.specs.Events.{items_len}
-use Rattle.serde_json.specs.Find.{get_member}
-use Rattle.event_masks.specs.Exits.{no_flags}
-use Rattle.stop_handlers.specs.declared.Rule.{Rule}
-use Rattle.stop_handlers.specs.declared.Decision.{Decision}
-use Rattle.stop_handlers.specs.declared.Decision.TheVariants as decision
-use Rattle.scenario_text.specs.declared.fields.KeyError.{KeyError}
-use Rattle.scenario_text.specs.declared.fields.KeyError.TheVariants.{Shape, TooManyRules}
-use Rattle.scenario_text.specs.declared.keys.Keys.{Keys}
-use Rattle.scenario_text.specs.declared.keys.TheConstants.Keys.{SIGNAL, FLAGS, DECISION, PASS}
-use Rattle.scenario_text.specs.declared.names.DecisionKind.{DecisionKind}
-use Rattle.scenario_text.specs.declared.names.DecisionKind.TheVariants as kind
-use Rattle.scenario_text.specs.declared.rules.RuleFields.{RuleFields}
+use Rattle.scenario_text.specs.CommonNames.{ℕ, List, Option, Some, None, Result, Ok, Err, codes, nat_lt, if◌then◌else◌, Data, Items, Members, object, items_len, get_member, no_flags, Rule, Decision}
+use Rattle.scenario_text.specs.CommonNames.{KeyError, Shape, Keys, SIGNAL, FLAGS, DECISION, PASS, DecisionKind, RuleFields}
 use Rattle.scenario_text.specs.Fields.{◌>>=◌, Atom, atom_of, number_within, name_in, items_of, optional, required, each, signal_in, flags_of}
-use Rattle.scenario_text.specs.Keys.{◌∪◌, keys_in, with_only}
-use Rattle.scenario_text.specs.Names.{decision_named}
+use Rattle.scenario_text.specs.{declared.fields.KeyError.TheVariants.TooManyRules, Keys.◌∪◌, Keys.keys_in, Keys.with_only, Names.decision_named}
+use Rattle.stop_handlers.specs.declared.Decision.TheVariants as decision
+use Rattle.scenario_text.specs.declared.names.DecisionKind.TheVariants as kind
 
 abbrev pub some_signal : Atom → Result (Option ℕ) KeyError
 some_signal a = signal_in a >>= (λ signal. Ok (Some signal))

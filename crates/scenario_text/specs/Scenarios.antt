@@ -1,20 +1,9 @@
 -- The scenario or the fault of some bytes.
-use Rattle.std.specs.Prelude.{⊤, ◌≡◌, ◌⊎◌, ℕ, ◌+◌, ◌<◌, ◌≤◌, Bool, true, false, nat_lt, ◌==◌, ℤ, pos, negsuc, List, [], ◌∷◌, ◌++◌, length, Option, Some, None, Result, Ok, Err, codes, if◌then◌else◌, IsUtf8}
-use Rattle.std.specs.Io.KnownBytes.{Consumes}
-use Rattle.json_values.specs.Reading.{members_among}
-use Rattle.serde_json.specs.Data.{Data, Items, no_items, item, Members, object}
-use Rattle.serde_json.specs.Events.{items_len}
-use Rattle.serde_json.specs.Find.{get_member}
-use Rattle.serde_json.specs.Read.{read}
-use Rattle.trace_stop.specs.declared.Settings.{Settings}
-use Rattle.requests.specs.Run.{Asked}
-use Rattle.scenario_text.specs.declared.fault.Fault.{Fault}
-use Rattle.scenario_text.specs.declared.fault.Fault.TheVariants.{Read, TooLong, BadJson, TooManySteps, BadShape, BadUser, BadName, BadNumber, TooManyRules, Memory}
-use Rattle.scenario_text.specs.declared.fields.KeyError.{KeyError}
+use Rattle.scenario_text.specs.CommonNames.{⊤, ◌≡◌, ◌⊎◌, ℕ, ◌+◌, ◌<◌, ◌≤◌, Bool, true, false, nat_lt, ◌==◌, ℤ, pos, negsuc, List, [], ◌∷◌, ◌++◌, length, Option, Some, None, Result, Ok, Err, codes}
+use Rattle.scenario_text.specs.CommonNames.{if◌then◌else◌, IsUtf8, Consumes, members_among, Data, Items, no_items, item, Members, object, items_len, get_member, read, Settings, Asked, Fault, Read}
+use Rattle.scenario_text.specs.CommonNames.{TooLong, BadJson, TooManySteps, BadShape, BadUser, BadName, BadNumber, TooManyRules, Memory, KeyError, Plan, max_steps}
+use Rattle.scenario_text.specs.{Fields.◌>>=◌, Fields.atom_of, Fields.integer, Fields.items_of, Fields.required, Fields.optional, Fields.each, Fields.within, Fields.seen, Steps.step_of}
 use Rattle.scenario_text.specs.declared.fields.KeyError.TheVariants as flaws
-use Rattle.scenario_text.specs.Fields.{◌>>=◌, atom_of, integer, items_of, required, optional, each, within, seen}
-use Rattle.scenario_text.specs.Plan.{Plan, max_steps}
-use Rattle.scenario_text.specs.Steps.{step_of}
 
 -- the flaw of the step with this number, as a fault
 abbrev pub at_step : ℕ → KeyError → Fault

@@ -1,32 +1,16 @@
 -- A step of a scenario, from its JSON value. Its keys are checked one by one, and the first failure is the flaw.
-use Rattle.std.specs.Prelude.{ℕ, List, Option, Result, Ok, Err, codes}
-use Rattle.serde_json.specs.Data.{Data, Members, object}
-use Rattle.serde_json.specs.Find.{get_member}
-use Rattle.requests.specs.Plain.{PlainStep}
-use Rattle.requests.specs.declared.step.Step.TheVariants as plain
-use Rattle.event_masks.specs.declared.Call.{Call}
-use Rattle.event_masks.specs.declared.Call.TheVariants as call
-use Rattle.requests.specs.declared.Act.{Act}
-use Rattle.requests.specs.declared.Act.TheVariants as act
-use Rattle.requests.specs.declared.Request.{Request}
-use Rattle.requests.specs.declared.Request.TheVariants as request
-use Rattle.requests.specs.Handle.{no_options}
-use Rattle.requests.specs.Run.{Asked}
-use Rattle.scenario_text.specs.declared.fields.Fields.{Fields}
-use Rattle.scenario_text.specs.declared.fields.KeyError.{KeyError}
-use Rattle.scenario_text.specs.declared.fields.KeyError.TheVariants.{Shape, User, Number}
-use Rattle.scenario_text.specs.declared.keys.Keys.{Keys}
-use Rattle.scenario_text.specs.declared.keys.TheConstants.Keys as key
-use Rattle.scenario_text.specs.declared.names.ActKind.{ActKind}
-use Rattle.scenario_text.specs.declared.names.ActKind.TheVariants as acts
-use Rattle.scenario_text.specs.declared.names.CallKind.{CallKind}
-use Rattle.scenario_text.specs.declared.names.CallKind.TheVariants as calls
-use Rattle.scenario_text.specs.declared.names.Op.{Op}
-use Rattle.scenario_text.specs.declared.names.Op.TheVariants as ops
+use Rattle.scenario_text.specs.CommonNames.{ℕ, List, Option, Result, Ok, Err, codes, Data, Members, object, get_member, PlainStep, Call, Act, Request, no_options, Asked, Fields, KeyError, Shape, User}
+use Rattle.scenario_text.specs.CommonNames.{Number, Keys, ActKind, CallKind, Op}
 use Rattle.scenario_text.specs.Fields.{◌>>=◌, Atom, atom_of, integer, within, word, name_in, required, optional, options_of, mask_of, set_of}
-use Rattle.scenario_text.specs.Keys.{◌∪◌, keys_in, with_only}
-use Rattle.scenario_text.specs.Names.{op_named, disposition_named, act_named, call_named, request_named}
-use Rattle.scenario_text.specs.Rules.{rules_of}
+use Rattle.scenario_text.specs.{Keys.◌∪◌, Keys.keys_in, Keys.with_only, Names.op_named, Names.disposition_named, Names.act_named, Names.call_named, Names.request_named, Rules.rules_of}
+use Rattle.requests.specs.declared.step.Step.TheVariants as plain
+use Rattle.event_masks.specs.declared.Call.TheVariants as call
+use Rattle.requests.specs.declared.Act.TheVariants as act
+use Rattle.requests.specs.declared.Request.TheVariants as request
+use Rattle.scenario_text.specs.declared.keys.TheConstants.Keys as key
+use Rattle.scenario_text.specs.declared.names.ActKind.TheVariants as acts
+use Rattle.scenario_text.specs.declared.names.CallKind.TheVariants as calls
+use Rattle.scenario_text.specs.declared.names.Op.TheVariants as ops
 
 abbrev pub user_in : Atom → Result ℕ KeyError
 user_in a = integer a >>= within 1001 1064 User

@@ -1,33 +1,11 @@
 -- What a reader's next tokens come to: values, the steps and the members of a scenario while they are read, and a text
 -- that is one value.
-use Rattle.std.specs.Prelude.{◌≡◌, ℕ, List, Option, Some, None, Result, Ok, Err, ⊤, ◌<◌, ◌≤◌, ℤ, pos, [], ◌∷◌, ◌++◌, Bool, false, length, codes, take, option_map}
-use Rattle.std.specs.Str.{bytes_eq}
-use Rattle.json.specs.Json.{value}
-use Rattle.json.specs.Token.{Token}
-use Rattle.json.specs.declared.reader.Invalid.{Invalid}
-use Rattle.json_values.specs.Reading.{read_items, read_members, members_among}
-use Rattle.serde_json.specs.Data.{Data, Items, Members}
-use Rattle.serde_json.specs.Read.{of_json, converted}
-use Rattle.serde_json.specs.Events.{items_len}
-use Rattle.serde_json.specs.Find.{get_member}
-use Rattle.requests.specs.Run.{Asked}
-use Rattle.stop_handlers.specs.declared.Rule.{Rule}
-use Rattle.scenario_text.specs.declared.fields.Fields.{Fields}
-use Rattle.scenario_text.specs.declared.keys.Key.{Key}
-use Rattle.scenario_text.specs.declared.rules.RuleFields.{RuleFields}
+use Rattle.scenario_text.specs.CommonNames.{◌≡◌, ℕ, List, Option, Some, None, Result, Ok, Err, ⊤, ◌<◌, ◌≤◌, ℤ, pos, [], ◌∷◌, ◌++◌, Bool, false, length, codes, take, option_map, bytes_eq, value, Token}
+use Rattle.scenario_text.specs.CommonNames.{Invalid, read_items, read_members, members_among, Data, Items, Members, of_json, converted, items_len, get_member, Asked, Rule, Fields, Key, RuleFields}
+use Rattle.scenario_text.specs.CommonNames.{Fault, KeyError, Listed, ScenarioKey, RuleList, Stop, max_steps}
 use Rattle.scenario_text.specs.Fields.{Atom, atom_of, integer, word, name_in, items_of, required, optional, options_of, mask_of, set_of, flags_of, ◌>>=◌}
-use Rattle.scenario_text.specs.Keys.{◌∪◌, key_set}
-use Rattle.scenario_text.specs.Names.{op_named, disposition_named, act_named, call_named, request_named, decision_named}
-use Rattle.scenario_text.specs.Rules.{some_signal, pass_in, rules_of}
-use Rattle.scenario_text.specs.Steps.{user_in}
-use Rattle.scenario_text.specs.declared.fault.Fault.{Fault}
-use Rattle.scenario_text.specs.declared.fields.KeyError.{KeyError}
-use Rattle.scenario_text.specs.declared.listing.Listed.{Listed}
-use Rattle.scenario_text.specs.declared.parsing.ScenarioKey.{ScenarioKey}
-use Rattle.scenario_text.specs.declared.rules.RuleList.{RuleList}
-use Rattle.scenario_text.specs.declared.stop.Stop.{Stop}
-use Rattle.scenario_text.specs.Plan.{max_steps}
-use Rattle.scenario_text.specs.Scenarios.{at_step, steps_from}
+use Rattle.scenario_text.specs.{Keys.◌∪◌, Keys.key_set, Steps.user_in, Scenarios.at_step, Scenarios.steps_from}
+use Rattle.scenario_text.specs.{Names.op_named, Names.disposition_named, Names.act_named, Names.call_named, Names.request_named, Names.decision_named, Rules.some_signal, Rules.pass_in, Rules.rules_of}
 use Rattle.scenario_text.specs.declared.keys.Key.TheVariants as key
 use Rattle.scenario_text.specs.declared.keys.TheConstants.Keys as keys
 use Rattle.scenario_text.specs.declared.parsing.ScenarioKey.TheVariants as scenario_key
