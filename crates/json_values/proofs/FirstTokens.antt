@@ -21,31 +21,13 @@ pub no_token : (ts : List Token) → ts ≡ [] → (depth : ℕ) → converted o
 no_token ts e depth = ap (λ x. converted of_json (value depth x)) e ∙ ap (converted of_json) (value_is depth [])
 
 pub string_scalar : (s : Bor (List ℕ)) (ts left : List Token) → ts ≡ Token.string s.now ∷ left → IsScalar (scalar.Text s) ts left
-string_scalar s ts left e = record {
-  value = string s.now;
-  read = λ depth. at_token ts (Token.string s.now) left depth e ∙ ap (converted of_json) (value_is depth (Token.string s.now ∷ left));
-  says = record { integer = refl; text = refl };
-  no_array = refl;
-  no_object = refl;
-}
+string_scalar s ts left e = grind (arith, nat_tests, at_token, value_is)
 
 pub boolean_scalar : (b : Bool) (ts left : List Token) → ts ≡ Token.boolean b ∷ left → IsScalar scalar.Other ts left
-boolean_scalar b ts left e = record {
-  value = boolean b;
-  read = λ depth. at_token ts (Token.boolean b) left depth e ∙ ap (converted of_json) (value_is depth (Token.boolean b ∷ left));
-  says = record { integer = refl; text = refl };
-  no_array = refl;
-  no_object = refl;
-}
+boolean_scalar b ts left e = grind (arith, nat_tests, at_token, value_is)
 
 pub null_scalar : (ts left : List Token) → ts ≡ Token.null ∷ left → IsScalar scalar.Other ts left
-null_scalar ts left e = record {
-  value = null;
-  read = λ depth. at_token ts Token.null left depth e ∙ ap (converted of_json) (value_is depth (Token.null ∷ left));
-  says = record { integer = refl; text = refl };
-  no_array = refl;
-  no_object = refl;
-}
+null_scalar ts left e = grind (arith, nat_tests, at_token, value_is)
 
 pub number_scalar : (s : Scalar) (text : List ℕ) (ts left : List Token) → ts ≡ Token.number text ∷ left → IsNumber s (number_of text) → IsScalar s ts left
 number_scalar s text ts left e (n, is, says) = grind (arith, nat_tests, at_token, value_is)
@@ -84,3 +66,9 @@ module _ (depth : ℕ) (o : Opening) (ts left : List Token) (deep : 0 < depth) (
 -- a number that is an integer is said by it
 pub integer_number : (z : ℤ) (read : Option Num) → option_and_then as_i64 read ≡ Some z → IsNumber (scalar.Integer z) read
 integer_number z read e = grind (arith, nat_tests, none-some)
+
+-- what a first token says of a value
+pub ruleset first_tokens = (nat_tests, no_token, string_scalar, number_scalar, other_scalar)
+
+-- what is known once a value is passed over
+pub ruleset passed_over = (nat_tests, too_deep, passed_array, failed_array, passed_object, failed_object)

@@ -54,3 +54,8 @@ pass_item p n ts r d some going was = grind (arith, nat_tests, what_was_read (p 
 pub pass_member : (p : Parse json.Json) (found : Members) (n : ℕ) (k : List ℕ) (ts after r : List Token) (d : Data) → 0 < n → read_key ts ≡ Some (Some k, after) → converted of_json (p after) ≡ Some (d, r)
     → converted (λ ms. of_members ms found) (members p n ts) ≡ converted (λ ms. of_members ms (put k d found)) (members p (n - 1) r)
 pass_member p found n k ts after r d some key was = grind (arith, nat_tests, what_was_read, next_member)
+
+-- items that are passed over, and members
+pub ruleset items_passed = (nat_tests, pass_item, next_item_fails, last_item)
+
+pub ruleset members_passed = (nat_tests, no_key, next_member_fails, last_member)

@@ -129,13 +129,6 @@ bad_word t p h e = stray_lexeme t p (token bad) h e refl refl
 
 -- ---- the cases of the first lexeme
 
-abbrev is_operator_class : Class → Bool
-is_operator_class quote = false
-is_operator_class backslash = false
-is_operator_class operator = true
-is_operator_class space = false
-is_operator_class other = false
-
 module _ (t : List ℕ) (P : List Lexeme → Type 0) (end : is_blank (class (head t)) ≡ true → P (lex between t)) (text : (o : Option (List ℕ)) → P (token (string_token o) ∷ behind t))
     (words : (w : Token) → IsWord w → P (token w ∷ behind t)) (opening : (w : Token) → (w ≡ begin_object) ⊎ (w ≡ begin_array) → P (token w ∷ behind t)) (object : head t ≡ 125 → P (token end_object ∷ behind t))
     (array : head t ≡ 93 → P (token end_array ∷ behind t)) (at_colon : head t ≡ 58 → P (colon ∷ behind t)) (at_comma : head t ≡ 44 → P (comma ∷ behind t)) where
@@ -215,3 +208,6 @@ refused p next t r none h = subst (λ q. Yields (tokens_at p t) r (tokens_at q t
 
 pub on_some : {T : Type 0} (A B : Type 0) (P Q : T → Type 0) (r : Option T) → is_some r ≡ true → MatchOption r A P → ((x : T) → P x → Q x) → MatchOption r B Q
 on_some A B P Q r some h f = grind (arith, nat_tests, false≢true)
+
+-- the first token, by the byte that the text begins with
+pub ruleset at_bytes = (nat_tests, at_operator, a_key, no_string, bad_word, at_word)

@@ -43,3 +43,5 @@ run_through d i room none = grind (arith, nat_tests, chunk i 16 d, split d i, le
 
 pub run_stops : (d : List ℕ) (i : ℕ) → i + 16 ≤ length d → 0 < mask_l (map is_stop (chunk i 16 d)) → prefix_len is_plain (drop i d) ≡ count_trailing_zeros 64 (mask_l (map is_stop (chunk i 16 d)))
 run_stops d i room some = search (rules, chunk, split, ne_eqb, all_plain, trailing_mask_l, length-chunk)
+
+pub ruleset runs = (nat_tests, run_through, run_stops)

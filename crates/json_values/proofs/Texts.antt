@@ -164,3 +164,8 @@ module _ (d : List ℕ) (from end value : ℕ) (minus : get_or d from 32 ≡ 45)
 
   pub negative_value : option_and_then as_i64 (number_of (piece d from end)) ≡ Some (neg_ℤ (pos value))
   negative_value = grind (arith, nat_tests, integer_of-negative, signed, some_digits)
+
+-- what is read at a place, and what stands behind it
+pub ruleset strings_read = (nat_tests, head_at, no_content, string_content, past_string)
+
+pub ruleset numbers_read = (nat_tests, past_number, number_at)

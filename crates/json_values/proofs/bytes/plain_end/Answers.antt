@@ -2,12 +2,6 @@ use Rattle.json_values.proofs.CommonNames.{nat_tests, drop, sym, ap, ◌∙◌, 
 use Rattle.json_values.proofs.Runs.{run_stops, run_through}
 use Rattle.json_values.proofs.bytes.plain_end.Goals as goal
 
-pub returns-then-found-eq0-clause-value : goal.returns-then-found-eq0-clause-value
-returns-then-found-eq0-clause-value c = grind (arith, nat_tests, run_through)
-
-pub returns-clause-value : goal.returns-clause-value
-returns-clause-value c = grind (arith, nat_tests, run_stops)
-
 pub returns-clause-bound : goal.returns-clause-bound
 returns-clause-bound c =
     let d = c.args.bytes.now in

@@ -8,6 +8,3 @@ returns-then-has_minus c =
     let s = c.as_bytes-bytes.result.now in
     let parts : c.scan.result ≡ scan (drop 1 s) = c.scan.ensures.parts ∙ ap scan (take_all _ (drop 1 s) (omega (arith, length-drop 1 s))) in
     ap (number_from true) parts ∙ with_minus s c.if-has_minus.ensures ∙ ap number_of c.as_bytes-bytes.ensures.value
-
-pub returns-else-has_minus : goal.returns-else-has_minus
-returns-else-has_minus c = grind (arith, nat_tests, without_minus)

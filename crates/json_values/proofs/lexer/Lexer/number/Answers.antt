@@ -11,6 +11,3 @@ range-requires-clause-start_boundary c some =
     let kind : class (get_or d a.at 32) ≡ other = ap class (sym (head_at d a.at) ∙ ap head c.self.view_is) ∙ c.requires in
     let within = solid_at d a.at (ap is_blank kind) in
     IsCharBoundary-before_ascii d a.at within (omega (arith, small, get_or_default d a.at 0 32 within))
-
-pub returns-clause-after : goal.returns-clause-after
-returns-clause-after c good = grind (arith, nat_tests, past_number, number_at)
