@@ -1,8 +1,7 @@
 -- An array or an object that is read an item or a member at a time, with the data that is read from each.
 use Rattle.json_values.proofs.CommonNames.{nat_tests, ◌≡◌, ℕ, ◌-◌, ◌<◌, ◌≤◌, List, length, Option, Some, None, ap, ◌∙◌, arith, Token, Parse, parse_map, after_end_array, read_key, left, left-parse_map}
 use Rattle.json_values.proofs.CommonNames.{items_end, items_fail, items_more, members_end, members_fail, members_more, members_no_key, Data, array, object, no_items, item, Members, no_members, put}
-use Rattle.json_values.proofs.CommonNames.{of_json, of_items, of_members, converted}
-use Rattle.json.specs.Json.{items, members}
+use Rattle.json_values.proofs.CommonNames.{of_json, of_items, of_members, converted, items, members}
 use Rattle.json.specs.Json as json
 
 pub read_array : (o : Option (json.Items × List Token)) → converted of_json (parse_map json.array o) ≡ parse_map array (converted of_items o)

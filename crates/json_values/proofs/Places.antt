@@ -1,13 +1,10 @@
 -- The first token, by the first byte of the text.
 use Rattle.json_values.proofs.CommonNames.{nat_tests, ◌≡◌, ◌≢◌, ℕ, Bool, true, false, cond, List, [], ◌∷◌, drop, Option, Some, None, refl, sym, ap, ◌∙◌, subst, arith, true≢false, false≢true, eqb-true}
-use Rattle.json_values.proofs.CommonNames.{is_some, Token, begin_object, end_object, begin_array, end_array, key, string, number, boolean, null, bad, content, plain, head, Lexeme, token, comma, colon}
-use Rattle.json_values.proofs.CommonNames.{Class, quote, backslash, operator, space, other, class, operator_lexeme, string_token, between, fresh, after_value, after_comma, begins_colon, if_allowed}
-use Rattle.json_values.proofs.CommonNames.{place_token, is_blank, is_good, after_end_array, token_of, Yields, Ends, may_begin, may_close, refused_at, tokens_at, NotBeforeComma, ◌⊎◌, inl, inr}
-use Rattle.std.specs.Prelude.{⊤, MatchOption}
-use Rattle.json.specs.Word.{word}
-use Rattle.json.specs.Lex.{lex, punctuate}
-use Rattle.json_values.specs.declared.plain.Place.{Place}
-use Rattle.json_values.specs.declared.plain.Place.TheVariants.{Fresh, AfterValue, AfterComma, Failed}
+use Rattle.json_values.proofs.CommonNames.{is_some, Token, begin_object, end_object, begin_array, end_array, key, number, bad, content, plain, head, Lexeme, token, comma, colon, Class, quote}
+use Rattle.json_values.proofs.CommonNames.{backslash, operator, space, other, class, operator_lexeme, string_token, between, fresh, after_value, after_comma, begins_colon, if_allowed, place_token}
+use Rattle.json_values.proofs.CommonNames.{is_blank, is_good, after_end_array, token_of, Yields, Ends, may_begin, may_close, refused_at, tokens_at, NotBeforeComma, ◌⊎◌, inl, inr, ⊤, MatchOption, word}
+use Rattle.json_values.proofs.CommonNames.{lex, punctuate, Place, Fresh, AfterValue, AfterComma, Failed}
+use Rattle.json.specs.Token.{string, boolean, null}
 use Rattle.json.specs.Lex as lexer
 use Rattle.json.specs.declared.token.Token as read
 

@@ -1,14 +1,6 @@
 -- How deep a reply's object nests.
-use Rattle.std.proofs.Common.{◌≡◌, ℕ, ◌≤◌, max, List, [], ◌∷◌, ◌++◌, arith}
-use Rattle.json.specs.Json.{max_depth}
-use Rattle.json.specs.Tree.{depth, members_depth}
-use Rattle.lwpinfo.specs.declared.LwpInfo.{LwpInfo}
-use Rattle.wait4.specs.declared.StatusKind.{StatusKind}
-use Rattle.stop_handlers.specs.declared.Decision.{Decision}
-use Rattle.stop_handlers.specs.declared.StopView.{StopView}
-use Rattle.requests.specs.declared.Reply.{Reply}
-use Rattle.reply_json.specs.Objects.{Member, members_of, object_of, numbers_of, strings_of}
-use Rattle.reply_json.specs.Replies.{reply_members, reply_value, status_members, decision_members, view_members, info_members}
+use Rattle.reply_json.proofs.CommonNames.{◌≡◌, ℕ, ◌≤◌, max, List, [], ◌∷◌, ◌++◌, arith, max_depth, depth, members_depth, LwpInfo, StatusKind, Decision, StopView, Reply, Member, members_of, object_of}
+use Rattle.reply_json.proofs.CommonNames.{numbers_of, strings_of, reply_members, reply_value, status_members, decision_members, view_members, info_members}
 
 -- how deep members nest
 abbrev level : List Member → ℕ

@@ -80,9 +80,11 @@ reply_parts (reply.Info i) = (codes "info", info_members i)
 reply_parts (reply.Lwps tids) = (codes "lwps", (codes "lwps", numbers_of tids) ∷ [])
 reply_parts (reply.Pids pids) = (codes "pids", (codes "pids", numbers_of pids) ∷ [])
 reply_parts (reply.Mask mask) = (codes "mask", (codes "events", strings_of (names_of event_table mask.0)) ∷ [])
-reply_parts (reply.Handled pid status view index decision) =
-    (codes "handled", (codes "pid", natural pid) ∷ (word_members (word status) status
-    ++ ((codes "at", object_of (view_members view)) ∷ (codes "by", index_of index) ∷ decision_members decision)))
+reply_parts (reply.Handled pid status view index decision) = (
+  codes "handled",
+  (codes "pid", natural pid) ∷ (word_members (word status) status
+      ++ ((codes "at", object_of (view_members view)) ∷ (codes "by", index_of index) ∷ decision_members decision)),
+)
 reply_parts (reply.Stopped tid sig flags) = (codes "stopped", (codes "lwp", natural tid) ∷ (signal_members sig ++ (flags_of flags ∷ [])))
 reply_parts (reply.Caught sig) = (codes "caught", signal_members sig)
 reply_parts (reply.Ended w) = (codes "ended", word_members w (ended w))

@@ -1,8 +1,7 @@
 -- One more step with its handler.
 use Rattle.scenario.proofs.CommonNames.{⊤, ◌≡◌, ℕ, ◌+◌, ◌<◌, ◌≤◌, List, [], ◌∷◌, ◌++◌, length, get_or, map, drop, Option, Some, None, sym, ap, subst, ◌∙◌, append-nil, arith, at_drop_all, at_drop_more}
 use Rattle.scenario.proofs.CommonNames.{length-append, Rule, Step, Reply, Steps, Machine, Makes, PlainStep, with_handler, Asked, map-push, asked, filled, first_policy, policies_after, policies_in}
-use Rattle.scenario.proofs.CommonNames.{policy_before, step_with, IsBound, left_after}
-use Rattle.std.proofs.Common.{append_assoc}
+use Rattle.scenario.proofs.CommonNames.{policy_before, step_with, IsBound, left_after, append_assoc}
 
 -- the steps from place i on, of which x is the first, with the policies from there on
 module _ (ss : List (ℕ × Step ⊤)) (i : ℕ) (x : ℕ × Step ⊤) (ps qs : List (List Rule)) (h : i < length ss) (here : get_or ss i x ≡ x) where

@@ -1,8 +1,7 @@
 -- One more line, and one more reply of a user.
 use Rattle.scenario.proofs.CommonNames.{◌≡◌, ℕ, ◌+◌, ◌-◌, ◌<◌, ◌≤◌, ◌==◌, Bool, cond, List, [], ◌∷◌, ◌++◌, length, get_or, map, drop, Option, Some, None, count_by, replicate, refl, sym, ap, ◌∙◌}
 use Rattle.scenario.proofs.CommonNames.{arith, set, at_drop_more, length-set, get_or-set_same, get_or-set_other, get_or-replicate, get_or_past, count_by-le-length, sum_by-cons, nat_tests, Reply}
-use Rattle.scenario.proofs.CommonNames.{Answered, Line, line, lines_after, lines_of, shown_line, text_of, answered, shown, Style}
-use Rattle.std.proofs.lemmas.List.{append_assoc}
+use Rattle.scenario.proofs.CommonNames.{Answered, Line, line, lines_after, lines_of, shown_line, text_of, answered, shown, Style, append_assoc}
 
 -- how many replies went to the user
 abbrev pub replies_to : ℕ → List ℕ → ℕ

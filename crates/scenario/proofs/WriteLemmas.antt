@@ -1,6 +1,6 @@
 -- One write after another.
-use Rattle.scenario.proofs.CommonNames.{◌≡◌, ℕ, ◌-◌, List, [], ◌++◌, length, take, drop, Option, ap, ◌∙◌, arith, Appends, Keeps, take-append-drop, length-drop, take-append_seam, take-length, Result, WriteAppends}
-use Rattle.std.proofs.lemmas.List.{append_assoc}
+use Rattle.scenario.proofs.CommonNames.{◌≡◌, ℕ, ◌-◌, List, [], ◌++◌, length, take, drop, Option, ap, ◌∙◌, arith, Appends, Keeps, take-append-drop, length-drop, take-append_seam, take-length, Result}
+use Rattle.scenario.proofs.CommonNames.{WriteAppends, append_assoc}
 
 pub appends_more : (a b c : Option (List ℕ)) (xs ys : List ℕ) → Appends a b xs → Appends b c ys → Appends a c (xs ++ ys)
 appends_more a b c xs ys p q = grind (arith, append_assoc {A = ℕ})

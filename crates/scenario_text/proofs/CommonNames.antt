@@ -1,6 +1,6 @@
 -- The names that proofs speak by: those of the libraries, and of this crate's definitions.
-pub use Rattle.std.proofs.Common.{Bool, Equal, Err, Greater, IfOk, IfSome, Less, List, None, Ok, Option, Ordering, Result, Some, [], ap, ap₂, arith, bit_or, false, inl, inr, is_eq, length, map}
-pub use Rattle.std.proofs.Common.{nat_cmp, nat_lt, refl, rules, subst, sym, take, true, vec_len, ℕ, ℤ, ◌++◌, ◌+◌, ◌-◌, ◌<◌, ◌∙◌, ◌∷◌, ◌≡◌, ◌≤◌, ◌⊎◌}
+pub use Rattle.std.proofs.Common.{Bool, Equal, Err, Greater, IfOk, Less, List, None, Ok, Option, Ordering, Result, Some, [], ap, ap₂, arith, bit_or, false, inl, inr, is_eq, length, map, nat_cmp, refl}
+pub use Rattle.std.proofs.Common.{rules, subst, sym, take, true, vec_len, ℕ, ℤ, ◌++◌, ◌+◌, ◌-◌, ◌<◌, ◌∙◌, ◌∷◌, ◌≡◌, ◌≤◌, ◌⊎◌}
 pub use Rattle.std.proofs.{Math.Path.fun_ext, lemmas.Bool.cases_Bool, lemmas.Bool.cases_lt, lemmas.Bool.Decides.nat_tests, lemmas.Map.Text.is_eq-slice_cmp, lemmas.Slice.Eq.bytes_eq-Decides}
 pub use Rattle.std.proofs.{lemmas.List.append-nil, lemmas.List.append_assoc, lemmas.List.length-append, lemmas.List.length-take, lemmas.Nat.Bits.bit_at_or, lemmas.Nat.Bits.same_from_bits}
 pub use Rattle.std.specs.{Cmp.Lexicographic.slice_cmp, Io.KnownBytes.Consumes, Io.KnownBytes.Keeps, Io.KnownBytes.ReadConsumes, Ordering.match_ordering, Prelude.if◌then◌else◌, Prelude.⊤, Str.bytes_eq}
@@ -16,10 +16,11 @@ pub use Rattle.serde_json.specs.{Events.items_len, Read.converted, Read.of_items
 pub use Rattle.stop_handlers.specs.declared.Rule.{Rule}
 pub use Rattle.trace_stop.specs.declared.Settings.{Settings}
 pub use Rattle.scenario_text.specs.Plan.{Plan, asked, filled, first_policy, max_steps, policies_after, policies_in, policy_before, step_with, user_and_step}
-pub use Rattle.scenario_text.specs.Scenarios.{Answers, IsFront, StandsFor, Takes, Tells, Yields, head_of, head_settings, no_value, numbered, plan_of, steps_from, too_long}
 pub use Rattle.scenario_text.specs.Streams.{AreRead, IsListOf, IsNamed, StepsAre, pushed, rules_taken, taken, with_named, with_named_rule}
-pub use Rattle.scenario_text.specs.declared.fault.Fault.TheVariants.{BadShape, Memory, Read, TooManySteps}
 pub use Rattle.scenario_text.specs.{Fields.Gives, Fields.atom_in, Fields.atom_of, Fields.each, Fields.gather, Fields.integer, Fields.items_of, Fields.seen, Fields.◌>>=◌, declared.fault.Fault.Fault}
 pub use Rattle.scenario_text.specs.{Keys.key_named, Keys.key_rows, Keys.keys_in, Keys.set_named, Keys.◌∪◌, Rules.policy_of, Rules.rule_fields_by, Rules.rule_fields_in, Rules.rule_from, Rules.rule_of}
 pub use Rattle.scenario_text.specs.{Names.named, OneStep.AnswersBy, OneStep.IsStep, Steps.fields_by, Steps.fields_in, Steps.step_from, Steps.step_of, declared.fields.KeyError.TheVariants.TooManyRules}
-pub use Rattle.scenario_text.specs.{declared.fields.KeyError.KeyError, declared.keys.Keys.Keys, declared.listing.Listed.Listed, declared.rules.RuleList.RuleList}
+pub use Rattle.scenario_text.specs.Scenarios.{StandsFor, Takes, Yields, head_settings, no_value, numbered, steps_from, too_long}
+pub use Rattle.scenario_text.specs.{declared.fault.Fault.TheVariants.BadShape, declared.fault.Fault.TheVariants.Memory, declared.fault.Fault.TheVariants.TooManySteps, declared.rules.RuleList.RuleList}
+pub use Rattle.scenario_text.specs.{declared.fields.KeyError.KeyError, declared.keys.Keys.Keys, declared.listing.Listed.Listed}
+unfoldable pub use Rattle.scenario_text.specs.Scenarios.{head_of, plan_of}

@@ -1,7 +1,7 @@
 -- The rules and the steps of an array, so far.
-use Rattle.scenario_text.proofs.CommonNames.{◌≡◌, ◌+◌, ◌<◌, ◌≤◌, List, [], ◌∷◌, ◌++◌, length, Result, Ok, Err, nat_lt, ℕ, true, false, inl, inr, refl, sym, ap, ◌∙◌, arith, cases_lt, nat_tests}
-use Rattle.scenario_text.proofs.CommonNames.{append_assoc, append-nil, Data, Items, no_items, item, items_len, Asked, Rule, Fault, KeyError, TooManyRules, Listed, RuleList, ◌>>=◌, each, IsListOf}
-use Rattle.scenario_text.proofs.CommonNames.{pushed, rules_taken, taken, max_steps, rule_of, policy_of, steps_from}
+use Rattle.scenario_text.proofs.CommonNames.{◌≡◌, ◌+◌, ◌<◌, ◌≤◌, List, [], ◌∷◌, ◌++◌, length, Result, Ok, Err, ℕ, refl, sym, ◌∙◌, arith, cases_lt, nat_tests, append_assoc, append-nil, Data, Items}
+use Rattle.scenario_text.proofs.CommonNames.{no_items, item, items_len, Asked, Rule, Fault, KeyError, TooManyRules, Listed, RuleList, ◌>>=◌, each, IsListOf, pushed, rules_taken, taken, max_steps}
+use Rattle.scenario_text.proofs.CommonNames.{rule_of, policy_of, steps_from}
 
 -- the results before these, and one before those
 none_before : {X E : Type 0} (r : Result (List X) E) → r ≡ (r >>= (λ xs. Ok ([] ++ xs)))

@@ -1,5 +1,5 @@
-use Rattle.json_values.proofs.CommonNames.{nat_tests, drop, sym, ap, ◌∙◌, arith, length-drop, prefix_len-le-length, count_trailing_zeros, is_plain}
-use Rattle.json_values.proofs.Runs.{run_stops, run_through}
+use Rattle.json_values.proofs.CommonNames.{drop, sym, ap, ◌∙◌, arith, prefix_len-le-length, count_trailing_zeros, is_plain, length-drop}
+use Rattle.json_values.proofs.Runs.{run_stops}
 use Rattle.json_values.proofs.bytes.plain_end.Goals as goal
 
 pub returns-clause-bound : goal.returns-clause-bound

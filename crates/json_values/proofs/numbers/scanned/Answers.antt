@@ -1,6 +1,5 @@
-use Rattle.json_values.proofs.CommonNames.{nat_tests, ◌≡◌, drop, true, ap, ◌∙◌, arith, take_all, scan, number_of, number_from}
-use Rattle.std.proofs.Common.{length-drop}
-use Rattle.json_values.proofs.NumberTexts.{with_minus, without_minus}
+use Rattle.json_values.proofs.CommonNames.{◌≡◌, drop, true, ap, ◌∙◌, arith, take_all, scan, number_of, number_from, length-drop}
+use Rattle.json_values.proofs.NumberTexts.{with_minus}
 use Rattle.json_values.proofs.numbers.scanned.Goals as goal
 
 pub returns-then-has_minus : goal.returns-then-has_minus

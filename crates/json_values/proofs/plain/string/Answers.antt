@@ -1,5 +1,6 @@
-use Rattle.json_values.proofs.CommonNames.{nat_tests, ◌∷◌, sym, ap, ◌∙◌, arith, string, is_blank, after_value, begins_colon, class, punctuate}
-use Rattle.json_values.proofs.Places.{a_key, a_string, at_operator, no_colon, no_string}
+use Rattle.json_values.proofs.CommonNames.{◌∷◌, sym, ap, ◌∙◌, is_blank, after_value, begins_colon, class, punctuate}
+use Rattle.json.specs.Token.{string}
+use Rattle.json_values.proofs.Places.{a_string, no_colon}
 use Rattle.json_values.proofs.plain.string.Goals as goal
 
 pub returns-else-peek-eq58-clause-value : goal.returns-else-peek-eq58-clause-value

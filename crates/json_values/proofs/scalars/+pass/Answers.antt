@@ -1,7 +1,9 @@
 use Rattle.json_values.proofs.CommonNames.{nat_tests, ◌≡◌, ◌-◌, length, Some, refl, ◌∙◌, arith, read_key, value, read_key-shorter, no_members}
-use Rattle.json_values.proofs.FirstTokens.{too_deep, passed_array, failed_array, passed_object, failed_object}
-use Rattle.json_values.proofs.Loops.{last_item, last_member, next_item_fails, next_member_fails, no_key, pass_item, pass_member}
+use Rattle.json_values.proofs.Loops.{pass_item, pass_member}
 use Rattle.json_values.proofs.scalars.+pass.Goals as goal
+
+pub pass_items-loop-reader-preserved : goal.pass_items-loop-reader-preserved
+pass_items-loop-reader-preserved t c = grind (arith, nat_tests, pass_item)
 
 pub pass_members-loop-reader-init : goal.pass_members-loop-reader-init
 pass_members-loop-reader-init t c = (length c.args.reader.now, no_members, omega arith, refl, omega arith)

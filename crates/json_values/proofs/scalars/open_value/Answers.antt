@@ -1,6 +1,5 @@
-use Rattle.json_values.proofs.CommonNames.{nat_tests, ◌≡◌, ℕ, ◌∷◌, None, ap, ◌∙◌, arith, rules, value, token_of, value_is, of_json, converted}
-use mir.Val.{SFits}
-use Rattle.json_values.proofs.FirstTokens.{no_token, string_scalar, integer_number, number_scalar, other_scalar, number_beyond}
+use Rattle.json_values.proofs.CommonNames.{nat_tests, ◌≡◌, ℕ, ◌∷◌, None, ap, ◌∙◌, arith, rules, value, token_of, value_is, of_json, converted, SFits}
+use Rattle.json_values.proofs.FirstTokens.{integer_number, number_scalar, number_beyond}
 use Rattle.json_values.proofs.scalars.open_value.Goals as goal
 
 pub returns-in_err-number_scalar-in-Number-clause-invalid : goal.returns-in_err-number_scalar-in-Number-clause-invalid

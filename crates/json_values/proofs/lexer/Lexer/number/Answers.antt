@@ -1,5 +1,5 @@
-use Rattle.json_values.proofs.CommonNames.{nat_tests, ◌≡◌, ◌<◌, drop, get_or, Some, sym, ap, ◌∙◌, subst, arith, class, other, is_blank, after_number, head, get_or_default, IsCharBoundary-before_ascii}
-use Rattle.json_values.proofs.Texts.{first_of_number, head_at, number_at, past_number, solid_at}
+use Rattle.json_values.proofs.CommonNames.{◌≡◌, ◌<◌, drop, get_or, Some, sym, ap, ◌∙◌, subst, arith, class, other, is_blank, after_number, head, get_or_default, IsCharBoundary-before_ascii}
+use Rattle.json_values.proofs.Texts.{first_of_number, head_at, solid_at}
 use Rattle.json_values.proofs.lexer.Lexer.number.Goals as goal
 
 pub range-requires-clause-start_boundary : goal.range-requires-clause-start_boundary

@@ -1,5 +1,5 @@
-use Rattle.json_values.proofs.CommonNames.{nat_tests, ◌≡◌, ◌<◌, get_or, sym, ap, ◌∙◌, arith, get_or_default, IsCharBoundary-after_ascii, head}
-use Rattle.json_values.proofs.Texts.{head_at, no_content, past_string, string_content, within_at}
+use Rattle.json_values.proofs.CommonNames.{◌≡◌, ◌<◌, get_or, sym, ap, ◌∙◌, arith, get_or_default, IsCharBoundary-after_ascii, head}
+use Rattle.json_values.proofs.Texts.{head_at, within_at}
 use Rattle.json_values.proofs.lexer.Lexer.string.Goals as goal
 
 pub range-requires-clause-start_boundary : goal.range-requires-clause-start_boundary
