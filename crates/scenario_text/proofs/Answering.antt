@@ -1,6 +1,6 @@
 -- From the plan of a value to the scenario of the bytes.
-use Rattle.scenario_text.proofs.CommonNames.{◌≡◌, List, ℕ, Result, Err, Option, ◌≤◌, ◌+◌, ◌++◌, length, sym, subst, arith, length-append, append_assoc, Consumes, Fault, Keeps, ReadConsumes, Memory}
-use Rattle.scenario_text.proofs.CommonNames.{Gives, AnswersBy, Plan, StandsFor, too_long, no_value, Takes}
+use Rattle.scenario_text.proofs.CommonNames.{◌≡◌, refl, ap, List, ℕ, Result, Err, Option, ◌≤◌, ◌+◌, ◌++◌, length, sym, subst, arith, length-append, append_assoc, Consumes, Fault, Keeps, ReadConsumes}
+use Rattle.scenario_text.proofs.CommonNames.{Memory, Gives, AnswersBy, Plan, StandsFor, too_long, no_value, Takes}
 use Rattle.scenario_text.specs.Scenarios.{value}
 
 pub answers_by : {X Y : Type 0} (view : X → Y) (P : Result Y Fault → Type 0) (r : Result X Fault) (q : Result Y Fault) → Gives view r q → P q → AnswersBy view r P
@@ -11,7 +11,15 @@ answers_by view P r q is p = subst P (sym is) p
 pub ruleset stands = (too_long, no_value, value, length-append)
 
 pub one : (bytes : List ℕ) (r q : Result Plan Fault) → StandsFor bytes r → StandsFor bytes q → r ≡ q
-one bytes r q s t = grind arith
+one bytes r q (too_long h) (too_long k) = refl
+one bytes r q (too_long h) (no_value s k) = absurd (omega arith)
+one bytes r q (too_long h) (value d s k) = absurd (omega arith)
+one bytes r q (no_value s h) (too_long k) = absurd (omega arith)
+one bytes r q (no_value s h) (no_value t k) = refl
+one bytes r q (no_value s h) (value d t k) = let no = h k.0 in let yes = k.1 in cc
+one bytes r q (value d s h) (too_long k) = absurd (omega arith)
+one bytes r q (value d s h) (no_value t k) = let no = k h.0 in let yes = h.1 in cc
+one bytes r q (value d s h) (value e t k) = let a = h.1 in let b = k.1 in let same : d ≡ e = cc in ap plan_of same
 
 -- what two reads lost one after the other
 pub takes_more : (a b c : Option (List ℕ)) (xs ys : List ℕ) (n : ℕ) → Consumes a b xs → Consumes b c ys → length xs + length ys ≤ n → Takes a c n

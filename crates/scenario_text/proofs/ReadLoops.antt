@@ -1,7 +1,7 @@
 -- Items and members that are read one after another, compared with their array and their object.
 use Rattle.scenario_text.proofs.CommonNames.{◌≡◌, ℕ, ℤ, ◌-◌, ◌<◌, ◌≤◌, List, ◌∷◌, length, Option, Some, None, Result, Ok, Err, refl, ap, ap₂, ◌∙◌, arith, Token, begin_array, begin_object, items}
-use Rattle.scenario_text.proofs.CommonNames.{members, parse_map, after_end_array, read_key, read_key-shorter, left_some, Data, array, object, Items, item, Members, no_members, put, of_json, of_items}
-use Rattle.scenario_text.proofs.CommonNames.{of_members, converted, Says, read_items, read_members, Scalar, array_value, object_value, next_item, last_item, next_item_fails, next_member_fails, no_key}
+use Rattle.scenario_text.proofs.CommonNames.{members, parse_map, after_end_array, read_key, read_key-shorter, Data, array, object, Items, item, Members, no_members, put, of_json, of_items, of_members}
+use Rattle.scenario_text.proofs.CommonNames.{converted, Says, read_items, read_members, Scalar, array_value, object_value, next_item, last_item, next_item_fails, next_member_fails, no_key}
 use Rattle.scenario_text.proofs.CommonNames.{pass_member, last_member, what_was_read, ◌>>=◌, atom_in, atom_of}
 use Rattle.json.specs.Json.{value}
 
@@ -69,7 +69,7 @@ value_in_array depth left deep = array_value depth _ left deep refl
 pub value_in_object : (depth : ℕ) (left : List Token) → 0 < depth → converted of_json (value depth (begin_object ∷ left)) ≡ parse_map object (read_members (depth - 1) left)
 value_in_object depth left deep = object_value depth _ left deep refl
 
-pub ruleset opened = (value_in_array, value_in_object, left_some)
+pub ruleset opened = (value_in_array, value_in_object)
 
 -- what a scalar says of a value is its atom
 pub atom_is : (s : Scalar) (d : Data) → Says s d → atom_in s ≡ atom_of d
