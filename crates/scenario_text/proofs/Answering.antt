@@ -1,6 +1,6 @@
 -- From the plan of a value to the scenario of the bytes.
 use Rattle.scenario_text.proofs.CommonNames.{◌≡◌, refl, ap, List, ℕ, Result, Err, Option, ◌≤◌, ◌+◌, ◌++◌, length, sym, subst, arith, length-append, append_assoc, Consumes, Fault, Keeps, ReadConsumes}
-use Rattle.scenario_text.proofs.CommonNames.{Memory, Gives, AnswersBy, Plan, StandsFor, too_long, no_value, Takes}
+use Rattle.scenario_text.proofs.CommonNames.{Memory, Gives, plan_of, AnswersBy, Plan, StandsFor, too_long, no_value, Takes}
 use Rattle.scenario_text.specs.Scenarios.{value}
 
 pub answers_by : {X Y : Type 0} (view : X → Y) (P : Result Y Fault → Type 0) (r : Result X Fault) (q : Result Y Fault) → Gives view r q → P q → AnswersBy view r P
