@@ -7,11 +7,8 @@ pub use Rattle.event_masks.specs.Names.{names_of}
 pub use Rattle.json.proofs.Printed.Trees.{value-json_tokens}
 pub use Rattle.json.specs.{Json.Json, Json.document, Json.if_last, Json.max_depth, Json.string, Json.value, Tree.depth, Tree.items_tokens, Tree.json_tokens, Tree.members_depth, Tree.members_tokens}
 pub use Rattle.json.specs.{Lex.tokens, Print.print, Token.Token, Token.boolean, Token.end_object, Token.key, Value.items_of}
-pub use Rattle.lwpinfo.specs.declared.LwpInfo.{LwpInfo}
 pub use Rattle.requests.specs.declared.Reply.{Reply}
 pub use Rattle.signals.specs.{Names.Row, Names.signal_name, Sets.members, Table.is_signal}
 unfoldable pub use Rattle.signals.specs.Names.{table}
-pub use Rattle.stop_handlers.specs.{declared.Decision.Decision, declared.StopView.StopView}
-pub use Rattle.wait4.specs.declared.StatusKind.{StatusKind}
-pub use Rattle.reply_json.specs.Objects.{Member, json_text, member_tokens, members_of, natural, numbers_of, object_of, strings_of}
-pub use Rattle.reply_json.specs.Replies.{decision_members, info_members, refusal_value, reply_members, reply_value, status_members, view_members}
+pub use Rattle.reply_json.specs.Objects.{Member, json_text, member_tokens, members_of, natural, numbers_of, strings_of}
+pub use Rattle.reply_json.specs.Replies.{refusal_value, reply_members, reply_value}

@@ -1,6 +1,5 @@
 -- How deep a reply's object nests.
-use Rattle.reply_json.proofs.CommonNames.{◌≡◌, ℕ, ◌≤◌, max, List, [], ◌∷◌, ◌++◌, arith, max_depth, depth, members_depth, LwpInfo, StatusKind, Decision, StopView, Reply, Member, members_of, object_of}
-use Rattle.reply_json.proofs.CommonNames.{numbers_of, strings_of, reply_members, reply_value, status_members, decision_members, view_members, info_members}
+use Rattle.reply_json.proofs.CommonNames.{◌≡◌, ℕ, ◌≤◌, max, List, [], ◌∷◌, ◌++◌, arith, max_depth, depth, members_depth, Reply, Member, members_of, numbers_of, strings_of, reply_members, reply_value}
 
 -- how deep members nest
 abbrev level : List Member → ℕ

@@ -30,8 +30,6 @@ front_sliced a b c rest all n f q = rw (← length-drop n rest, take-length) (fr
 pub front_ended : (a b c : Option (List ℕ)) (rest all : List ℕ) → Front a b rest all → Appends b c [] → (n : ℕ) × Appends a c (take n all)
 front_ended a b c rest all f q = front_is a c rest all (front_more a b c rest all 0 f q)
 
-pub ruleset fronts = (front_sliced, front_ended, front_taken)
-
 -- a write after interrupted ones, which moved nothing
 pub writes_behind : {E : Type 0} → (a b c : Option (List ℕ)) (r : Result ℕ E) (buf : List ℕ) → Keeps a b → WriteAppends b c r buf → WriteAppends a c r buf
 writes_behind a b c r buf kept written = grind arith

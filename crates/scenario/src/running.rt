@@ -64,7 +64,7 @@ impl<T: Drop> From<AllocFailed<T>> for RunFault {
 }
 
 /// Makes the step on the host, an install with the next handler, and returns the reply.
-#[tactic(auto, using(crate::proofs::BindLemmas::needs_none, crate::proofs::BindLemmas::made_bound, crate::proofs::BindLemmas::nothing_made))]
+#[tactic(auto, using(crate::proofs::BindLemmas::needs_none))]
 fn reply_of<F: Decider + Send + Drop>(
     alloc: Global,
     host: &mut Host<F>,
@@ -121,7 +121,6 @@ fn text_of<F: Decider + Send + Drop>(
 }
 
 /// Writes all the bytes, or a front of them where the writer fails.
-#[tactic(auto, using(crate::proofs::WriteLemmas::fronts))]
 pub fn write_whole<W: Write>(writer: &mut W, bytes: &[u8]) -> Result<(), RunFault>
     ensures writes { Writes result (W.contents writer.old) (W.contents writer.new) bytes.now }
     ensures kind { IfErr result (λ e. e ≡ WriteFault) }
