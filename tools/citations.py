@@ -58,7 +58,8 @@ class Source:
             if alias:
                 self.aliases[alias] = module
             else:
-                self.names.update((name.strip(), module) for name in names.split(','))
+                paths = [f'{module}.{name.strip()}'.rpartition('.') for name in names.split(',')]
+                self.names.update((name, place) for place, _, name in paths)
 
 
 @cache

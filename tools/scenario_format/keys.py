@@ -2,6 +2,7 @@
 
 from __future__ import annotations
 
+from .rattle import rows
 from .tables import Format, NamedKey
 
 # what a value comes to by its kind: the parser's function, and the definition
@@ -40,10 +41,8 @@ def sets(form: Format) -> str:
 
 def name_rows(form: Format) -> str:
     """The rows of `key_named`, in crates/scenario_text/specs/Keys.antt"""
-    rows = [f'(codes "{key.name}", key.{key.variant})' for key in form.keys]
-    return "abbrev pub key_rows : List (List ℕ × Key)\nkey_rows =\n" + "".join(
-        f"    {'∷ ' if number else ''}{row}\n" for number, row in enumerate([*rows, "[]"])
-    ) + "\n"
+    table = rows([f'codes "{key.name}", key.{key.variant}' for key in form.keys])
+    return f"abbrev pub key_rows : List (List ℕ × Key)\nkey_rows =\n{table}\n\n"
 
 
 def set_rows(form: Format) -> str:
@@ -69,10 +68,10 @@ def set_definition(form: Format) -> str:
     def field(key: NamedKey) -> str:
         return "«data»" if key.name == "data" else key.name
 
-    rows = [
+    settings_of = [
         f"with_atom key.{key.variant} a f = record f {{ {field(key)} = {ATOMS[key.kind][1]} a }}\n" for key in atoms(form)
     ]
-    return "abbrev pub with_atom : Key → Atom → Fields → Fields\n" + "".join(rows) + "with_atom k a f = f\n\n"
+    return "abbrev pub with_atom : Key → Atom → Fields → Fields\n" + "".join(settings_of) + "with_atom k a f = f\n\n"
 
 
 def facts(form: Format, lemma: str) -> str:

@@ -61,24 +61,16 @@ def meaning(function: str, returns: str, module: str, entries: tuple[Entry, ...]
 
 def name_definitions(form: Format) -> str:
     """crates/scenario_text/specs/Names.antt"""
+    kinds = ["Op", "WaitOption", "ActKind", "CallKind", "DecisionKind"]
     own = "".join(
-        f"use Rattle.scenario_text.specs.declared.names.{name}.{{{name}}}\n"
         f"use Rattle.scenario_text.specs.declared.names.{name}.TheVariants as {module}\n"
-        for name, module in [
-            ("Op", "ops"),
-            ("WaitOption", "options"),
-            ("ActKind", "acts"),
-            ("CallKind", "calls"),
-            ("DecisionKind", "decisions"),
-        ]
+        for name, module in zip(kinds, ["ops", "options", "acts", "calls", "decisions"], strict=True)
     )
+    common = "ℕ, List, [], ◌∷◌, Option, Some, None, codes, if◌then◌else◌, bytes_eq, Disposition, Request"
     head = (
         f"-- The meaning of each name of a scenario. {WRITTEN}\n"
-        "use Rattle.std.specs.Prelude.{ℕ, List, [], ◌∷◌, Option, Some, None, codes, if◌then◌else◌}\n"
-        "use Rattle.std.specs.Str.{bytes_eq}\n"
-        "use Rattle.signals.specs.declared.Disposition.{Disposition}\n"
+        f"use Rattle.scenario_text.specs.CommonNames.{{{', '.join([common, *kinds])}}}\n"
         "use Rattle.signals.specs.declared.Disposition.TheVariants as dispositions\n"
-        "use Rattle.requests.specs.declared.Request.{Request}\n"
         "use Rattle.requests.specs.declared.Request.TheVariants as requests\n" + own
     )
     lookup = (

@@ -1,35 +1,34 @@
 -- The names that proofs speak by: those of the libraries, and of this crate's definitions.
-pub use Rattle.std.specs.Char.{digit_value, is_ascii_digit}
-pub use Rattle.std.specs.List.{list_any, prefix_len, starts_with}
-pub use Rattle.std.specs.Str.Parse.{AllDigits, digits_value}
 pub use Rattle.std.proofs.Common.{Bool, Bor, Equal, Greater, Less, List, None, Option, Ordering, Some, [], add-zero, ap, append-nil, ap₂, arith, cond, decimal, drop, eqb, false, get_or, inl, inr}
 pub use Rattle.std.proofs.Common.{is_some, length, lt_of_not-le, ltb, map, nat_cmp, nat_eq, neg_ℤ, negsuc, option_and_then, pos, refl, rules, subst, suc, sym, take, take_all, true, w64, zero, ℕ, ℤ}
 pub use Rattle.std.proofs.Common.{⊎_elim, ◌%◌, ◌&&◌, ◌*◌, ◌++◌, ◌+◌, ◌-◌, ◌<◌, ◌==◌, ◌^◌, ◌∙◌, ◌∷◌, ◌≡◌, ◌≢◌, ◌≤◌, ◌⊎◌}
 pub use Rattle.std.proofs.lemmas.Bool.{and_parts, cases_lt, eq-eqb, eqb-true, false≢true, lt-leb, ne_eqb, not-true, or_parts, true≢false}
-pub use Rattle.std.proofs.lemmas.Bool.Decides.{nat_tests}
-pub use Rattle.std.proofs.lemmas.Grind.{common_steps}
-pub use Rattle.std.proofs.lemmas.Int.{ints, to_z_pos}
 pub use Rattle.std.proofs.lemmas.List.{drop-drop, drop_all, drop_more, get_or-drop, get_or-take, get_or_default, get_or_past, length-drop, length-map, take-append-drop}
-pub use Rattle.std.proofs.lemmas.List.Sums.{prefix_len-le-length}
-pub use Rattle.std.proofs.lemmas.Option.{none-some}
-pub use Rattle.std.proofs.lemmas.Simd.{chunk-drop, leading_from_mask_l, length-chunk, mask_l-mod, trailing_mask_l, zip2_splat}
-pub use Rattle.std.proofs.lemmas.Str.{IsCharBoundary-after_ascii, IsCharBoundary-before_ascii}
+pub use Rattle.std.proofs.{Math.Dec.leb, lemmas.Simd.chunk-drop, lemmas.Simd.leading_from_mask_l, lemmas.Simd.length-chunk, lemmas.Simd.mask_l-mod, lemmas.Simd.trailing_mask_l, lemmas.Simd.zip2_splat}
+pub use Rattle.std.proofs.{lemmas.Bool.Decides.nat_tests, lemmas.Fmt.decimal-digits_value, lemmas.List.Folds.prefix_len-append, lemmas.Map.Text.is_eq-slice_cmp, lemmas.Slice.Eq.bytes_eq-Decides}
+pub use Rattle.std.proofs.{lemmas.Int.ints, lemmas.Int.to_z_pos, lemmas.List.Sums.prefix_len-le-length, lemmas.Str.Parse.numerals_by_value, lemmas.Str.Parse.tells_digits}
+pub use Rattle.std.proofs.{lemmas.Int.Digits.digits_more, lemmas.Int.Digits.digits_value_more, lemmas.Option.none-some, lemmas.Str.IsCharBoundary-after_ascii, lemmas.Str.IsCharBoundary-before_ascii}
+pub use Rattle.std.specs.{Char.digit_value, Char.is_ascii_digit, List.list_any, List.prefix_len, List.starts_with, Prelude.MatchOption, Prelude.⊤, Str.Parse.AllDigits, Str.Parse.digits_value}
+pub use Rattle.std.specs.{Cmp.Lexicographic.slice_cmp, Ordering.match_ordering, Str.bytes_eq}
+pub use Rattle.fast_float.proofs.Writing.{scan-text_of}
 pub use Rattle.fast_float.specs.Text.{IsWellFormed, Parts, scan}
 pub use Rattle.json.proofs.Grammar.{items_end, items_fail, items_more, left, left-parse_map, left_some, members_end, members_fail, members_more, members_no_key, read_key-shorter, value-begin_array}
 pub use Rattle.json.proofs.Grammar.{value-begin_object, value_is}
-pub use Rattle.json.specs.Align.{is_blank, is_good}
-pub use Rattle.json.specs.Json.{Parse, after_end_array, items, members, parse_map, read_key, value}
-pub use Rattle.json.specs.Lex.{Class, Lexeme, after_comma, after_value, backslash, begins_colon, between, class, colon, comma, fresh, if_allowed, in_string, lex, operator, operator_lexeme, other}
-pub use Rattle.json.specs.Lex.{place_token, punctuate, quote, space, string_token, token}
-pub use Rattle.json.specs.Reads.{Yields, token_of}
-pub use Rattle.json.specs.Run.{is_plain, is_stop}
-pub use Rattle.json.specs.Text.{content, plain, prepend}
-pub use Rattle.json.specs.Token.{Token, bad, begin_array, begin_object, boolean, end_array, end_object, key, null, number, string}
-pub use Rattle.json.specs.Word.{after_number, ends_word, head}
+pub use Rattle.json.proofs.{Printed.Decimals.IsNumber-decimal, Printed.Decimals.IsNumber-signed_decimal, Printed.Numbers.in_word-ended, Printed.Numbers.lex-number, Printed.Numbers.number_alone}
+pub use Rattle.json.specs.Lex.{Class, Lexeme, after_comma, after_value, backslash, begins_colon, between, class, colon, comma, fresh, if_allowed, in_string, operator, operator_lexeme, other}
+pub use Rattle.json.specs.Lex.{place_token, quote, space, string_token, token}
+pub use Rattle.json.specs.{Align.is_blank, Align.is_good, Token.Token, Token.bad, Token.begin_array, Token.begin_object, Token.end_array, Token.end_object, Token.key, Token.number}
+pub use Rattle.json.specs.{Json.Parse, Json.after_end_array, Json.parse_map, Json.read_key, Reads.Yields, Reads.token_of, Run.is_plain, Run.is_stop, Word.ends_word, Word.head}
+pub use Rattle.json.specs.Text.{plain, prepend}
+unfoldable pub use Rattle.json.specs.{Json.items, Json.members, Json.value, Lex.lex, Lex.punctuate, Text.content, Word.after_number, Word.word}
 pub use Rattle.serde_json.specs.Data.{Data, Members, Num, array, item, member, no_items, no_members, object, put}
-pub use Rattle.serde_json.specs.Find.{as_i64}
-pub use Rattle.serde_json.specs.Read.{converted, number_from, number_of, of_items, of_json, of_members}
+pub use Rattle.serde_json.specs.{Find.as_array, Find.as_i64, Find.as_object, Read.converted, Read.number_from, Read.of_items, Read.of_json, Read.of_members}
+unfoldable pub use Rattle.serde_json.specs.Read.{number_of}
+pub use lib.Bits.{bit_or}
 pub use lib.Count.{count_trailing_zeros}
-pub use Rattle.json_values.specs.Lexing.{Ends, HasNoEscape, IsNumberAt, IsWholeAt, LiteralOf, piece}
-pub use Rattle.json_values.specs.Places.{NotBeforeComma, may_begin, may_close, refused_at, tokens_at}
-pub use Rattle.json_values.specs.Reading.{IsScalar, Opens, Says, members_among, read_items, read_members, rest}
+pub use lib.Lanes.{chunk, mask_l, top, zip2}
+pub use mir.Val.{SFits}
+pub use Rattle.json_values.specs.Lexing.{Ends, HasNoEscape, IsNumberAt, IsWholeAt, LiteralOf, NotBeforeComma, may_begin, may_close, piece, refused_at, tokens_at}
+pub use Rattle.json_values.specs.declared.plain.Place.TheVariants.{AfterComma, AfterValue, Failed, Fresh}
+pub use Rattle.json_values.specs.{Reading.IsScalar, Reading.Opens, Reading.Says, Reading.members_among, Reading.read_items, Reading.read_members, Reading.rest, declared.scalars.Opening.Opening}
+pub use Rattle.json_values.specs.{declared.plain.Place.Place, declared.scalars.Scalar.Scalar}

@@ -1,12 +1,9 @@
 -- What the first token of a value says of it.
 use Rattle.json_values.proofs.CommonNames.{nat_tests, ◌≡◌, ◌⊎◌, ℕ, ℤ, ◌-◌, ◌<◌, List, [], ◌∷◌, length, Bool, Bor, Option, Some, None, option_and_then, refl, ap, ◌∙◌, arith, Token, items, members}
 use Rattle.json_values.proofs.CommonNames.{parse_map, token_of, left_some, value-begin_array, value-begin_object, value_is, none-some, Num, Data, array, object, as_i64, of_json, number_of, converted}
-use Rattle.json_values.proofs.CommonNames.{IsScalar, Opens, Says, read_items, read_members, rest}
-use Rattle.json.specs.Json.{value}
+use Rattle.json_values.proofs.CommonNames.{IsScalar, Opens, Says, read_items, read_members, rest, value, as_array, as_object, Opening, Scalar}
 use Rattle.serde_json.specs.Data.{null, boolean, string}
 use Rattle.json_values.specs.Reading.{IsNumber}
-use Rattle.json_values.specs.declared.scalars.Opening.{Opening}
-use Rattle.json_values.specs.declared.scalars.Scalar.{Scalar}
 use Rattle.json_values.proofs.Loops.{read_array, read_object}
 use Rattle.json.specs.declared.token.Token as json_token
 use Rattle.json.specs.declared.token.Token.TheVariants as json_variant
@@ -20,32 +17,17 @@ at_token ts t left depth e = ap (λ x. converted of_json (value depth x)) e
 pub no_token : (ts : List Token) → ts ≡ [] → (depth : ℕ) → converted of_json (value depth ts) ≡ None
 no_token ts e depth = ap (λ x. converted of_json (value depth x)) e ∙ ap (converted of_json) (value_is depth [])
 
+one_token : (s : Scalar) (t : Token) (d : Data) (ts left : List Token) → ts ≡ t ∷ left → ((depth : ℕ) → converted of_json (value depth (t ∷ left)) ≡ Some (d, left)) → Says s d → as_array d ≡ None → as_object d ≡ None → IsScalar s ts left
+one_token s t d ts left e read says no_array no_object = record { value = d; read = λ depth. at_token ts t left depth e ∙ read depth; says = says; no_array = no_array; no_object = no_object }
+
 pub string_scalar : (s : Bor (List ℕ)) (ts left : List Token) → ts ≡ Token.string s.now ∷ left → IsScalar (scalar.Text s) ts left
-string_scalar s ts left e = record {
-  value = string s.now;
-  read = λ depth. at_token ts (Token.string s.now) left depth e ∙ ap (converted of_json) (value_is depth (Token.string s.now ∷ left));
-  says = record { integer = refl; text = refl };
-  no_array = refl;
-  no_object = refl;
-}
+string_scalar s ts left e = one_token (scalar.Text s) (Token.string s.now) (string s.now) ts left e (λ depth. ap (converted of_json) (value_is depth _)) (record { integer = refl; text = refl }) refl refl
 
 pub boolean_scalar : (b : Bool) (ts left : List Token) → ts ≡ Token.boolean b ∷ left → IsScalar scalar.Other ts left
-boolean_scalar b ts left e = record {
-  value = boolean b;
-  read = λ depth. at_token ts (Token.boolean b) left depth e ∙ ap (converted of_json) (value_is depth (Token.boolean b ∷ left));
-  says = record { integer = refl; text = refl };
-  no_array = refl;
-  no_object = refl;
-}
+boolean_scalar b ts left e = one_token scalar.Other (Token.boolean b) (boolean b) ts left e (λ depth. ap (converted of_json) (value_is depth _)) (record { integer = refl; text = refl }) refl refl
 
 pub null_scalar : (ts left : List Token) → ts ≡ Token.null ∷ left → IsScalar scalar.Other ts left
-null_scalar ts left e = record {
-  value = null;
-  read = λ depth. at_token ts Token.null left depth e ∙ ap (converted of_json) (value_is depth (Token.null ∷ left));
-  says = record { integer = refl; text = refl };
-  no_array = refl;
-  no_object = refl;
-}
+null_scalar ts left e = one_token scalar.Other Token.null null ts left e (λ depth. ap (converted of_json) (value_is depth _)) (record { integer = refl; text = refl }) refl refl
 
 pub number_scalar : (s : Scalar) (text : List ℕ) (ts left : List Token) → ts ≡ Token.number text ∷ left → IsNumber s (number_of text) → IsScalar s ts left
 number_scalar s text ts left e (n, is, says) = grind (arith, nat_tests, at_token, value_is)
@@ -84,3 +66,9 @@ module _ (depth : ℕ) (o : Opening) (ts left : List Token) (deep : 0 < depth) (
 -- a number that is an integer is said by it
 pub integer_number : (z : ℤ) (read : Option Num) → option_and_then as_i64 read ≡ Some z → IsNumber (scalar.Integer z) read
 integer_number z read e = grind (arith, nat_tests, none-some)
+
+-- what a first token says of a value
+pub ruleset first_tokens = (nat_tests, no_token, string_scalar, number_scalar, other_scalar)
+
+-- what is known once a value is passed over
+pub ruleset passed_over = (nat_tests, too_deep, passed_array, failed_array, passed_object, failed_object)

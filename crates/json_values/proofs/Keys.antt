@@ -1,10 +1,6 @@
 -- Which keys an object has, once a member is put into it, and which keys are among others.
 use Rattle.json_values.proofs.CommonNames.{nat_tests, ◌≡◌, ℕ, List, ◌&&◌, Ordering, Less, Equal, Greater, nat_cmp, refl, arith, list_any, Data, Members, no_members, member, put, members_among}
-use Rattle.std.proofs.lemmas.Map.Text.{is_eq-slice_cmp}
-use Rattle.std.proofs.lemmas.Slice.Eq.{bytes_eq-Decides}
-use Rattle.std.specs.Cmp.Lexicographic.{slice_cmp}
-use Rattle.std.specs.Ordering.{match_ordering}
-use Rattle.std.specs.Str.{bytes_eq}
+use Rattle.json_values.proofs.CommonNames.{is_eq-slice_cmp, bytes_eq-Decides, slice_cmp, match_ordering, bytes_eq}
 
 put_at : (o : Ordering) (keys : List (List ℕ)) (k l : List ℕ) (d e : Data) (ms : Members) → slice_cmp nat_cmp k l ≡ o
     → members_among keys (put k d ms) ≡ (list_any (bytes_eq k) keys && members_among keys ms)

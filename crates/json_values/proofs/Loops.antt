@@ -1,8 +1,7 @@
 -- An array or an object that is read an item or a member at a time, with the data that is read from each.
 use Rattle.json_values.proofs.CommonNames.{nat_tests, ◌≡◌, ℕ, ◌-◌, ◌<◌, ◌≤◌, List, length, Option, Some, None, ap, ◌∙◌, arith, Token, Parse, parse_map, after_end_array, read_key, left, left-parse_map}
 use Rattle.json_values.proofs.CommonNames.{items_end, items_fail, items_more, members_end, members_fail, members_more, members_no_key, Data, array, object, no_items, item, Members, no_members, put}
-use Rattle.json_values.proofs.CommonNames.{of_json, of_items, of_members, converted}
-use Rattle.json.specs.Json.{items, members}
+use Rattle.json_values.proofs.CommonNames.{of_json, of_items, of_members, converted, items, members}
 use Rattle.json.specs.Json as json
 
 pub read_array : (o : Option (json.Items × List Token)) → converted of_json (parse_map json.array o) ≡ parse_map array (converted of_items o)
@@ -54,3 +53,8 @@ pass_item p n ts r d some going was = grind (arith, nat_tests, what_was_read (p 
 pub pass_member : (p : Parse json.Json) (found : Members) (n : ℕ) (k : List ℕ) (ts after r : List Token) (d : Data) → 0 < n → read_key ts ≡ Some (Some k, after) → converted of_json (p after) ≡ Some (d, r)
     → converted (λ ms. of_members ms found) (members p n ts) ≡ converted (λ ms. of_members ms (put k d found)) (members p (n - 1) r)
 pass_member p found n k ts after r d some key was = grind (arith, nat_tests, what_was_read, next_member)
+
+-- items that are passed over, and members
+pub ruleset items_passed = (nat_tests, pass_item, next_item_fails, last_item)
+
+pub ruleset members_passed = (nat_tests, no_key, next_member_fails, last_member)

@@ -1,8 +1,6 @@
 -- A number by its text, with or without a minus.
 use Rattle.json_values.proofs.CommonNames.{nat_tests, pos, neg_ℤ, ◌≡◌, ℕ, ℤ, ◌^◌, ◌<◌, ◌==◌, List, [], length, drop, get_or, true, false, Option, Some, is_some, option_and_then, refl, sym, ap, ◌∙◌}
-use Rattle.json_values.proofs.CommonNames.{arith, append-nil, rules, AllDigits, digits_value, Num, as_i64, Parts, IsWellFormed, scan, number_from}
-use Rattle.fast_float.proofs.Writing.{scan-text_of}
-use Rattle.serde_json.specs.Read.{number_of}
+use Rattle.json_values.proofs.CommonNames.{arith, append-nil, rules, AllDigits, digits_value, Num, as_i64, Parts, IsWellFormed, scan, number_from, scan-text_of, number_of}
 
 pub with_minus : (s : List ℕ) → true ≡ (get_or s 0 0 == 45) → number_from true (scan (drop 1 s)) ≡ number_of s
 unfolding number_of

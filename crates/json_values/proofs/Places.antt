@@ -1,13 +1,10 @@
 -- The first token, by the first byte of the text.
 use Rattle.json_values.proofs.CommonNames.{nat_tests, ◌≡◌, ◌≢◌, ℕ, Bool, true, false, cond, List, [], ◌∷◌, drop, Option, Some, None, refl, sym, ap, ◌∙◌, subst, arith, true≢false, false≢true, eqb-true}
-use Rattle.json_values.proofs.CommonNames.{is_some, Token, begin_object, end_object, begin_array, end_array, key, string, number, boolean, null, bad, content, plain, head, Lexeme, token, comma, colon}
-use Rattle.json_values.proofs.CommonNames.{Class, quote, backslash, operator, space, other, class, operator_lexeme, string_token, between, fresh, after_value, after_comma, begins_colon, if_allowed}
-use Rattle.json_values.proofs.CommonNames.{place_token, is_blank, is_good, after_end_array, token_of, Yields, Ends, may_begin, may_close, refused_at, tokens_at, NotBeforeComma, ◌⊎◌, inl, inr}
-use Rattle.std.specs.Prelude.{⊤, MatchOption}
-use Rattle.json.specs.Word.{word}
-use Rattle.json.specs.Lex.{lex, punctuate}
-use Rattle.json_values.specs.declared.plain.Place.{Place}
-use Rattle.json_values.specs.declared.plain.Place.TheVariants.{Fresh, AfterValue, AfterComma, Failed}
+use Rattle.json_values.proofs.CommonNames.{is_some, Token, begin_object, end_object, begin_array, end_array, key, number, bad, content, plain, head, Lexeme, token, comma, colon, Class, quote}
+use Rattle.json_values.proofs.CommonNames.{backslash, operator, space, other, class, operator_lexeme, string_token, between, fresh, after_value, after_comma, begins_colon, if_allowed, place_token}
+use Rattle.json_values.proofs.CommonNames.{is_blank, is_good, after_end_array, token_of, Yields, Ends, may_begin, may_close, refused_at, tokens_at, NotBeforeComma, ◌⊎◌, inl, inr, ⊤, MatchOption, word}
+use Rattle.json_values.proofs.CommonNames.{lex, punctuate, Place, Fresh, AfterValue, AfterComma, Failed}
+use Rattle.json.specs.Token.{string, boolean, null}
 use Rattle.json.specs.Lex as lexer
 use Rattle.json.specs.declared.token.Token as read
 
@@ -129,13 +126,6 @@ bad_word t p h e = stray_lexeme t p (token bad) h e refl refl
 
 -- ---- the cases of the first lexeme
 
-abbrev is_operator_class : Class → Bool
-is_operator_class quote = false
-is_operator_class backslash = false
-is_operator_class operator = true
-is_operator_class space = false
-is_operator_class other = false
-
 module _ (t : List ℕ) (P : List Lexeme → Type 0) (end : is_blank (class (head t)) ≡ true → P (lex between t)) (text : (o : Option (List ℕ)) → P (token (string_token o) ∷ behind t))
     (words : (w : Token) → IsWord w → P (token w ∷ behind t)) (opening : (w : Token) → (w ≡ begin_object) ⊎ (w ≡ begin_array) → P (token w ∷ behind t)) (object : head t ≡ 125 → P (token end_object ∷ behind t))
     (array : head t ≡ 93 → P (token end_array ∷ behind t)) (at_colon : head t ≡ 58 → P (colon ∷ behind t)) (at_comma : head t ≡ 44 → P (comma ∷ behind t)) where
@@ -215,3 +205,6 @@ refused p next t r none h = subst (λ q. Yields (tokens_at p t) r (tokens_at q t
 
 pub on_some : {T : Type 0} (A B : Type 0) (P Q : T → Type 0) (r : Option T) → is_some r ≡ true → MatchOption r A P → ((x : T) → P x → Q x) → MatchOption r B Q
 on_some A B P Q r some h f = grind (arith, nat_tests, false≢true)
+
+-- the first token, by the byte that the text begins with
+pub ruleset at_bytes = (nat_tests, at_operator, a_key, no_string, bad_word, at_word)

@@ -1,9 +1,7 @@
 -- The plain text of a string, seen 16 bytes at a time through the mask of the bytes that end it.
 use Rattle.json_values.proofs.CommonNames.{nat_tests, ◌≡◌, ℕ, ◌+◌, ◌%◌, ◌^◌, ◌<◌, ◌≤◌, cond, eqb, ltb, List, [], ◌∷◌, map, length, drop, refl, ap, ◌∙◌, arith, rules, chunk-drop, leading_from_mask_l}
 use Rattle.json_values.proofs.CommonNames.{length-chunk, mask_l-mod, trailing_mask_l, length-map, prefix_len-le-length, eq-eqb, ne_eqb, prefix_len, is_plain, is_stop, count_trailing_zeros}
-use Rattle.std.proofs.lemmas.List.Folds.{prefix_len-append}
-use lib.Bits.{bit_or}
-use lib.Lanes.{chunk, mask_l, top, zip2}
+use Rattle.json_values.proofs.CommonNames.{prefix_len-append, bit_or, chunk, mask_l, top, zip2}
 
 -- ---- the mask of the bytes that end plain text
 
@@ -43,3 +41,5 @@ run_through d i room none = grind (arith, nat_tests, chunk i 16 d, split d i, le
 
 pub run_stops : (d : List ℕ) (i : ℕ) → i + 16 ≤ length d → 0 < mask_l (map is_stop (chunk i 16 d)) → prefix_len is_plain (drop i d) ≡ count_trailing_zeros 64 (mask_l (map is_stop (chunk i 16 d)))
 run_stops d i room some = search (rules, chunk, split, ne_eqb, all_plain, trailing_mask_l, length-chunk)
+
+pub ruleset runs = (nat_tests, run_through, run_stops)

@@ -1,18 +1,11 @@
 -- Lexemes, one after another, in a text.
 use Rattle.json_values.proofs.CommonNames.{nat_tests, pos, neg_ℤ, negsuc, zero, option_and_then, decimal, ◌^◌, ◌≡◌, ℕ, ◌+◌, ◌-◌, ◌<◌, ◌≤◌, Bool, true, false, ◌&&◌, cond, ◌==◌, nat_eq, List, [], ◌∷◌}
 use Rattle.json_values.proofs.CommonNames.{◌++◌, length, take, drop, get_or, Some, None, refl, sym, ap, ap₂, ◌∙◌, arith, suc, add-zero, lt_of_not-le, rules, drop_more, drop_all, drop-drop}
-use Rattle.json_values.proofs.CommonNames.{get_or-drop, get_or-take, get_or_past, take-append-drop, length-drop, true≢false, false≢true, and_parts, or_parts, not-true, eqb-true, ne_eqb, lt-leb}
-use Rattle.json_values.proofs.CommonNames.{none-some, prefix_len, starts_with, AllDigits, plain, prepend, Token, number, boolean, null, bad, head, ends_word, token, operator, class, between}
-use Rattle.json_values.proofs.CommonNames.{in_string, is_blank, is_plain, as_i64, number_of, HasNoEscape, IsNumberAt, IsWholeAt, LiteralOf, piece}
-use Rattle.std.proofs.Math.Dec.{leb}
-use Rattle.std.proofs.lemmas.Fmt.{decimal-digits_value}
-use Rattle.std.proofs.lemmas.Str.Parse.{numerals_by_value, tells_digits}
-use Rattle.json.proofs.Printed.Decimals.{IsNumber-decimal, IsNumber-signed_decimal}
-use Rattle.json.specs.Print.{IsNumber}
-use Rattle.json.specs.Text.{content}
-use Rattle.json.specs.Word.{after_number, word}
-use Rattle.json.specs.Lex.{lex}
-use Rattle.json.proofs.Printed.Numbers.{lex-number, in_word-ended, number_alone}
+use Rattle.json_values.proofs.CommonNames.{get_or-drop, get_or-take, get_or_past, take-append-drop, true≢false, false≢true, and_parts, or_parts, not-true, eqb-true, ne_eqb, lt-leb, none-some}
+use Rattle.json_values.proofs.CommonNames.{prefix_len, starts_with, AllDigits, plain, prepend, Token, number, bad, head, ends_word, token, operator, class, between, in_string, is_blank, is_plain}
+use Rattle.json_values.proofs.CommonNames.{as_i64, number_of, HasNoEscape, IsNumberAt, IsWholeAt, LiteralOf, piece, leb, decimal-digits_value, numerals_by_value, tells_digits, IsNumber-decimal}
+use Rattle.json_values.proofs.CommonNames.{IsNumber-signed_decimal, content, after_number, word, lex, lex-number, in_word-ended, number_alone, length-drop}
+use Rattle.json.specs.{Token.boolean, Token.null, Print.IsNumber}
 use Rattle.json_values.proofs.NumberTexts.{integer_of-digits, integer_of-negative}
 
 -- the byte at a place, and those behind it
@@ -164,3 +157,8 @@ module _ (d : List ℕ) (from end value : ℕ) (minus : get_or d from 32 ≡ 45)
 
   pub negative_value : option_and_then as_i64 (number_of (piece d from end)) ≡ Some (neg_ℤ (pos value))
   negative_value = grind (arith, nat_tests, integer_of-negative, signed, some_digits)
+
+-- what is read at a place, and what stands behind it
+pub ruleset strings_read = (nat_tests, head_at, no_content, string_content, past_string)
+
+pub ruleset numbers_read = (nat_tests, past_number, number_at)

@@ -1,11 +1,10 @@
--- Lexemes at a place of a text.
-use Rattle.std.specs.Prelude.{◌≡◌, ◌≢◌, ℕ, ◌+◌, ◌-◌, ◌^◌, ◌<◌, ◌≤◌, List, [], ◌∷◌, ◌++◌, length, take, drop, get_or, true}
+-- Lexemes at a place of a text, and the tokens that a reader of a text has before it.
+use Rattle.std.specs.Prelude.{◌≡◌, ◌≢◌, ℕ, ◌+◌, ◌-◌, ◌^◌, ◌<◌, ◌≤◌, Bool, true, false, List, [], ◌∷◌, ◌++◌, length, take, drop, get_or, IsUtf8, ⊤}
 use Rattle.std.specs.Str.Parse.{AllDigits, digits_value}
-use Rattle.json.specs.Token.{Token}
-use Rattle.json.specs.Word.{head, ends_word}
-use Rattle.json.specs.Lex.{token, class, between, lex}
-use Rattle.json.specs.Align.{is_blank}
+use Rattle.json.specs.{Token.Token, Token.bad, Word.head, Word.ends_word, Lex.token, Lex.class, Lex.between, Lex.lex, Lex.fresh, Lex.after_value, Lex.after_comma, Lex.punctuate, Align.is_blank}
 use Rattle.json.specs.Print.{IsNumber}
+use Rattle.json_values.specs.{declared.lexer.Lexer.TheInside.Inside, declared.plain.Place.Place}
+use Rattle.json_values.specs.declared.plain.Place.TheVariants.{Fresh, AfterValue, AfterComma, Failed}
 
 -- a text with no backslash
 abbrev pub HasNoEscape : List ℕ → Type 0
@@ -43,3 +42,40 @@ pub record IsNumberAt (text : List ℕ) (from end : ℕ) : Type 0 where
 -- t is the token of the literal with this name: where the name stands before a delimiter, it is the first lexeme
 abbrev pub LiteralOf : List ℕ → Token → Type 0
 LiteralOf name t = (rest : List ℕ) → ends_word rest ≡ true → lex between (name ++ rest) ≡ token t ∷ lex between rest
+
+-- ---- the tokens that a reader has before it
+
+-- the lexer stands at a lexeme, or at the end
+pub record IsLexer (a : Inside) : Type 0 where
+  pub utf8 : IsUtf8 a.text.now
+  pub no_escape : HasNoEscape a.text.now
+  pub within : a.at ≤ length a.text.now
+  pub solid : Ends (drop a.at a.text.now)
+
+abbrev pub tokens_at : Place → List ℕ → List Token
+tokens_at Fresh text = punctuate fresh (lex between text)
+tokens_at AfterValue text = punctuate after_value (lex between text)
+tokens_at AfterComma text = punctuate after_comma (lex between text)
+tokens_at Failed text = []
+
+-- behind a value, a comma is passed at once
+abbrev pub NotBeforeComma : Place → List ℕ → Type 0
+NotBeforeComma AfterValue text = head text ≢ 44
+NotBeforeComma place text = ⊤
+
+-- a closing bracket or the end may stand there
+abbrev pub may_close : Place → Bool
+may_close Fresh = true
+may_close AfterValue = true
+may_close place = false
+
+-- a value or a key may begin there
+abbrev pub may_begin : Place → Bool
+may_begin Fresh = true
+may_begin AfterComma = true
+may_begin place = false
+
+-- the tokens where none of those fits that may stand there
+abbrev pub refused_at : Place → List Token
+refused_at Failed = []
+refused_at place = bad ∷ []

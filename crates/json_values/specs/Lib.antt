@@ -1,5 +1,2 @@
 pub mod Lexing
-pub mod Places
 pub mod Reading
-pub mod Sources
-pub mod Texts

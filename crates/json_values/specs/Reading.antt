@@ -1,16 +1,19 @@
 -- What is known of the values that a reader passes over.
 use Rattle.std.specs.Prelude.{◌≡◌, ℕ, ℤ, ◌&&◌, List, ◌∷◌, length, Bool, true, Option, Some, None, option_map, option_and_then}
-use Rattle.std.specs.List.{list_any}
-use Rattle.std.specs.Str.{bytes_eq}
-use Rattle.json.specs.Json as json
+use Rattle.std.specs.{List.list_any, Str.bytes_eq}
 use Rattle.json.specs.Token.{Token}
-use Rattle.serde_json.specs.Data.{Num, Data, number, Items, Members, no_members, member}
-use Rattle.serde_json.specs.Find.{as_i64, as_number, as_str, as_array, as_object}
+use Rattle.serde_json.specs.{Data.Num, Data.Data, Data.number, Data.Items, Data.Members, Data.no_members, Data.member, Find.as_i64, Find.as_number, Find.as_str, Find.as_array, Find.as_object}
 use Rattle.serde_json.specs.Read.{of_json, of_items, of_members, converted}
-use Rattle.json_values.specs.declared.scalars.Scalar.{Scalar}
+use Rattle.json_values.specs.{declared.scalars.Opening.Opening, declared.scalars.Scalar.Scalar, declared.tokens.Source.TheVariants.Plain, declared.tokens.Source.TheVariants.Escaped}
+use Rattle.json_values.specs.declared.tokens.Source.{Source}
+use Rattle.json.specs.Json as json
 use Rattle.json_values.specs.declared.scalars.Scalar.TheVariants as scalar
-use Rattle.json_values.specs.declared.scalars.Opening.{Opening}
 use Rattle.json_values.specs.declared.scalars.Opening.TheVariants as opening
+
+-- what a reader of a JSON text has before it
+abbrev pub tokens_of : Source → List Token
+tokens_of (Plain reader) = reader
+tokens_of (Escaped reader) = reader
 
 abbrev pub members_among : List (List ℕ) → Members → Bool
 members_among keys no_members = true
@@ -21,14 +24,12 @@ members_among keys (member k d ms) = list_any (bytes_eq k) keys && members_among
 -- the integer that a scalar is
 abbrev pub integer_in : Scalar → Option ℤ
 integer_in (scalar.Integer z) = Some z
-integer_in (scalar.Text s) = None
-integer_in scalar.Other = None
+integer_in s = None
 
 -- the text that a scalar is
 abbrev pub text_in : Scalar → Option (List ℕ)
-text_in (scalar.Integer z) = None
 text_in (scalar.Text s) = Some s.now
-text_in scalar.Other = None
+text_in s = None
 
 -- the scalar says which integer or which text a value is, if it is one
 pub record Says (s : Scalar) (d : Data) : Type 0 where

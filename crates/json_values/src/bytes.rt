@@ -78,6 +78,7 @@ fn plain_end_slowly(bytes: &[u8], from: usize) -> usize
 /// Returns where the plain text of a string ends: at a quote, a backslash, a control byte or the end. Most names end
 /// within 16 bytes, which are looked at together.
 #[inline(always)]
+#[tactic(auto, using(crate::proofs::Runs::runs))]
 pub(crate) fn plain_end(bytes: &[u8], from: usize) -> usize
     requires { from ≤ length bytes.now }
     ensures value { result ≡ from + prefix_len is_plain (drop from bytes.now) }

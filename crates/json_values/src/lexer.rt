@@ -24,7 +24,7 @@ pub(crate) struct Lexer<'a> {
 
 impl<'a> Model for Lexer<'a> {
     ghost use Rattle.std.specs.Prelude.{ℕ, List, drop};
-    ghost use Rattle.json_values.specs.Texts.{IsLexer};
+    ghost use Rattle.json_values.specs.Lexing.{IsLexer};
 
     ghost Value = { List ℕ };
 
@@ -63,6 +63,7 @@ impl<'a> Lexer<'a> {
 
     /// Takes a string, or returns `None` where it is none.
     #[inline(always)]
+    #[tactic(auto, using(crate::proofs::Texts::strings_read))]
     pub(crate) fn string(&mut self) -> Option<&'a str>
         requires { head self.old ≡ 34 }
         ensures value { MatchOption result (content plain (drop 1 self.old) ≡ None) (λ s. content plain (drop 1 self.old) ≡ Some s.now) }
@@ -111,6 +112,7 @@ impl<'a> Lexer<'a> {
         token
     }
 
+    #[tactic(auto, using(crate::proofs::Texts::numbers_read))]
     fn number(&mut self) -> Token<'a>
         requires { class (head self.old) ≡ other }
         ensures value { token_of result ≡ number_before self.old (after_number self.old) }

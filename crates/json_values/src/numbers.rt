@@ -34,6 +34,7 @@ fn negative(numeral: &Numeral<'_>) -> Option<i64>
 }
 
 /// Returns whether a text begins with a minus, and the numeral after it.
+#[tactic(auto, using(crate::proofs::NumberTexts::without_minus))]
 fn scanned(text: &str) -> (bool, Numeral<'_>)
     ensures { number_from result.0 result.1 ≡ number_of text.now }
 {

@@ -9,8 +9,7 @@ ghost use Rattle.json.specs.Token.{number};
 ghost use Rattle.json.specs.Word.{head};
 ghost use Rattle.serde_json.specs.Find.{as_i64};
 ghost use Rattle.serde_json.specs.Read.{number_of};
-ghost use Rattle.json_values.specs.Lexing.{HasNoEscape};
-ghost use Rattle.json_values.specs.Places.{may_begin, may_close, refused_at, tokens_at, NotBeforeComma};
+ghost use Rattle.json_values.specs.Lexing.{HasNoEscape, may_begin, may_close, refused_at, tokens_at, NotBeforeComma};
 
 use crate::bytes::is_space;
 use crate::lexer::Lexer;
@@ -45,6 +44,7 @@ impl Place {
 
 /// Passes over the comma that may follow a value.
 #[inline(always)]
+#[tactic(auto, using(crate::proofs::Places::at_bytes), unfolding(json::specs::Lex::punctuate))]
 fn after_value(lexer: &mut Lexer<'_>) -> Place
     ensures same { tokens_at result lexer.new ≡ punctuate after_value (lex between lexer.old) }
     ensures passed { NotBeforeComma result lexer.new }
@@ -59,6 +59,7 @@ fn after_value(lexer: &mut Lexer<'_>) -> Place
 
 /// Takes a key with its colon, or a string.
 #[inline(always)]
+#[tactic(auto, using(crate::proofs::Places::at_bytes))]
 fn string<'a>(lexer: &mut Lexer<'a>, place: Place) -> (Token<'a>, Place)
     requires { (head lexer.old ≡ 34) × (may_begin place ≡ true) }
     ensures value { tokens_at place lexer.old ≡ token_of result.0 ∷ tokens_at result.1 lexer.new }
@@ -77,6 +78,7 @@ fn string<'a>(lexer: &mut Lexer<'a>, place: Place) -> (Token<'a>, Place)
 
 /// Takes a number or a literal.
 #[inline(always)]
+#[tactic(auto, using(crate::proofs::Places::at_bytes))]
 fn word<'a>(lexer: &mut Lexer<'a>, place: Place) -> (Token<'a>, Place)
     requires { (class (head lexer.old) ≡ other) × (may_begin place ≡ true) }
     ensures value { tokens_at place lexer.old ≡ token_of result.0 ∷ tokens_at result.1 lexer.new }
@@ -185,7 +187,7 @@ pub(crate) struct PlainReader<'a> {
 impl<'a> Model for PlainReader<'a> {
     ghost use Rattle.std.specs.Prelude.{List};
     ghost use Rattle.json.specs.Token.{Token as SpecToken, tokens_code};
-    ghost use Rattle.json_values.specs.Places.{tokens_at, NotBeforeComma};
+    ghost use Rattle.json_values.specs.Lexing.{tokens_at, NotBeforeComma};
 
     ghost Value = { List SpecToken };
 
@@ -234,6 +236,7 @@ impl<'a> PlainReader<'a> {
 
     /// Takes the bracket that closes an array, if it is next.
     #[inline(always)]
+    #[tactic(auto, using(crate::proofs::Places::closes_array))]
     pub(crate) fn take_end_array(&mut self) -> bool
         ensures { MatchBool result (after_end_array self.old ≡ Some self.new) ((after_end_array self.old ≡ None) × (self.new ≡ self.old)) }
     {

@@ -43,6 +43,7 @@ fn number_scalar<'a>(text: &str) -> Result<Scalar<'a>, Invalid>
 
 /// Takes the bracket that opens an array, the brace that opens an object, or a whole value of another kind.
 #[inline(always)]
+#[tactic(auto, using(crate::proofs::FirstTokens::first_tokens))]
 pub fn open_value<'a>(reader: &mut Tokens<'a>) -> Result<Opening<'a>, Invalid>
     ensures opened { IfOk result (λ opening. Opens opening reader.old reader.new) }
     ensures shorter { OnOk result (length reader.new < length reader.old) }
@@ -66,6 +67,7 @@ pub fn open_value<'a>(reader: &mut Tokens<'a>) -> Result<Opening<'a>, Invalid>
 /// is at some later token, or has no more tokens.
 #[cycle(pass)]
 #[inline(always)]
+#[tactic(auto, using(crate::proofs::FirstTokens::passed_over))]
 pub fn next_scalar<'a>(reader: &mut Tokens<'a>, depth: usize) -> Result<Scalar<'a>, Invalid>
     ensures ok { IfOk result (λ s. (d : Data) × (converted of_json (value depth reader.old) ≡ Some (d, reader.new)) × Says s d) }
     ensures shorter { OnOk result (length reader.new < length reader.old) }
@@ -92,6 +94,7 @@ pub fn next_scalar<'a>(reader: &mut Tokens<'a>, depth: usize) -> Result<Scalar<'
 /// Passes over the items of an array, and over its closing bracket.
 #[cycle(pass)]
 #[inline(never)]
+#[tactic(auto, using(crate::proofs::Loops::items_passed))]
 pub fn pass_items(reader: &mut Tokens<'_>, depth: usize) -> Result<(), Invalid>
     ensures value { MatchResult result (λ _. rest (read_items depth reader.old) ≡ Some reader.new) (λ _. read_items depth reader.old ≡ None) }
     ensures shorter { OnOk result (length reader.new < length reader.old) }
@@ -105,6 +108,7 @@ pub fn pass_items(reader: &mut Tokens<'_>, depth: usize) -> Result<(), Invalid>
 /// Passes over the members of an object, and over its closing brace.
 #[cycle(pass)]
 #[inline(never)]
+#[tactic(auto, using(crate::proofs::Loops::members_passed))]
 pub fn pass_members(reader: &mut Tokens<'_>, depth: usize) -> Result<(), Invalid>
     ensures value { MatchResult result (λ _. rest (read_members depth reader.old) ≡ Some reader.new) (λ _. read_members depth reader.old ≡ None) }
     ensures shorter { OnOk result (length reader.new < length reader.old) }

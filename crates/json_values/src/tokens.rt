@@ -31,7 +31,7 @@ pub struct Tokens<'a> {
 impl<'a> Model for Tokens<'a> {
     ghost use Rattle.std.specs.Prelude.{List};
     ghost use Rattle.json.specs.Token.{Token as SpecToken, tokens_code};
-    ghost use Rattle.json_values.specs.Sources.{tokens_of};
+    ghost use Rattle.json_values.specs.Reading.{tokens_of};
 
     ghost Value = { List SpecToken };
 

@@ -1,14 +1,5 @@
 -- How deep a reply's object nests.
-use Rattle.std.proofs.Common.{◌≡◌, ℕ, ◌≤◌, max, List, [], ◌∷◌, ◌++◌, arith}
-use Rattle.json.specs.Json.{max_depth}
-use Rattle.json.specs.Tree.{depth, members_depth}
-use Rattle.lwpinfo.specs.declared.LwpInfo.{LwpInfo}
-use Rattle.wait4.specs.declared.StatusKind.{StatusKind}
-use Rattle.stop_handlers.specs.declared.Decision.{Decision}
-use Rattle.stop_handlers.specs.declared.StopView.{StopView}
-use Rattle.requests.specs.declared.Reply.{Reply}
-use Rattle.reply_json.specs.Objects.{Member, members_of, object_of, numbers_of, strings_of}
-use Rattle.reply_json.specs.Replies.{reply_members, reply_value, status_members, decision_members, view_members, info_members}
+use Rattle.reply_json.proofs.CommonNames.{◌≡◌, ℕ, ◌≤◌, max, List, [], ◌∷◌, ◌++◌, arith, max_depth, depth, members_depth, Reply, Member, members_of, numbers_of, strings_of, reply_members, reply_value}
 
 -- how deep members nest
 abbrev level : List Member → ℕ
@@ -26,20 +17,8 @@ level-append : (ms ns : List Member) → level (ms ++ ns) ≡ max (level ms) (le
 level-append [] ns = omega arith
 level-append (m ∷ ms) ns = let rest = level-append ms ns in omega arith
 
-status_low : (s : StatusKind) → level (status_members s) ≤ 0
-status_low s = grind arith
-
-decision_low : (d : Decision) → level (decision_members d) ≤ 1
-decision_low d = grind arith
-
-view_low : (v : StopView) → depth (object_of (view_members v)) ≤ 2
-view_low v = grind (arith, strings_low)
-
-info_low : (i : LwpInfo) → level (info_members i) ≤ 1
-info_low i = grind (arith, strings_low)
-
 members_low : (r : Reply) → level (reply_members r) ≤ 2
-members_low r = grind (arith, level-append, status_low, view_low, decision_low, info_low, numbers_low, strings_low)
+members_low r = grind (arith, level-append, numbers_low, strings_low)
 
 -- a reply's object nests an object at most, which has an array
 pub shallow : (user n : ℕ) (r : Reply) → depth (reply_value user n r) ≤ max_depth

@@ -1,3 +1,4 @@
+pub mod CommonNames
 pub mod SignalLemmas
 pub mod TokenLemmas
 pub mod DepthLemmas

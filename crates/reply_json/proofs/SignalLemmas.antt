@@ -1,10 +1,6 @@
 -- No signal has a number outside 1 to 31.
-use Rattle.std.proofs.Common.{◌≡◌, ◌≢◌, ◌⊎◌, ℕ, ◌<◌, ◌==◌, Bool, true, List, [], ◌∷◌, find, Option, None, refl, ap, arith}
-use Rattle.std.specs.Prelude.{◌&&◌}
-use Rattle.std.specs.Option.{option_map_or}
-use Rattle.std.proofs.lemmas.Bool.{ne_eqb, leb-true, and_parts}
-use Rattle.signals.specs.Names.{Row, table, signal_name}
-use Rattle.signals.specs.Table.{is_signal}
+use Rattle.reply_json.proofs.CommonNames.{◌≡◌, ◌≢◌, ◌⊎◌, ℕ, ◌<◌, ◌==◌, Bool, true, List, [], ◌∷◌, find, Option, None, refl, ap, arith, ◌&&◌, option_map_or, ne_eqb, leb-true, and_parts, Row, table}
+use Rattle.reply_json.proofs.CommonNames.{signal_name, is_signal}
 
 -- each row has a signal's number
 abbrev all_signals : List Row → Bool

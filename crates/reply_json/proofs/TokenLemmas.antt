@@ -1,15 +1,7 @@
 -- The tokens of objects and arrays by their members and values.
-use Rattle.std.proofs.Common.{◌≡◌, ℕ, ◌≤◌, List, [], ◌∷◌, ◌++◌, map, Some, option_and_then, refl, sym, ap, ◌∙◌, append_assoc, append-nil}
-use Rattle.event_masks.specs.Names.{names_of}
-use Rattle.std.specs.Prelude.{OnOk, Result, Ok, Err}
-use Rattle.json.specs.Json.{Json, document, string, if_last, max_depth, value}
-use Rattle.json.specs.Lex.{tokens}
-use Rattle.json.specs.Print.{print}
-use Rattle.json.specs.Token.{Token, key, end_object}
-use Rattle.json.specs.Tree.{json_tokens, items_tokens, members_tokens, depth}
-use Rattle.json.specs.Value.{items_of}
-use Rattle.json.proofs.Printed.Trees.{value-json_tokens}
-use Rattle.reply_json.specs.Objects.{Member, members_of, json_text, member_tokens}
+use Rattle.reply_json.proofs.CommonNames.{◌≡◌, ℕ, ◌≤◌, List, [], ◌∷◌, ◌++◌, map, Some, option_and_then, refl, sym, ap, ◌∙◌, append_assoc, append-nil, names_of, OnOk, Result, Ok, Err, Json, document}
+use Rattle.reply_json.proofs.CommonNames.{string, if_last, max_depth, value, tokens, print, Token, key, end_object, json_tokens, items_tokens, members_tokens, depth, items_of, value-json_tokens}
+use Rattle.reply_json.proofs.CommonNames.{Member, members_of, json_text, member_tokens}
 
 -- the tokens of an object's members, and the brace that closes it
 pub members-members : (ms : List Member) → members_tokens (members_of ms) ≡ member_tokens ms ++ end_object ∷ []

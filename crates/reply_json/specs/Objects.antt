@@ -1,11 +1,7 @@
 -- JSON objects as lists of their members, and the text of a value.
-use Rattle.std.specs.Prelude.{◌≡◌, ℕ, List, [], ◌∷◌, ◌++◌, map, decimal, OnOk, Result}
-use Rattle.json.specs.Json.{Json, number, string, array, object, Members, no_members, member}
-use Rattle.json.specs.Print.{print}
-use Rattle.json.specs.Token.{Token, key}
-use Rattle.json.specs.Tree.{json_tokens}
-use Rattle.json.specs.Value.{items_of}
-use Rattle.json.specs.Written.{Written}
+use Rattle.std.specs.Prelude.{◌≡◌, ℕ, List, [], ◌∷◌, ◌++◌, map, flat_map, decimal, OnOk, Result}
+pub use Rattle.json.specs.{Json.Json, Json.null, Json.boolean, Json.number, Json.string, Json.array, Json.object, Json.Members, Json.no_members, Json.member, Token.Token, Token.key, Tree.json_tokens}
+use Rattle.json.specs.{Print.print, Value.items_of, Written.Written}
 
 -- a member: its name and its value
 abbrev pub Member : Type 0
@@ -35,12 +31,10 @@ json_text j = print (json_tokens j)
 
 -- the tokens of values, and of members, one after another
 abbrev pub value_tokens : List Json → List Token
-value_tokens [] = []
-value_tokens (j ∷ js) = json_tokens j ++ value_tokens js
+value_tokens js = flat_map json_tokens js
 
 abbrev pub member_tokens : List Member → List Token
-member_tokens [] = []
-member_tokens (m ∷ ms) = key m.0 ∷ (json_tokens m.1 ++ member_tokens ms)
+member_tokens ms = flat_map (λ m. key m.0 ∷ json_tokens m.1) ms
 
 -- the writer has got these tokens after those that it had
 abbrev pub Puts : {E : Type 0} → Result (Unit {0}) E → Written → Written → List Token → Type 0

@@ -1,24 +1,16 @@
 -- A reply as a JSON object.
 use Rattle.std.specs.Prelude.{ℕ, true, ◌==◌, List, [], ◌∷◌, ◌++◌, map, codes, Option, Some, None, if◌then◌else◌}
-use Rattle.json.specs.Json.{Json, null, boolean, string}
-use Rattle.json.specs.Token.{Token}
-use Rattle.json.specs.Tree.{json_tokens}
 use Rattle.pid_blocks.specs.Blocks.{errno_name, errno_number}
-use Rattle.signals.specs.Names.{signal_name}
-use Rattle.signals.specs.Sets.{members}
-use Rattle.event_masks.specs.declared.StopFlags.{StopFlags}
-use Rattle.event_masks.specs.Names.{event_table, stop_table, names_of}
-use Rattle.lwpinfo.specs.declared.LwpInfo.{LwpInfo}
-use Rattle.lwpinfo.specs.Info.{event_name}
-use Rattle.wait4.specs.declared.StatusKind.{StatusKind}
+use Rattle.signals.specs.{Names.signal_name, Sets.members}
+use Rattle.event_masks.specs.{declared.StopFlags.StopFlags, Names.event_table, Names.stop_table, Names.names_of}
+use Rattle.lwpinfo.specs.{declared.LwpInfo.LwpInfo, Info.event_name}
+use Rattle.wait4.specs.{declared.StatusKind.StatusKind, Status.word, Status.ended}
 use Rattle.wait4.specs.declared.StatusKind.TheVariants.{Exited, Signaled, Stopped, Continued}
-use Rattle.wait4.specs.Status.{word, ended}
-use Rattle.stop_handlers.specs.declared.Decision.{Decision}
-use Rattle.stop_handlers.specs.declared.Decision.TheVariants as decision
-use Rattle.stop_handlers.specs.declared.StopView.{StopView}
+use Rattle.stop_handlers.specs.{declared.Decision.Decision, declared.StopView.StopView}
 use Rattle.requests.specs.declared.Reply.{Reply}
+use Rattle.reply_json.specs.Objects.{Json, null, boolean, string, Token, json_tokens, Member, object_of, natural, numbers_of, strings_of, json_text}
+use Rattle.stop_handlers.specs.declared.Decision.TheVariants as decision
 use Rattle.requests.specs.declared.Reply.TheVariants as reply
-use Rattle.reply_json.specs.Objects.{Member, object_of, natural, numbers_of, strings_of, json_text}
 
 -- a signal: its name as a member with the given name, and its number
 abbrev pub named_signal : List ℕ → ℕ → List Member
@@ -77,42 +69,33 @@ decision_members (decision.Continue s) = (codes "decision", string (codes "conti
 decision_members (decision.Detach s) = (codes "decision", string (codes "detach")) ∷ (codes "pass", pass_of s) ∷ []
 decision_members decision.Kill = (codes "decision", string (codes "kill")) ∷ []
 
-abbrev pub reply_word : Reply → List ℕ
-reply_word reply.Done = codes "ok"
-reply_word (reply.New pid tid) = codes "new"
-reply_word (reply.Number n) = codes "number"
-reply_word (reply.Status pid status) = codes "status"
-reply_word reply.Nothing = codes "nothing"
-reply_word (reply.Info i) = codes "info"
-reply_word (reply.Lwps tids) = codes "lwps"
-reply_word (reply.Pids pids) = codes "pids"
-reply_word (reply.Mask mask) = codes "mask"
-reply_word (reply.Handled pid status view index decision) = codes "handled"
-reply_word (reply.Stopped tid sig flags) = codes "stopped"
-reply_word (reply.Caught sig) = codes "caught"
-reply_word (reply.Ended w) = codes "ended"
-reply_word reply.Held = codes "held"
-reply_word (reply.Errno e) = codes "error"
+-- the reply's word, and the members after it
+abbrev pub reply_parts : Reply → List ℕ × List Member
+reply_parts reply.Done = (codes "ok", [])
+reply_parts (reply.New pid tid) = (codes "new", (codes "pid", natural pid) ∷ (codes "lwp", natural tid) ∷ [])
+reply_parts (reply.Number n) = (codes "number", (codes "number", natural n) ∷ [])
+reply_parts (reply.Status pid status) = (codes "status", (codes "pid", natural pid) ∷ word_members (word status) status)
+reply_parts reply.Nothing = (codes "nothing", [])
+reply_parts (reply.Info i) = (codes "info", info_members i)
+reply_parts (reply.Lwps tids) = (codes "lwps", (codes "lwps", numbers_of tids) ∷ [])
+reply_parts (reply.Pids pids) = (codes "pids", (codes "pids", numbers_of pids) ∷ [])
+reply_parts (reply.Mask mask) = (codes "mask", (codes "events", strings_of (names_of event_table mask.0)) ∷ [])
+reply_parts (reply.Handled pid status view index decision) = (
+  codes "handled",
+  (codes "pid", natural pid) ∷ (word_members (word status) status
+      ++ ((codes "at", object_of (view_members view)) ∷ (codes "by", index_of index) ∷ decision_members decision)),
+)
+reply_parts (reply.Stopped tid sig flags) = (codes "stopped", (codes "lwp", natural tid) ∷ (signal_members sig ++ (flags_of flags ∷ [])))
+reply_parts (reply.Caught sig) = (codes "caught", signal_members sig)
+reply_parts (reply.Ended w) = (codes "ended", word_members w (ended w))
+reply_parts reply.Held = (codes "held", [])
+reply_parts (reply.Errno e) = (codes "error", (codes "errno", string (errno_name e)) ∷ (codes "number", natural (errno_number e)) ∷ [])
 
--- the members after the reply's word
+abbrev pub reply_word : Reply → List ℕ
+reply_word r = (reply_parts r).0
+
 abbrev pub reply_members : Reply → List Member
-reply_members reply.Done = []
-reply_members (reply.New pid tid) = (codes "pid", natural pid) ∷ (codes "lwp", natural tid) ∷ []
-reply_members (reply.Number n) = (codes "number", natural n) ∷ []
-reply_members (reply.Status pid status) = (codes "pid", natural pid) ∷ word_members (word status) status
-reply_members reply.Nothing = []
-reply_members (reply.Info i) = info_members i
-reply_members (reply.Lwps tids) = (codes "lwps", numbers_of tids) ∷ []
-reply_members (reply.Pids pids) = (codes "pids", numbers_of pids) ∷ []
-reply_members (reply.Mask mask) = (codes "events", strings_of (names_of event_table mask.0)) ∷ []
-reply_members (reply.Handled pid status view index decision) =
-    (codes "pid", natural pid) ∷ (word_members (word status) status
-    ++ ((codes "at", object_of (view_members view)) ∷ (codes "by", index_of index) ∷ decision_members decision))
-reply_members (reply.Stopped tid sig flags) = (codes "lwp", natural tid) ∷ (signal_members sig ++ (flags_of flags ∷ []))
-reply_members (reply.Caught sig) = signal_members sig
-reply_members (reply.Ended w) = word_members w (ended w)
-reply_members reply.Held = []
-reply_members (reply.Errno e) = (codes "errno", string (errno_name e)) ∷ (codes "number", natural (errno_number e)) ∷ []
+reply_members r = (reply_parts r).1
 
 -- the user, the user's own number of the step, and the reply's word
 abbrev pub head_members : ℕ → ℕ → List ℕ → List Member

@@ -1,19 +1,7 @@
 -- One more step with its handler.
-use Rattle.std.specs.Prelude.{⊤}
-use Rattle.std.proofs.Common.{◌≡◌, ℕ, ◌+◌, ◌<◌, ◌≤◌, List, [], ◌∷◌, ◌++◌, length, get_or, map, drop, Option, Some, None, sym, ap, subst, ◌∙◌, append_assoc, append-nil, arith}
-use Rattle.std.proofs.lemmas.List.{at_drop_all, at_drop_more, length-append}
-use Rattle.stop_handlers.specs.declared.Rule.{Rule}
-use Rattle.requests.specs.declared.step.Step.{Step}
-use Rattle.requests.specs.declared.Reply.{Reply}
-use Rattle.requests.specs.Hosts.{Steps}
-use Rattle.requests.specs.Machine.{Machine}
-use Rattle.requests.specs.Making.{Makes}
-use Rattle.requests.specs.Plain.{PlainStep, with_handler}
-use Rattle.requests.specs.Run.{Asked}
-use Rattle.visibility.proofs.Answered.{map-push}
-use Rattle.scenario_text.specs.Plan.{asked, filled, first_policy, policies_after, policies_in, policy_before, step_with}
-use Rattle.scenario.specs.Binding.{IsBound}
-use Rattle.scenario_text.proofs.FilledLemmas.{left_after}
+use Rattle.scenario.proofs.CommonNames.{⊤, ◌≡◌, ℕ, ◌+◌, ◌<◌, ◌≤◌, List, [], ◌∷◌, ◌++◌, length, get_or, map, drop, Option, Some, None, sym, ap, subst, ◌∙◌, append-nil, arith, at_drop_all, at_drop_more}
+use Rattle.scenario.proofs.CommonNames.{length-append, Rule, Step, Reply, Steps, Machine, Makes, PlainStep, with_handler, Asked, map-push, asked, filled, first_policy, policies_after, policies_in}
+use Rattle.scenario.proofs.CommonNames.{policy_before, step_with, IsBound, left_after, append_assoc}
 
 -- the steps from place i on, of which x is the first, with the policies from there on
 module _ (ss : List (ℕ × Step ⊤)) (i : ℕ) (x : ℕ × Step ⊤) (ps qs : List (List Rule)) (h : i < length ss) (here : get_or ss i x ≡ x) where

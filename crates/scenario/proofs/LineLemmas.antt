@@ -1,14 +1,7 @@
 -- One more line, and one more reply of a user.
-use Rattle.std.proofs.Common.{◌≡◌, ℕ, ◌+◌, ◌-◌, ◌<◌, ◌≤◌, ◌==◌, Bool, cond, List, [], ◌∷◌, ◌++◌, length, get_or, map, drop, Option, Some, None, count_by, replicate, refl, sym, ap, ◌∙◌, arith}
-use Rattle.std.proofs.Math.ListN.{set}
-use Rattle.std.proofs.lemmas.List.{append_assoc, at_drop_more, length-set, get_or-set_same, get_or-set_other, get_or-replicate, get_or_past}
-use Rattle.std.proofs.lemmas.List.Sums.{count_by-le-length, sum_by-cons}
-use Rattle.std.proofs.lemmas.Bool.Decides.{nat_tests}
-use Rattle.requests.specs.declared.Reply.{Reply}
-use Rattle.scenario.specs.Lines.{Answered, Line, line, lines_after, lines_of, text_of}
-use Rattle.scenario.specs.Runs.{answered, shown}
-use Rattle.scenario.specs.declared.style.Style.{Style}
-use Rattle.scenario.specs.Shown.{shown_line}
+use Rattle.scenario.proofs.CommonNames.{◌≡◌, ℕ, ◌+◌, ◌-◌, ◌<◌, ◌≤◌, ◌==◌, Bool, cond, List, [], ◌∷◌, ◌++◌, length, get_or, map, drop, Option, Some, None, count_by, replicate, refl, sym, ap, ◌∙◌}
+use Rattle.scenario.proofs.CommonNames.{arith, set, at_drop_more, length-set, get_or-set_same, get_or-set_other, get_or-replicate, get_or_past, count_by-le-length, sum_by-cons, nat_tests, Reply}
+use Rattle.scenario.proofs.CommonNames.{Answered, Line, line, lines_after, lines_of, shown_line, text_of, answered, shown, Style, append_assoc}
 
 -- how many replies went to the user
 abbrev pub replies_to : ℕ → List ℕ → ℕ

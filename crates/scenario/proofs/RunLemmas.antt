@@ -1,19 +1,6 @@
 -- The answers of a whole run.
-use Rattle.std.specs.Prelude.{⊤}
-use Rattle.std.proofs.Common.{◌≡◌, ℕ, ◌≤◌, false, List, [], ◌∷◌, length, drop, Some, None, if◌then◌else◌, sym, ap, ap₂, subst, ◌∙◌}
-use Rattle.std.proofs.lemmas.List.{at_drop_all}
-use Rattle.stop_handlers.specs.declared.Rule.{Rule}
-use Rattle.requests.specs.declared.step.Step.{Step}
-use Rattle.requests.specs.Plain.{PlainStep}
-use Rattle.requests.specs.declared.Reply.{Reply}
-use Rattle.requests.specs.Hosts.{Steps}
-use Rattle.requests.specs.Machine.{Machine}
-use Rattle.requests.specs.Memory.{is_memory}
-use Rattle.requests.specs.Run.{Asked, replies}
-use Rattle.visibility.specs.Runs.{told, Did}
-use Rattle.visibility.proofs.Steps.{did}
-use Rattle.scenario_text.specs.Plan.{asked, filled}
-use Rattle.scenario.specs.Runs.{answered, paired}
+use Rattle.scenario.proofs.CommonNames.{⊤, ◌≡◌, ℕ, ◌≤◌, false, List, [], ◌∷◌, length, drop, Some, None, if◌then◌else◌, sym, ap, ap₂, subst, ◌∙◌, at_drop_all, Rule, Step, PlainStep, Reply, Steps}
+use Rattle.scenario.proofs.CommonNames.{Machine, is_memory, Asked, replies, told, Did, did, asked, filled, answered, paired}
 
 -- a reply other than ENOMEM is an answer
 told_made : (r : Reply) → is_memory r ≡ false → told r ≡ Some r

@@ -1,8 +1,6 @@
 -- One write after another.
-use Rattle.std.proofs.Common.{◌≡◌, ℕ, ◌-◌, List, [], ◌++◌, length, take, drop, Option, ap, ◌∙◌, arith}
-use Rattle.std.specs.Io.KnownBytes.{Appends, Keeps}
-use Rattle.std.proofs.lemmas.List.{append_assoc, take-append-drop, length-drop}
-use Rattle.std.proofs.Math.Seq.{take-append_seam, take-length}
+use Rattle.scenario.proofs.CommonNames.{◌≡◌, ℕ, ◌-◌, List, [], ◌++◌, length, take, drop, Option, ap, ◌∙◌, arith, Appends, Keeps, take-append-drop, length-drop, take-append_seam, take-length, Result}
+use Rattle.scenario.proofs.CommonNames.{WriteAppends, append_assoc}
 
 pub appends_more : (a b c : Option (List ℕ)) (xs ys : List ℕ) → Appends a b xs → Appends b c ys → Appends a c (xs ++ ys)
 appends_more a b c xs ys p q = grind (arith, append_assoc {A = ℕ})
@@ -31,3 +29,7 @@ front_sliced a b c rest all n f q = rw (← length-drop n rest, take-length) (fr
 -- the same, where a write took no byte
 pub front_ended : (a b c : Option (List ℕ)) (rest all : List ℕ) → Front a b rest all → Appends b c [] → (n : ℕ) × Appends a c (take n all)
 front_ended a b c rest all f q = front_is a c rest all (front_more a b c rest all 0 f q)
+
+-- a write after interrupted ones, which moved nothing
+pub writes_behind : {E : Type 0} → (a b c : Option (List ℕ)) (r : Result ℕ E) (buf : List ℕ) → Keeps a b → WriteAppends b c r buf → WriteAppends a c r buf
+writes_behind a b c r buf kept written = grind arith

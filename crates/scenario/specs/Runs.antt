@@ -1,14 +1,11 @@
 -- The output of a run.
-use Rattle.std.specs.Prelude.{⊤, ℕ, List, take, map, zip, Option, Some, None, Result, Ok, Err}
+use Rattle.std.specs.Prelude.{⊤, ◌≡◌, ℕ, List, take, map, zip, Option, Some, None, MatchOption, Result, Ok, Err}
 use Rattle.std.specs.Io.KnownBytes.{Appends, Keeps}
-use Rattle.requests.specs.declared.Reply.{Reply}
-use Rattle.requests.specs.Machine.{empty}
-use Rattle.requests.specs.Run.{Asked, replies}
-use Rattle.scenario.specs.declared.running.RunFault.{RunFault}
-use Rattle.scenario.specs.declared.running.RunFault.TheVariants.{Mismatch, Memory, Start, Write}
-use Rattle.scenario.specs.Lines.{Answered, text, text_of, lines, lines_of}
-use Rattle.scenario_text.specs.Plan.{Plan}
+use Rattle.stop_handlers.specs.declared.Rule.{Rule}
+use Rattle.requests.specs.{declared.step.Step.Step, declared.Reply.Reply, Hosts.Steps, Machine.Machine, Machine.empty, Plain.PlainStep, Run.Asked, Run.replies}
+use Rattle.scenario.specs.{declared.running.RunFault.RunFault, declared.running.RunFault.TheVariants.Write, Lines.Answered, Lines.text, Lines.text_of, Lines.lines, Lines.lines_of}
 use Rattle.scenario.specs.declared.style.Style.{Style}
+use Rattle.scenario_text.specs.Plan.{Plan, first_policy, policies_after, policy_before, step_with}
 
 -- a reply to a user
 abbrev pub answered : ℕ × Reply → Answered
@@ -31,6 +28,22 @@ answers_of plan = paired plan.steps (replies plan.steps (empty plan.settings))
 abbrev pub Writes : Result ⊤ RunFault → Option (List ℕ) → Option (List ℕ) → List ℕ → Type 0
 Writes (Ok done) old new text = Appends old new text
 Writes (Err Write) old new text = (n : ℕ) × Appends old new (take n text)
-Writes (Err Memory) old new text = Keeps old new
-Writes (Err Mismatch) old new text = Keeps old new
-Writes (Err Start) old new text = Keeps old new
+Writes (Err e) old new text = Keeps old new
+
+-- the exit status of a run that failed
+abbrev pub run_fault_status : RunFault → ℕ
+run_fault_status fault = 3
+
+-- ---- a step with its handler
+
+-- unless the step is an install without a handler: r is the step with its handler, and new are the handlers left
+abbrev pub IsBound : Step ⊤ → List (List Rule) → List (List Rule) → Option PlainStep → Type 0
+IsBound shape old new r =
+    (others : List (List Rule)) → policy_before (step_with (first_policy old) shape) others ≡ old
+    → (new ≡ policies_after shape old) × (r ≡ Some (step_with (first_policy old) shape))
+
+-- in this case the host makes the step of the user, with this reply
+abbrev pub IsAnswered : ℕ → Step ⊤ → List (List Rule) → List (List Rule) → Machine → Machine → Option Reply → Type 0
+IsAnswered u shape old new m n r =
+    (others : List (List Rule)) → policy_before (step_with (first_policy old) shape) others ≡ old
+    → (new ≡ policies_after shape old) × MatchOption r ⊥ (λ reply. Steps u (step_with (first_policy old) shape) m n reply)

@@ -4,7 +4,7 @@ ghost use Rattle.std.specs.Vec.Iter.{into_iter_items};
 ghost use Rattle.stop_handlers.specs.Decide.{decide};
 ghost use Rattle.stop_handlers.specs.Handlers.{MakesObeying};
 ghost use Rattle.scenario_text.specs.Plan.{asked, max_steps, policies_in};
-ghost use Rattle.scenario.specs.Binding.{IsBound};
+ghost use Rattle.scenario.specs.Runs.{IsBound};
 ghost use Rattle.scenario.specs.declared.running.RunFault.TheVariants.{Mismatch, Memory};
 
 use crate::running::RunFault;

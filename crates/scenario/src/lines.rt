@@ -1,10 +1,9 @@
 //! The lines of replies.
 ghost use Rattle.std.specs.Prelude.{◌≡◌, ◌+◌, ◌-◌, ◌^◌, ◌<◌, ◌≤◌, ◌++◌, ◌==◌, ℕ, map, Option, IfOk, OnOk, string_bytes, slice_index, slice_set};
 ghost use Rattle.pid_blocks.specs.Blocks.{slot};
-ghost use Rattle.scenario.specs.Lines.{line};
+ghost use Rattle.scenario.specs.Lines.{line, shown_line};
 ghost use Rattle.scenario.specs.declared.style.Style.TheVariants as style;
 ghost use Rattle.scenario.specs.Runs.{answered, shown};
-ghost use Rattle.scenario.specs.Shown.{shown_line};
 
 use crate::running::RunOptions;
 use crate::short_lines::{ROOM, push_short};

@@ -9,7 +9,7 @@ ghost use Rattle.std.specs.declared.io.ErrorKind.TheVariants.{Interrupted};
 use std::io::{Error, ErrorKind, Result, Write};
 
 /// Makes one write, and retries it while a signal interrupts it.
-#[tactic(auto, using(crate::proofs::RetryLemmas::writes_behind))]
+#[tactic(auto, using(crate::proofs::WriteLemmas::writes_behind))]
 pub(crate) fn write_some<W: Write>(writer: &mut W, buf: &[u8]) -> Result<usize>
     ensures bound { WritesAtMost result buf.now }
     ensures bytes { WriteAppends (W.contents writer.old) (W.contents writer.new) result buf.now }

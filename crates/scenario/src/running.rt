@@ -2,9 +2,7 @@
 ghost use Rattle.std.specs.Prelude.{◌≡◌, ◌≢◌, ◌↔◌, IsErrOf, string_bytes, IfOk, IfErr};
 ghost use Rattle.std.specs.Vec.Iter.{into_iter_items};
 ghost use Rattle.scenario_text.specs.Plan.{policies_in};
-ghost use Rattle.scenario.specs.Binding.{IsAnswered};
-ghost use Rattle.scenario.specs.Runs.{answers_of, shown, Writes};
-ghost use Rattle.scenario.specs.Faults.{run_fault_status};
+ghost use Rattle.scenario.specs.Runs.{answers_of, shown, Writes, IsAnswered, run_fault_status};
 ghost use Rattle.scenario.specs.declared.running.RunFault.TheVariants.{Mismatch, Memory, Start, Write as WriteFault};
 
 use crate::binding::{bound_step, obey};

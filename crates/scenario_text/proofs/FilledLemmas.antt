@@ -1,11 +1,6 @@
 -- Steps with separate policies.
-use Rattle.std.specs.Prelude.{⊤}
-use Rattle.std.proofs.Common.{◌≡◌, ℕ, List, [], ◌∷◌, ◌++◌, length, map, Some, refl, ap, ap₂, subst, ◌∙◌, arith}
-use Rattle.stop_handlers.specs.declared.Rule.{Rule}
-use Rattle.requests.specs.declared.step.Step.{Step}
-use Rattle.requests.specs.Plain.{PlainStep, with_handler}
-use Rattle.requests.specs.Run.{Asked}
-use Rattle.scenario_text.specs.Plan.{asked, filled, first_policy, policies_after, policies_in, policy_before, step_with, user_and_step}
+use Rattle.scenario_text.proofs.CommonNames.{⊤, ◌≡◌, ℕ, List, [], ◌∷◌, ◌++◌, length, map, Some, refl, ap, ap₂, subst, ◌∙◌, arith, Rule, Step, PlainStep, with_handler, Asked, asked, filled}
+use Rattle.scenario_text.proofs.CommonNames.{first_policy, policies_after, policies_in, policy_before, step_with, user_and_step}
 
 -- a step with a handler
 pub handled : {A : Type 0} {B : Type 0} (b : B) (s : Step A) → with_handler (Some b) s ≡ Some (step_with b s)

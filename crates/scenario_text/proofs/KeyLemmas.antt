@@ -1,24 +1,9 @@
 -- What the keys of an object say, once a member is put into it.
-use Rattle.std.specs.Prelude.{⊤}
-use Rattle.std.proofs.Common.{◌≡◌, ℕ, ◌⊎◌, inl, inr, List, [], ◌∷◌, Option, Some, None, true, false, Ordering, Less, Equal, Greater, nat_cmp, is_eq, refl, sym, ap, ap₂, ◌∙◌, arith, bit_or}
-use Rattle.std.proofs.Math.Path.{fun_ext}
-use Rattle.std.proofs.lemmas.Bool.{cases_Bool}
-use Rattle.std.proofs.lemmas.Map.Text.{is_eq-slice_cmp}
-use Rattle.std.proofs.lemmas.Nat.Bits.{bit_at_or, same_from_bits}
-use Rattle.std.proofs.lemmas.Slice.Eq.{bytes_eq-Decides}
-use Rattle.std.specs.Cmp.Lexicographic.{slice_cmp}
-use Rattle.std.specs.Ordering.{match_ordering}
-use Rattle.std.specs.Prelude.{codes, if◌then◌else◌}
-use Rattle.std.specs.Str.{bytes_eq}
-use Rattle.serde_json.specs.Data.{Data, Members, no_members, member, put}
-use Rattle.serde_json.specs.Find.{get_member}
-use Rattle.serde_json.proofs.Views.{get_member-put, get_member-put_other}
-use Rattle.scenario_text.specs.declared.keys.Keys.{Keys}
-use Rattle.scenario_text.specs.Keys.{◌∪◌, key_named, key_rows, keys_in, set_named}
-use Rattle.scenario_text.specs.Names.{named}
-use Rattle.scenario_text.specs.Rules.{rule_fields_by, rule_fields_in}
-use Rattle.scenario_text.specs.Steps.{fields_by, fields_in}
-use Rattle.scenario_text.specs.Streams.{with_named, with_named_rule}
+use Rattle.scenario_text.proofs.CommonNames.{⊤, ◌≡◌, ℕ, ◌⊎◌, inl, inr, List, [], ◌∷◌, Option, Some, None, true, false, Ordering, Less, Equal, Greater, nat_cmp, is_eq, refl, sym, ap, ap₂, ◌∙◌, arith}
+use Rattle.scenario_text.proofs.CommonNames.{bit_or, fun_ext, cases_Bool, is_eq-slice_cmp, bit_at_or, same_from_bits, bytes_eq-Decides, slice_cmp, match_ordering, if◌then◌else◌, bytes_eq, Data}
+use Rattle.scenario_text.proofs.CommonNames.{Members, no_members, member, put, get_member, get_member-put, get_member-put_other, Keys, ◌∪◌, key_named, key_rows, keys_in, set_named, named}
+use Rattle.scenario_text.proofs.CommonNames.{rule_fields_by, rule_fields_in, fields_by, fields_in, with_named, with_named_rule}
+use Rattle.std.specs.Prelude.{codes}
 
 twice : (a b : Keys) → a ∪ b ≡ a ∪ (a ∪ b)
 twice a b = ap (λ (n : ℕ). record { 0 = n }) (same_from_bits (bit_or a.0 b.0) (bit_or a.0 (bit_or a.0 b.0))

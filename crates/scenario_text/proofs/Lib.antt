@@ -1,5 +1,5 @@
+pub mod CommonNames
 pub mod Answering
-pub mod RetryLemmas
 pub mod FilledLemmas
 pub mod ReadLoops
 pub mod Lists

@@ -1,38 +1,18 @@
 -- The rules and the steps of an array, so far.
-use Rattle.std.proofs.Common.{◌≡◌, ◌+◌, ◌<◌, ◌≤◌, List, [], ◌∷◌, ◌++◌, length, Result, Ok, Err, nat_lt, ℕ, true, false, inl, inr, refl, sym, ap, ◌∙◌, arith}
-use Rattle.std.proofs.lemmas.Bool.{cases_lt}
-use Rattle.std.proofs.lemmas.Bool.Decides.{nat_tests}
-use Rattle.std.proofs.lemmas.List.{append_assoc, append-nil}
-use Rattle.serde_json.specs.Data.{Data, Items, no_items, item}
-use Rattle.serde_json.specs.Events.{items_len}
-use Rattle.requests.specs.Run.{Asked}
-use Rattle.stop_handlers.specs.declared.Rule.{Rule}
-use Rattle.scenario_text.specs.declared.fault.Fault.{Fault}
-use Rattle.scenario_text.specs.declared.fields.KeyError.{KeyError}
-use Rattle.scenario_text.specs.declared.fields.KeyError.TheVariants.{TooManyRules}
-use Rattle.scenario_text.specs.declared.listing.Listed.{Listed}
-use Rattle.scenario_text.specs.declared.rules.RuleList.{RuleList}
-use Rattle.scenario_text.specs.Fields.{◌>>=◌, each}
-use Rattle.scenario_text.specs.Listing.{IsListOf, pushed, rules_taken, taken}
-use Rattle.scenario_text.specs.Plan.{max_steps}
-use Rattle.scenario_text.specs.Rules.{rule_of, policy_of}
-use Rattle.scenario_text.specs.Scenarios.{steps_from}
+use Rattle.scenario_text.proofs.CommonNames.{◌≡◌, ◌+◌, ◌<◌, ◌≤◌, List, [], ◌∷◌, ◌++◌, length, Result, Ok, Err, ℕ, refl, sym, ◌∙◌, arith, cases_lt, nat_tests, append_assoc, append-nil, Data, Items}
+use Rattle.scenario_text.proofs.CommonNames.{no_items, item, items_len, Asked, Rule, Fault, KeyError, TooManyRules, Listed, RuleList, ◌>>=◌, each, IsListOf, pushed, rules_taken, taken, max_steps}
+use Rattle.scenario_text.proofs.CommonNames.{rule_of, policy_of, steps_from}
 
 -- the results before these, and one before those
 none_before : {X E : Type 0} (r : Result (List X) E) → r ≡ (r >>= (λ xs. Ok ([] ++ xs)))
-none_before (Ok xs) = refl
-none_before (Err e) = refl
+none_before r = grind arith
 
 one_before : {X E : Type 0} (so_far : Result (List X) E) (one : Result X E) (rest : Result (List X) E)
     → (so_far >>= (λ xs. (one >>= (λ x. rest >>= (λ ys. Ok (x ∷ ys)))) >>= (λ ys. Ok (xs ++ ys)))) ≡ (pushed so_far one >>= (λ xs. rest >>= (λ ys. Ok (xs ++ ys))))
-one_before (Err e) one rest = refl
-one_before (Ok xs) (Err e) rest = refl
-one_before (Ok xs) (Ok x) (Err e) = refl
-one_before (Ok xs) (Ok x) (Ok ys) = ap Ok (sym (append_assoc xs (x ∷ []) ys))
+one_before {X} so_far one rest = grind (arith, append_assoc {A = X})
 
 all_before : {X E : Type 0} (r : Result (List X) E) → (r >>= (λ xs. Ok (xs ++ []))) ≡ r
-all_before (Ok xs) = ap Ok (append-nil xs)
-all_before (Err e) = refl
+all_before {X} r = grind (arith, append-nil {A = X})
 
 -- ---- the items that are taken, up to a most
 
@@ -59,10 +39,7 @@ module _ {X E : Type 0} (most : ℕ) (from : ℕ → Items → Result (List X) E
     pub passed : (now : ℕ) (new : Result (List X) E) (d : Data) → most ≤ count → now ≡ most + 1 → Has most from (λ ds. front (item d ds)) now new
     passed now new d full more = record {
       few = λ k. absurd (omega (arith, k, more));
-      many = λ k ds. elim (cases_lt most count) [
-        | inl many ↦ h.many many (item d ds)
-        | inr few ↦ let was = h.few few (item d ds) in omega (arith, full, was.0)
-      ];
+      many = λ k ds. grind (arith, full, cases_lt most count, h.few, h.many);
     }
 
     pub all_taken : count ≤ most → from count no_items ≡ Ok [] → so_far ≡ from 0 (front no_items)
@@ -71,22 +48,16 @@ module _ {X E : Type 0} (most : ℕ) (from : ℕ → Items → Result (List X) E
 -- ---- rules
 
 abbrev rules_from : ℕ → Items → Result (List Rule) KeyError
-rules_from n ds = each rule_of ds
+rules_from n ds = each (λ _ d. rule_of d) n ds
 
 abbrev pub HasRules : (Items → Items) → RuleList → Type 0
 HasRules front l = Has 16 rules_from front l.count (rules_taken l)
 
 pub few_rules : (front : Items → Items) (l : RuleList) → HasRules front l → l.count ≤ 16 → rules_taken l ≡ policy_of (front no_items)
-few_rules front l h few =
-    let was = h.few few no_items in
-    let short : nat_lt 16 (items_len (front no_items)) ≡ false = grind (arith, nat_tests, was.0, few) in
-    rw short (all_taken 16 rules_from l.count (rules_taken l) front h few refl)
+few_rules front l h few = grind (arith, nat_tests, h.few few no_items, all_taken 16 rules_from l.count (rules_taken l) front h few refl)
 
 pub many_rules : (front : Items → Items) (l : RuleList) → HasRules front l → 16 < l.count → Err TooManyRules ≡ policy_of (front no_items)
-many_rules front l h many =
-    let was = h.many many no_items in
-    let long : nat_lt 16 (items_len (front no_items)) ≡ true = grind (arith, nat_tests, was) in
-    rw long refl
+many_rules front l h many = grind (arith, nat_tests, h.many many no_items)
 
 -- ---- steps
 

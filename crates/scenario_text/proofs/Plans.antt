@@ -1,22 +1,8 @@
 -- The scenario, or the first fault, of what was read of a scenario's members.
-use Rattle.std.proofs.Common.{◌≡◌, ◌<◌, ◌≤◌, ℕ, ℤ, Bool, false, length, IfOk, List, codes, None, Result, Ok, Err, arith}
-use Rattle.std.proofs.lemmas.Bool.Decides.{nat_tests}
-use Rattle.std.proofs.lemmas.Slice.Eq.{bytes_eq-Decides}
-use Rattle.std.specs.Str.{bytes_eq}
-use Rattle.json_values.proofs.Keys.{members_among-put}
-use Rattle.serde_json.specs.Data.{Data, Items, Members, object, put}
-use Rattle.serde_json.specs.Find.{as_object}
-use Rattle.serde_json.proofs.Views.{get_member-put, get_member-put_other}
-use Rattle.trace_stop.specs.declared.Settings.{Settings}
-use Rattle.requests.specs.Run.{Asked}
-use Rattle.scenario_text.specs.declared.fault.Fault.{Fault}
-use Rattle.scenario_text.specs.declared.fault.Fault.TheVariants.{BadShape, TooManySteps, Memory}
-use Rattle.scenario_text.specs.declared.fields.KeyError.{KeyError}
-use Rattle.scenario_text.specs.declared.listing.Listed.{Listed}
-use Rattle.scenario_text.specs.Fields.{atom_of, integer, items_of}
-use Rattle.scenario_text.specs.Listing.{AreRead, StepsAre, taken}
-use Rattle.scenario_text.specs.Plan.{Plan, max_steps}
-use Rattle.scenario_text.specs.Scenarios.{Yields, head_settings, head_of, plan_of}
+use Rattle.scenario_text.proofs.CommonNames.{◌≡◌, ◌<◌, ◌≤◌, ℕ, ℤ, Bool, false, length, IfOk, List, None, Result, Ok, Err, arith, nat_tests, bytes_eq-Decides, bytes_eq, members_among-put, Data, Items}
+use Rattle.scenario_text.proofs.CommonNames.{Members, object, put, as_object, get_member-put, get_member-put_other, Settings, Asked, Fault, BadShape, TooManySteps, Memory, KeyError, Listed, atom_of}
+use Rattle.scenario_text.proofs.CommonNames.{integer, items_of, AreRead, StepsAre, taken, Plan, max_steps, Yields, head_settings, head_of, plan_of}
+use Rattle.std.proofs.Common.{codes}
 
 abbrev steps_key : List ℕ
 steps_key = codes "steps"

@@ -1,15 +1,9 @@
 -- Items and members that are read one after another, compared with their array and their object.
-use Rattle.std.proofs.Common.{◌≡◌, ℕ, ℤ, ◌-◌, ◌<◌, ◌≤◌, List, ◌∷◌, length, Option, Some, None, Result, Ok, Err, refl, ap, ap₂, ◌∙◌, arith}
-use Rattle.json.specs.Token.{Token, begin_array, begin_object}
-use Rattle.json.specs.Json.{items, members, value, parse_map, after_end_array, read_key}
-use Rattle.json.proofs.Grammar.{read_key-shorter}
-use Rattle.serde_json.specs.Data.{Data, array, object, Items, no_items, item, Members, no_members, put}
-use Rattle.serde_json.specs.Read.{of_json, of_items, of_members, converted}
-use Rattle.json_values.specs.Reading.{Says, read_items, read_members}
-use Rattle.json_values.specs.declared.scalars.Scalar.{Scalar}
-use Rattle.json_values.proofs.FirstTokens.{array_value, object_value}
-use Rattle.json_values.proofs.Loops.{next_item, last_item, next_item_fails, next_member_fails, no_key, pass_member, last_member, what_was_read}
-use Rattle.scenario_text.specs.Fields.{◌>>=◌, atom_in, atom_of}
+use Rattle.scenario_text.proofs.CommonNames.{◌≡◌, ℕ, ℤ, ◌-◌, ◌<◌, ◌≤◌, List, ◌∷◌, length, Option, Some, None, Result, Ok, Err, refl, ap, ap₂, ◌∙◌, arith, Token, begin_array, begin_object, items}
+use Rattle.scenario_text.proofs.CommonNames.{members, parse_map, after_end_array, read_key, read_key-shorter, Data, array, object, Items, item, Members, no_members, put, of_json, of_items, of_members}
+use Rattle.scenario_text.proofs.CommonNames.{converted, Says, read_items, read_members, Scalar, array_value, object_value, next_item, last_item, next_item_fails, next_member_fails, no_key}
+use Rattle.scenario_text.proofs.CommonNames.{pass_member, last_member, what_was_read, ◌>>=◌, atom_in, atom_of}
+use Rattle.json.specs.Json.{value}
 
 -- the items before `left` are those that `front` puts before others
 pub record HasItems (depth : ℕ) (all left : List Token) (front : Items → Items) : Type 0 where
@@ -42,9 +36,6 @@ module _ (depth : ℕ) (all left : List Token) (front : Items → Items) (h : Ha
         same = h.same ∙ ap (parse_map front) (next_item (value depth) h.turns left r j.0 d (omega (arith, h.enough, size)) going.0 j.1 j.2) ∙ both front (item d) _;
       }
 
-  pub items_end : (r : List Token) → after_end_array left ≡ Some r → read_items depth all ≡ Some (front no_items, r)
-  items_end r over = h.same ∙ ap (parse_map front) (last_item (value depth) h.turns left r h.enough over)
-
 -- the members before `left` are these
 pub record HasMembers (depth : ℕ) (all left : List Token) (found : Members) : Type 0 where
   pub turns : ℕ
@@ -66,9 +57,6 @@ module _ (depth : ℕ) (all left : List Token) (found : Members) (h : HasMembers
         shorter = omega (arith, h.shorter, named);
         same = h.same ∙ pass_member (value depth) found h.turns k left s r d (omega (arith, h.enough, named)) key was;
       }
-
-  pub members_end : (r : List Token) → read_key left ≡ Some (None, r) → read_members depth all ≡ Some (found, r)
-  members_end r over = h.same ∙ last_member (value depth) found h.turns left r h.enough over
 
 -- where a loop ends
 pub ruleset ends = (next_item_fails, last_item, next_member_fails, no_key, last_member)

@@ -1,6 +1,5 @@
 -- The exit statuses of faults.
-use Rattle.std.specs.Prelude.{ℕ, List, codes}
-use Rattle.scenario_text.specs.declared.fault.Fault.{Fault}
+use Rattle.scenario_text.specs.CommonNames.{ℕ, List, codes, Fault}
 use Rattle.scenario_text.specs.declared.fault.Fault.TheVariants as fault
 
 -- 3 where reading or memory failed, 1 where the input is refused

@@ -1,12 +1,8 @@
 -- What a JSON value comes to at a key, and the flaw of a value.
-use Rattle.std.specs.Prelude.{⊤, ◌≡◌, ℕ, ℤ, pos, negsuc, List, [], ◌∷◌, Option, Some, None, is_some, Result, Ok, Err, option_and_then, nat_lt, if◌then◌else◌}
-use Rattle.std.specs.Option.{ok_or}
-use Rattle.json_values.specs.declared.scalars.Scalar.{Scalar}
-use Rattle.json_values.specs.Reading.{integer_in, text_in}
-use Rattle.serde_json.specs.Data.{Data, Items, no_items, item}
-use Rattle.serde_json.specs.Find.{as_number, as_i64, as_str, as_array, as_object}
-use Rattle.scenario_text.specs.declared.fields.KeyError.{KeyError}
-use Rattle.scenario_text.specs.declared.fields.KeyError.TheVariants.{Shape, Name, Number}
+use Rattle.scenario_text.specs.CommonNames.{◌≡◌, ℕ, ℤ, pos, negsuc, List, [], ◌∷◌, ◌+◌, Option, Some, None, Result, Ok, Err, ok_or, option_and_then, nat_lt, true, if◌then◌else◌, Scalar, integer_in}
+use Rattle.scenario_text.specs.CommonNames.{text_in, Data, Items, no_items, item, as_number, as_i64, as_str, as_array, with, EventMask, StopFlags, no_events, no_flags, mask_with, both, events_named}
+use Rattle.scenario_text.specs.CommonNames.{flag_named, Options, no_options, KeyError, Shape, Name, Number, WaitOption, Nohang, Untraced, Continued}
+use Rattle.scenario_text.specs.Names.{option_named}
 
 infixl 10 ◌>>=◌
 abbrev pub ◌>>=◌ : {E A B : Type 0} → Result A E → (A → Result B E) → Result B E
@@ -15,8 +11,7 @@ abbrev pub ◌>>=◌ : {E A B : Type 0} → Result A E → (A → Result B E) �
 
 -- a result, mapped by view
 abbrev pub seen : {E X Y : Type 0} → (X → Y) → Result X E → Result Y E
-seen view (Ok x) = Ok (view x)
-seen view (Err e) = Err e
+seen view r = r >>= (λ x. Ok (view x))
 
 abbrev pub Gives : {E X Y : Type 0} → (X → Y) → Result X E → Result Y E → Type 0
 Gives view result reading = seen view result ≡ reading
@@ -57,22 +52,54 @@ name_in table a = text a >>= (λ t. ok_or (table t) Name)
 abbrev pub items_of : Data → Result Items KeyError
 items_of d = ok_or (as_array d) Shape
 
-abbrev pub object_of : Data → Result ⊤ KeyError
-object_of d = if is_some (as_object d) then Ok tt else Err Shape
-
--- the items one after another, up to the first that fails
-abbrev pub each : {X E : Type 0} → (Data → Result X E) → Items → Result (List X) E
-each f no_items = Ok []
-each f (item d ds) = do
-  x ← f d
-  xs ← each f ds
+-- the items one after another, numbered from n on, up to the first that fails
+abbrev pub each : {X E : Type 0} → (ℕ → Data → Result X E) → ℕ → Items → Result (List X) E
+each f n no_items = Ok []
+each f n (item d ds) = do
+  x ← f n d
+  xs ← each f (n + 1) ds
   Ok (x ∷ xs)
 
 -- the value at a key that may not be missing, and at one that may
 abbrev pub required : {X : Type 0} → (Data → Result X KeyError) → Option Data → Result X KeyError
-required f None = Err Shape
-required f (Some d) = f d
+required f d = ok_or d Shape >>= f
 
 abbrev pub optional : {X : Type 0} → X → (Data → Result X KeyError) → Option Data → Result X KeyError
 optional default f None = Ok default
 optional default f (Some d) = f d
+
+-- ---- arrays of names and of numbers; a repeated item counts once
+
+-- every wait4 acts as with WNOHANG
+abbrev pub with_option : Options → WaitOption → Options
+with_option o Nohang = o
+with_option o Untraced = record o { untraced = true }
+with_option o Continued = record o { continued = true }
+
+-- the set with what an atom comes to
+abbrev pub adds : {S X : Type 0} → (Atom → Result X KeyError) → (S → X → S) → S → Atom → Result S KeyError
+adds reading add s a = reading a >>= (λ x. Ok (add s x))
+
+-- the items of an array are added one after another, up to the first that fails
+abbrev pub gather : {S : Type 0} → (S → Atom → Result S KeyError) → S → Items → Result S KeyError
+gather added s no_items = Ok s
+gather added s (item d ds) = added s (atom_of d) >>= (λ t. gather added t ds)
+
+abbrev pub gathered : {S : Type 0} → (S → Atom → Result S KeyError) → S → Data → Result S KeyError
+gathered added none d = items_of d >>= gather added none
+
+abbrev pub options_of : Data → Result Options KeyError
+options_of = gathered (adds (name_in option_named) with_option) no_options
+
+abbrev pub mask_of : Data → Result EventMask KeyError
+mask_of = gathered (adds (name_in events_named) mask_with) no_events
+
+abbrev pub flags_of : Data → Result StopFlags KeyError
+flags_of = gathered (adds (name_in flag_named) both) no_flags
+
+-- a signal's number
+abbrev pub signal_in : Atom → Result ℕ KeyError
+signal_in a = number_within 1 31 a
+
+abbrev pub set_of : Data → Result ℕ KeyError
+set_of = gathered (adds signal_in with) 0

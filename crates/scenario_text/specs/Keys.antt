@@ -1,39 +1,19 @@
 -- The keys of steps and of rules.
-use Rattle.std.specs.Prelude.{⊤, ℕ, ◌==◌, List, [], ◌∷◌, Bool, Option, Some, None, Result, Ok, Err, codes, if◌then◌else◌}
-use Rattle.std.specs.Int.RustNames.{bit_and, bit_or}
-use Rattle.serde_json.specs.Data.{Members, no_members, member}
-use Rattle.scenario_text.specs.declared.fields.KeyError.{KeyError}
-use Rattle.scenario_text.specs.declared.fields.KeyError.TheVariants.{Shape}
-use Rattle.scenario_text.specs.declared.keys.Key.{Key}
+use Rattle.scenario_text.specs.CommonNames.{⊤, ℕ, ◌==◌, List, [], ◌∷◌, Bool, Option, Some, None, Result, Ok, Err, codes, if◌then◌else◌, bit_and, bit_or, Members, no_members, member, KeyError, Shape}
+use Rattle.scenario_text.specs.CommonNames.{Key, Keys}
+use Rattle.scenario_text.specs.{Fields.◌>>=◌, Names.named}
 use Rattle.scenario_text.specs.declared.keys.Key.TheVariants as key
-use Rattle.scenario_text.specs.declared.keys.Keys.{Keys}
 use Rattle.scenario_text.specs.declared.keys.TheConstants.Keys as keys
-use Rattle.scenario_text.specs.Names.{named}
 
 -- tools/format names
 abbrev pub key_rows : List (List ℕ × Key)
 key_rows =
-    (codes "user", key.User)
-    ∷ (codes "op", key.Op)
-    ∷ (codes "caller", key.Caller)
-    ∷ (codes "lwp", key.Lwp)
-    ∷ (codes "act", key.Act)
-    ∷ (codes "which", key.Which)
-    ∷ (codes "request", key.Request)
-    ∷ (codes "target", key.Target)
-    ∷ (codes "data", key.Data)
-    ∷ (codes "call", key.Call)
-    ∷ (codes "code", key.Code)
-    ∷ (codes "signal", key.Signal)
-    ∷ (codes "options", key.Options)
-    ∷ (codes "action", key.Action)
-    ∷ (codes "rules", key.Rules)
-    ∷ (codes "set", key.Set)
-    ∷ (codes "mask", key.Mask)
-    ∷ (codes "flags", key.Flags)
-    ∷ (codes "decision", key.Decision)
-    ∷ (codes "pass", key.Pass)
-    ∷ []
+    ((codes "user", key.User) ∷ (codes "op", key.Op) ∷ (codes "caller", key.Caller) ∷ (codes "lwp", key.Lwp)
+    ∷ (codes "act", key.Act) ∷ (codes "which", key.Which) ∷ (codes "request", key.Request) ∷ (codes "target", key.Target)
+    ∷ (codes "data", key.Data) ∷ (codes "call", key.Call) ∷ (codes "code", key.Code) ∷ (codes "signal", key.Signal)
+    ∷ (codes "options", key.Options) ∷ (codes "action", key.Action) ∷ (codes "rules", key.Rules) ∷ (codes "set", key.Set)
+    ∷ (codes "mask", key.Mask) ∷ (codes "flags", key.Flags) ∷ (codes "decision", key.Decision) ∷ (codes "pass", key.Pass)
+    ∷ [])
 
 -- end
 
@@ -85,3 +65,7 @@ are_among allowed ks = bit_and allowed.0 ks.0 == ks.0
 -- there are no keys but the allowed ones
 abbrev pub only : Keys → Keys → Result ⊤ KeyError
 only allowed ks = if are_among allowed ks then Ok tt else Err Shape
+
+-- the value, if there are no keys but the allowed ones
+abbrev pub with_only : {X : Type 0} → Keys → Keys → X → Result X KeyError
+with_only allowed ks x = only allowed ks >>= (λ _. Ok x)

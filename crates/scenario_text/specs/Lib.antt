@@ -1,15 +1,11 @@
+pub mod Plan
+pub mod CommonNames
 pub mod Fields
 pub mod Keys
 pub mod Names
-pub mod Plan
-pub mod Arrays
 pub mod Rules
-pub mod Acts
-pub mod Tracing
 pub mod Steps
 pub mod Faults
 pub mod Scenarios
 pub mod OneStep
 pub mod Streams
-pub mod Listing
-pub mod Whole

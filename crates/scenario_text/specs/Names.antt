@@ -1,19 +1,11 @@
 -- The meaning of each name of a scenario. Written by `tools/format` from format/scenario.toml.
-use Rattle.std.specs.Prelude.{ℕ, List, [], ◌∷◌, Option, Some, None, codes, if◌then◌else◌}
-use Rattle.std.specs.Str.{bytes_eq}
-use Rattle.signals.specs.declared.Disposition.{Disposition}
+use Rattle.scenario_text.specs.CommonNames.{ℕ, List, [], ◌∷◌, Option, Some, None, codes, if◌then◌else◌, bytes_eq, Disposition, Request, Op, WaitOption, ActKind, CallKind, DecisionKind}
 use Rattle.signals.specs.declared.Disposition.TheVariants as dispositions
-use Rattle.requests.specs.declared.Request.{Request}
 use Rattle.requests.specs.declared.Request.TheVariants as requests
-use Rattle.scenario_text.specs.declared.names.Op.{Op}
 use Rattle.scenario_text.specs.declared.names.Op.TheVariants as ops
-use Rattle.scenario_text.specs.declared.names.WaitOption.{WaitOption}
 use Rattle.scenario_text.specs.declared.names.WaitOption.TheVariants as options
-use Rattle.scenario_text.specs.declared.names.ActKind.{ActKind}
 use Rattle.scenario_text.specs.declared.names.ActKind.TheVariants as acts
-use Rattle.scenario_text.specs.declared.names.CallKind.{CallKind}
 use Rattle.scenario_text.specs.declared.names.CallKind.TheVariants as calls
-use Rattle.scenario_text.specs.declared.names.DecisionKind.{DecisionKind}
 use Rattle.scenario_text.specs.declared.names.DecisionKind.TheVariants as decisions
 
 -- the value of the text in a table

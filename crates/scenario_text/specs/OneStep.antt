@@ -1,11 +1,6 @@
 -- A text that is one step.
-use Rattle.std.specs.Prelude.{⊤, ◌<◌, ◌≤◌, ℕ, List, length, Result, Ok, Err}
-use Rattle.serde_json.specs.Data.{Data}
-use Rattle.requests.specs.Run.{Asked}
-use Rattle.scenario_text.specs.declared.fault.Fault.{Fault}
-use Rattle.scenario_text.specs.declared.fault.Fault.TheVariants.{TooLong, BadJson, Memory}
-use Rattle.scenario_text.specs.Scenarios.{numbered, HasValue, HasNoValue}
-use Rattle.scenario_text.specs.Steps.{step_of}
+use Rattle.scenario_text.specs.CommonNames.{◌<◌, ◌≤◌, ℕ, List, length, Result, Err, Data, Asked, Fault, TooLong, BadJson}
+use Rattle.scenario_text.specs.{Scenarios.numbered, Scenarios.HasValue, Scenarios.HasNoValue, Scenarios.Answers, Fields.seen, Steps.step_of}
 
 abbrev pub max_step_bytes : ℕ
 max_step_bytes = 65536
@@ -18,6 +13,4 @@ pub data IsStep (bytes : List ℕ) : Result Asked Fault → Type 0 where
 
 -- the returned result, mapped by view, satisfies the relation, unless memory ran out
 abbrev pub AnswersBy : {X Y : Type 0} → (X → Y) → Result X Fault → (Result Y Fault → Type 0) → Type 0
-AnswersBy view (Ok x) P = P (Ok (view x))
-AnswersBy view (Err Memory) P = ⊤
-AnswersBy view (Err e) P = P (Err e)
+AnswersBy view r P = Answers (seen view r) P

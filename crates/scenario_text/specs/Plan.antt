@@ -2,10 +2,7 @@
 use Rattle.std.specs.Prelude.{⊤, ℕ, List, [], ◌∷◌, Option, Some, None}
 use Rattle.stop_handlers.specs.declared.Rule.{Rule}
 use Rattle.trace_stop.specs.declared.Settings.{Settings}
-use Rattle.requests.specs.Plain.{PlainStep, map_handler}
-use Rattle.requests.specs.declared.step.Step.{Step}
-use Rattle.requests.specs.declared.step.Step.TheVariants.{Install}
-use Rattle.requests.specs.Run.{Asked}
+use Rattle.requests.specs.{Plain.PlainStep, Plain.map_handler, declared.step.Step.Step, declared.step.Step.TheVariants.Install, Run.Asked}
 
 -- the settings of the host, and the steps in order
 pub record Plan : Type 0 where

@@ -1,28 +1,13 @@
 -- The rules of a policy, from their JSON values.
-use Rattle.std.specs.Prelude.{ℕ, List, Option, Some, None, Result, Ok, Err, codes, nat_lt, if◌then◌else◌}
-use Rattle.serde_json.specs.Data.{Data, Items, Members, array, object}
-use Rattle.serde_json.specs.Events.{items_len}
-use Rattle.serde_json.specs.Find.{get_member}
-use Rattle.event_masks.specs.Exits.{no_flags}
-use Rattle.stop_handlers.specs.declared.Rule.{Rule}
-use Rattle.stop_handlers.specs.declared.Decision.{Decision}
+use Rattle.scenario_text.specs.CommonNames.{ℕ, List, Option, Some, None, Result, Ok, Err, codes, nat_lt, if◌then◌else◌, Data, Items, Members, object, items_len, get_member, no_flags, Rule, Decision}
+use Rattle.scenario_text.specs.CommonNames.{KeyError, Shape, Keys, SIGNAL, FLAGS, DECISION, PASS, DecisionKind, RuleFields}
+use Rattle.scenario_text.specs.Fields.{◌>>=◌, Atom, atom_of, number_within, name_in, items_of, optional, required, each, signal_in, flags_of}
+use Rattle.scenario_text.specs.{declared.fields.KeyError.TheVariants.TooManyRules, Keys.◌∪◌, Keys.keys_in, Keys.with_only, Names.decision_named}
 use Rattle.stop_handlers.specs.declared.Decision.TheVariants as decision
-use Rattle.scenario_text.specs.declared.fields.KeyError.{KeyError}
-use Rattle.scenario_text.specs.declared.fields.KeyError.TheVariants.{Shape, TooManyRules}
-use Rattle.scenario_text.specs.declared.keys.Keys.{Keys}
-use Rattle.scenario_text.specs.declared.keys.TheConstants.Keys.{SIGNAL, FLAGS, DECISION, PASS}
-use Rattle.scenario_text.specs.declared.names.DecisionKind.{DecisionKind}
 use Rattle.scenario_text.specs.declared.names.DecisionKind.TheVariants as kind
-use Rattle.scenario_text.specs.declared.rules.RuleFields.{RuleFields}
-use Rattle.scenario_text.specs.Fields.{◌>>=◌, Atom, atom_of, number_within, name_in, optional, required, each}
-use Rattle.scenario_text.specs.Keys.{◌∪◌, keys_in, only}
-use Rattle.scenario_text.specs.Names.{decision_named}
-use Rattle.scenario_text.specs.Arrays.{signal_in, flags_of}
 
 abbrev pub some_signal : Atom → Result (Option ℕ) KeyError
-some_signal a = do
-  signal ← signal_in a
-  Ok (Some signal)
+some_signal a = signal_in a >>= (λ signal. Ok (Some signal))
 
 -- the signal with which a process is resumed, 0 for none
 abbrev pub pass_in : Atom → Result ℕ KeyError
@@ -50,11 +35,9 @@ decision_of kind.Detach f = f.pass >>= (λ n. Ok (decision.Detach n))
 
 -- the keys of a rule with such a decision
 abbrev pub rule_keys : DecisionKind → Keys
-rule_keys kind.Decline = SIGNAL ∪ FLAGS ∪ DECISION
-rule_keys kind.Leave = SIGNAL ∪ FLAGS ∪ DECISION
-rule_keys kind.Kill = SIGNAL ∪ FLAGS ∪ DECISION
 rule_keys kind.Continue = SIGNAL ∪ FLAGS ∪ DECISION ∪ PASS
 rule_keys kind.Detach = SIGNAL ∪ FLAGS ∪ DECISION ∪ PASS
+rule_keys k = SIGNAL ∪ FLAGS ∪ DECISION
 
 unfoldable pub rule_from : RuleFields → Result Rule KeyError
 rule_from f = do
@@ -62,8 +45,7 @@ rule_from f = do
   flags ← f.flags
   kind ← f.decision
   decision ← decision_of kind f
-  _ ← only (rule_keys kind) f.keys
-  Ok (record { signal = signal; flags = flags; decision = decision })
+  with_only (rule_keys kind) f.keys (record { signal = signal; flags = flags; decision = decision })
 
 abbrev pub rule_of : Data → Result Rule KeyError
 rule_of (object ms) = rule_from (rule_fields_in ms)
@@ -71,8 +53,7 @@ rule_of d = Err Shape
 
 -- at most 16 rules
 abbrev pub policy_of : Items → Result (List Rule) KeyError
-policy_of items = if nat_lt 16 (items_len items) then Err TooManyRules else each rule_of items
+policy_of items = if nat_lt 16 (items_len items) then Err TooManyRules else each (λ _ d. rule_of d) 0 items
 
 abbrev pub rules_of : Data → Result (List Rule) KeyError
-rules_of (array ds) = policy_of ds
-rules_of d = Err Shape
+rules_of d = items_of d >>= policy_of

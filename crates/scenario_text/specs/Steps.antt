@@ -1,25 +1,16 @@
 -- A step of a scenario, from its JSON value. Its keys are checked one by one, and the first failure is the flaw.
-use Rattle.std.specs.Prelude.{ℕ, List, Option, Result, Ok, Err, codes}
-use Rattle.serde_json.specs.Data.{Data, Members, object}
-use Rattle.serde_json.specs.Find.{get_member}
-use Rattle.requests.specs.Plain.{PlainStep}
+use Rattle.scenario_text.specs.CommonNames.{ℕ, List, Option, Result, Ok, Err, codes, Data, Members, object, get_member, PlainStep, Call, Act, Request, no_options, Asked, Fields, KeyError, Shape, User}
+use Rattle.scenario_text.specs.CommonNames.{Number, Keys, ActKind, CallKind, Op}
+use Rattle.scenario_text.specs.Fields.{◌>>=◌, Atom, atom_of, integer, within, word, name_in, required, optional, options_of, mask_of, set_of}
+use Rattle.scenario_text.specs.{Keys.◌∪◌, Keys.keys_in, Keys.with_only, Names.op_named, Names.disposition_named, Names.act_named, Names.call_named, Names.request_named, Rules.rules_of}
 use Rattle.requests.specs.declared.step.Step.TheVariants as plain
-use Rattle.requests.specs.Handle.{no_options}
-use Rattle.requests.specs.Run.{Asked}
-use Rattle.scenario_text.specs.declared.fields.Fields.{Fields}
-use Rattle.scenario_text.specs.declared.fields.KeyError.{KeyError}
-use Rattle.scenario_text.specs.declared.fields.KeyError.TheVariants.{Shape, User}
-use Rattle.scenario_text.specs.declared.keys.Keys.{Keys}
+use Rattle.event_masks.specs.declared.Call.TheVariants as call
+use Rattle.requests.specs.declared.Act.TheVariants as act
+use Rattle.requests.specs.declared.Request.TheVariants as request
 use Rattle.scenario_text.specs.declared.keys.TheConstants.Keys as key
-use Rattle.scenario_text.specs.declared.names.Op.{Op}
+use Rattle.scenario_text.specs.declared.names.ActKind.TheVariants as acts
+use Rattle.scenario_text.specs.declared.names.CallKind.TheVariants as calls
 use Rattle.scenario_text.specs.declared.names.Op.TheVariants as ops
-use Rattle.scenario_text.specs.Fields.{◌>>=◌, Atom, atom_of, integer, within, word, name_in, required, optional}
-use Rattle.scenario_text.specs.Keys.{◌∪◌, keys_in, only}
-use Rattle.scenario_text.specs.Names.{op_named, disposition_named, act_named, call_named, request_named}
-use Rattle.scenario_text.specs.Arrays.{options_of, mask_of, set_of}
-use Rattle.scenario_text.specs.Rules.{rules_of}
-use Rattle.scenario_text.specs.Acts.{act_of}
-use Rattle.scenario_text.specs.Tracing.{ptrace_of}
 
 abbrev pub user_in : Atom → Result ℕ KeyError
 user_in a = integer a >>= within 1001 1064 User
@@ -54,71 +45,96 @@ fields_by at keys = record {
 abbrev pub fields_in : Members → Fields
 fields_in ms = fields_by (λ k. get_member k ms) (keys_in ms)
 
-unfoldable pub spawn_of : Fields → Result PlainStep KeyError
-spawn_of f = do
-  _ ← only (key.USER ∪ key.OP) f.keys
-  Ok plain.Spawn
+-- ---- turns
 
-unfoldable pub wait4_of : Fields → Result PlainStep KeyError
-wait4_of f = do
+-- the keys that every turn has
+abbrev pub turn_keys : Keys
+turn_keys = key.USER ∪ key.OP ∪ key.LWP ∪ key.ACT
+
+-- the code of an exit is its exit status, the code of another call is its number
+abbrev pub call_of : CallKind → Fields → Result Call KeyError
+call_of calls.Exit f = f.code >>= within 0 255 Number >>= (λ code. Ok (call.Exit code))
+call_of calls.Fork f = Ok call.Fork
+call_of calls.Exec f = Ok call.Exec
+call_of calls.Vfork f = Ok call.Vfork
+call_of calls.ThrExit f = Ok call.ThrExit
+call_of calls.ThrNew f = Ok call.ThrNew
+call_of calls.Other f = f.code >>= within 0 4294967295 Number >>= (λ code. Ok (call.Other code))
+
+-- the keys of a turn that enters such a call
+abbrev pub call_keys : CallKind → Keys
+call_keys calls.Exit = turn_keys ∪ key.CALL ∪ key.CODE
+call_keys calls.Other = turn_keys ∪ key.CALL ∪ key.CODE
+call_keys kind = turn_keys ∪ key.CALL
+
+-- the act of an LWP at its turn
+abbrev pub act_of : ActKind → Fields → Result Act KeyError
+act_of acts.Compute f = with_only turn_keys f.keys act.Compute
+act_of acts.Leave f = with_only turn_keys f.keys act.Leave
+act_of acts.Raise f = f.signal >>= (λ signal. with_only (turn_keys ∪ key.SIGNAL) f.keys (act.Raise signal))
+act_of acts.Block f = f.set >>= (λ set. with_only (turn_keys ∪ key.SET) f.keys (act.Block set))
+act_of acts.Enter f = do
+  kind ← f.call
+  call ← call_of kind f
+  with_only (call_keys kind) f.keys (act.Enter call)
+
+-- ---- requests of ptrace(2)
+
+-- the keys that every ptrace step has
+abbrev pub ptrace_keys : Keys
+ptrace_keys = key.USER ∪ key.OP ∪ key.CALLER ∪ key.REQUEST
+
+-- the requests but two
+unfoldable pub request_of : ℕ → Request → Fields → Result PlainStep KeyError
+request_of caller r f = do
+  target ← f.target
+  «data» ← f.«data»
+  with_only (ptrace_keys ∪ key.TARGET ∪ key.DATA) f.keys (plain.Ptrace caller r target «data»)
+
+-- PT_TRACE_ME names no other process
+abbrev pub asked_of : ℕ → Request → Fields → Result PlainStep KeyError
+asked_of caller request.TraceMe f = with_only ptrace_keys f.keys (plain.Ptrace caller request.TraceMe 0 0)
+asked_of caller request.SetEventMask f = do
+  target ← f.target
+  mask ← f.mask
+  with_only (ptrace_keys ∪ key.TARGET ∪ key.MASK) f.keys (plain.Ptrace caller request.SetEventMask target mask.0)
+asked_of caller r f = request_of caller r f
+
+-- ---- steps
+
+-- the step of an op; its keys are checked one by one
+unfoldable pub rest_of : Op → Fields → Result PlainStep KeyError
+rest_of ops.Spawn f = with_only (key.USER ∪ key.OP) f.keys plain.Spawn
+rest_of ops.Ptrace f = do
+  caller ← f.caller
+  request ← f.request
+  asked_of caller request f
+rest_of ops.Wait4 f = do
   caller ← f.caller
   which ← f.which
   options ← f.options
-  _ ← only (key.USER ∪ key.OP ∪ key.CALLER ∪ key.WHICH ∪ key.OPTIONS) f.keys
-  Ok (plain.Wait4 caller which options)
-
-unfoldable pub kill_of : Fields → Result PlainStep KeyError
-kill_of f = do
+  with_only (key.USER ∪ key.OP ∪ key.CALLER ∪ key.WHICH ∪ key.OPTIONS) f.keys (plain.Wait4 caller which options)
+rest_of ops.Kill f = do
   caller ← f.caller
   which ← f.which
   signal ← f.signal
-  _ ← only (key.USER ∪ key.OP ∪ key.CALLER ∪ key.WHICH ∪ key.SIGNAL) f.keys
-  Ok (plain.Kill caller which signal)
-
-unfoldable pub sigaction_of : Fields → Result PlainStep KeyError
-sigaction_of f = do
+  with_only (key.USER ∪ key.OP ∪ key.CALLER ∪ key.WHICH ∪ key.SIGNAL) f.keys (plain.Kill caller which signal)
+rest_of ops.Sigaction f = do
   caller ← f.caller
   signal ← f.signal
   disposition ← f.action
-  _ ← only (key.USER ∪ key.OP ∪ key.CALLER ∪ key.SIGNAL ∪ key.ACTION) f.keys
-  Ok (plain.Sigaction caller signal disposition)
-
-unfoldable pub list_of : Fields → Result PlainStep KeyError
-list_of f = do
-  caller ← f.caller
-  _ ← only (key.USER ∪ key.OP ∪ key.CALLER) f.keys
-  Ok (plain.List caller)
-
-unfoldable pub install_of : Fields → Result PlainStep KeyError
-install_of f = do
+  with_only (key.USER ∪ key.OP ∪ key.CALLER ∪ key.SIGNAL ∪ key.ACTION) f.keys (plain.Sigaction caller signal disposition)
+rest_of ops.List f = f.caller >>= (λ caller. with_only (key.USER ∪ key.OP ∪ key.CALLER) f.keys (plain.List caller))
+rest_of ops.Install f = do
   caller ← f.caller
   rules ← f.rules
-  _ ← only (key.USER ∪ key.OP ∪ key.CALLER ∪ key.RULES) f.keys
-  Ok (plain.Install caller rules)
-
-unfoldable pub handle_of : Fields → Result PlainStep KeyError
-handle_of f = do
-  caller ← f.caller
-  _ ← only (key.USER ∪ key.OP ∪ key.CALLER) f.keys
-  Ok (plain.Handle caller)
-
-unfoldable pub turn_of : Fields → Result PlainStep KeyError
-turn_of f = do
+  with_only (key.USER ∪ key.OP ∪ key.CALLER ∪ key.RULES) f.keys (plain.Install caller rules)
+rest_of ops.Handle f = f.caller >>= (λ caller. with_only (key.USER ∪ key.OP ∪ key.CALLER) f.keys (plain.Handle caller))
+rest_of ops.Turn f = do
   lwp ← f.lwp
   kind ← f.act
   act ← act_of kind f
   Ok (plain.Turn lwp act)
-
-abbrev pub rest_of : Op → Fields → Result PlainStep KeyError
-rest_of ops.Spawn f = spawn_of f
-rest_of ops.Ptrace f = ptrace_of f
-rest_of ops.Wait4 f = wait4_of f
-rest_of ops.Kill f = kill_of f
-rest_of ops.Sigaction f = sigaction_of f
-rest_of ops.List f = list_of f
-rest_of ops.Install f = install_of f
-rest_of ops.Handle f = handle_of f
-rest_of ops.Turn f = turn_of f
 
 unfoldable pub step_from : Fields → Result Asked KeyError
 step_from f = do

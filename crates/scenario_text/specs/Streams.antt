@@ -1,22 +1,15 @@
--- Values that a reader's next tokens come to.
-use Rattle.std.specs.Prelude.{◌≡◌, ℕ, List, Option, Some, None, Result, Ok, Err}
-use Rattle.json.specs.Json.{value}
-use Rattle.json.specs.Token.{Token}
-use Rattle.json.specs.declared.reader.Invalid.{Invalid}
-use Rattle.json_values.specs.Reading.{read_items, read_members}
-use Rattle.serde_json.specs.Data.{Data, Items, Members}
-use Rattle.serde_json.specs.Read.{of_json, converted}
-use Rattle.scenario_text.specs.declared.fields.Fields.{Fields}
-use Rattle.scenario_text.specs.declared.keys.Key.{Key}
+-- What a reader's next tokens come to: values, the steps and the members of a scenario while they are read, and a text
+-- that is one value.
+use Rattle.scenario_text.specs.CommonNames.{◌≡◌, ℕ, List, Option, Some, None, Result, Ok, Err, ⊤, ◌<◌, ◌≤◌, ℤ, pos, [], ◌∷◌, ◌++◌, Bool, false, length, codes, take, option_map, bytes_eq, value, Token}
+use Rattle.scenario_text.specs.CommonNames.{Invalid, read_items, read_members, members_among, Data, Items, Members, of_json, converted, items_len, get_member, Asked, Rule, Fields, Key, RuleFields}
+use Rattle.scenario_text.specs.CommonNames.{Fault, KeyError, Listed, ScenarioKey, RuleList, Stop, max_steps}
+use Rattle.scenario_text.specs.Fields.{Atom, atom_of, integer, word, name_in, items_of, required, optional, options_of, mask_of, set_of, flags_of, ◌>>=◌}
+use Rattle.scenario_text.specs.{Keys.◌∪◌, Keys.key_set, Steps.user_in, Scenarios.at_step, Scenarios.steps_from}
+use Rattle.scenario_text.specs.{Names.op_named, Names.disposition_named, Names.act_named, Names.call_named, Names.request_named, Names.decision_named, Rules.some_signal, Rules.pass_in, Rules.rules_of}
 use Rattle.scenario_text.specs.declared.keys.Key.TheVariants as key
 use Rattle.scenario_text.specs.declared.keys.TheConstants.Keys as keys
-use Rattle.scenario_text.specs.declared.rules.RuleFields.{RuleFields}
-use Rattle.scenario_text.specs.Arrays.{options_of, mask_of, set_of, flags_of}
-use Rattle.scenario_text.specs.Fields.{Atom, atom_of, integer, word, name_in}
-use Rattle.scenario_text.specs.Keys.{◌∪◌, key_set}
-use Rattle.scenario_text.specs.Names.{op_named, disposition_named, act_named, call_named, request_named, decision_named}
-use Rattle.scenario_text.specs.Rules.{some_signal, pass_in, rules_of}
-use Rattle.scenario_text.specs.Steps.{user_in}
+use Rattle.scenario_text.specs.declared.parsing.ScenarioKey.TheVariants as scenario_key
+use Rattle.scenario_text.specs.declared.stop.Stop.TheVariants as stop
 
 -- the result fits the data that was read; an error means that none was
 abbrev pub Fits : {X D : Type 0} → (X → D → Type 0) → Option (D × List Token) → Result X Invalid → List Token → Type 0
@@ -34,6 +27,62 @@ ReadsItems P depth r ts left = Fits P (read_items depth ts) r left
 -- the members of an object, behind its brace
 abbrev pub ReadsMembers : {X : Type 0} → (X → Members → Type 0) → ℕ → Result X Invalid → List Token → List Token → Type 0
 ReadsMembers P depth r ts left = Fits P (read_members depth ts) r left
+
+-- the result fits the data that was read; nothing was read, or memory ran out
+abbrev pub Tries : {X D : Type 0} → (X → D → Type 0) → Option (D × List Token) → Result X Stop → List Token → Type 0
+Tries {D = D} P read (Ok x) left = (d : D) × (read ≡ Some (d, left)) × P x d
+Tries P read (Err stop.Invalid) left = read ≡ None
+Tries P read (Err stop.Memory) left = ⊤
+
+-- the result fits the value of the text; the text has no value, or memory ran out
+abbrev pub TriesText : {X : Type 0} → (X → Data → Type 0) → Option Data → Result X Stop → Type 0
+TriesText P read (Ok x) = (d : Data) × (read ≡ Some d) × P x d
+TriesText P read (Err stop.Invalid) = read ≡ None
+TriesText P read (Err stop.Memory) = ⊤
+
+-- ---- the steps and the members of a scenario
+
+-- one more result, unless an earlier one failed
+abbrev pub pushed : {X E : Type 0} → Result (List X) E → Result X E → Result (List X) E
+pushed list one = list >>= (λ xs. one >>= (λ x. Ok (xs ++ x ∷ [])))
+
+-- the value, unless there is a flaw
+abbrev unless : {X E : Type 0} → Option E → X → Result X E
+unless None x = Ok x
+unless (Some flaw) x = Err flaw
+
+-- the steps so far, or the fault of the first that has one
+abbrev pub taken : Listed → Result (List Asked) Fault
+taken l = unless (option_map (λ flaw. at_step flaw.0 flaw.1) l.flaw) l.steps
+
+-- the list is that of an array with these items; of more than `max_steps` items it only says so
+pub record IsListOf (l : Listed) (ds : Items) : Type 0 where
+  pub few : l.count ≤ max_steps → (items_len ds ≤ max_steps) × (taken l ≡ steps_from 1 ds)
+  pub many : max_steps < l.count → max_steps < items_len ds
+  pub short : length l.steps ≤ l.count
+
+-- the list is that of the array, or the value is no array
+abbrev pub StepsAre : Result Listed KeyError → Result Items KeyError → Type 0
+StepsAre (Err flaw) r = r ≡ Err flaw
+StepsAre (Ok l) r = (ds : Items) × (r ≡ Ok ds) × IsListOf l ds
+
+-- the name of a key of a scenario, and of any other key
+abbrev pub IsNamed : ScenarioKey → List ℕ → Type 0
+IsNamed scenario_key.Steps name = name ≡ codes "steps"
+IsNamed scenario_key.KillOnDebuggerExit name = name ≡ codes "kill_on_debugger_exit"
+IsNamed scenario_key.Other name = (bytes_eq name (codes "steps") ≡ false) × (bytes_eq name (codes "kill_on_debugger_exit") ≡ false)
+
+-- what was read of a scenario's members
+pub record AreRead (steps : Result Listed KeyError) (kill : Result ℤ KeyError) (alone : Bool) (ms : Members) : Type 0 where
+  pub steps_are : StepsAre steps (required items_of (get_member (codes "steps") ms))
+  pub kill_is : kill ≡ optional (pos 1) (λ d. integer (atom_of d)) (get_member (codes "kill_on_debugger_exit") ms)
+  pub alone_is : alone ≡ members_among (codes "steps" ∷ codes "kill_on_debugger_exit" ∷ []) ms
+
+-- the rules so far, or the flaw of the first that has one
+abbrev pub rules_taken : RuleList → Result (List Rule) KeyError
+rules_taken l = unless l.flaw (take l.count l.rules)
+
+-- ---- the keys of steps and rules
 
 -- what the keys of a step say, once a key has an atom or a value
 -- tools/format keys

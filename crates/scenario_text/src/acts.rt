@@ -1,6 +1,7 @@
 //! The acts of an LWP at its turn.
 ghost use Rattle.std.specs.Prelude.{◌≡◌};
-ghost use Rattle.scenario_text.specs.Acts.{call_of, call_keys, turn_keys, raise_of, block_of, enter_of, act_of};
+ghost use Rattle.scenario_text.specs.Steps.{call_of, call_keys, turn_keys, act_of};
+ghost use Rattle.scenario_text.specs.declared.names.ActKind.TheVariants as acts;
 
 use crate::atoms::within;
 use crate::fields::{Fields, KeyError, only};
@@ -48,27 +49,24 @@ fn call_keys(kind: CallKind) -> Keys
     }
 }
 
-#[tactic(auto, unfolding(crate::specs::Acts::raise_of))]
 fn raise_of(step: &Fields) -> Result<Act, KeyError>
-    ensures { result ≡ raise_of step.now }
+    ensures { result ≡ act_of acts.Raise step.now }
 {
     let signal = step.signal?;
     only(turn_keys() | Keys::SIGNAL, step.keys)?;
     Ok(Act::Raise(signal))
 }
 
-#[tactic(auto, unfolding(crate::specs::Acts::block_of))]
 fn block_of(step: &Fields) -> Result<Act, KeyError>
-    ensures { result ≡ block_of step.now }
+    ensures { result ≡ act_of acts.Block step.now }
 {
     let set = step.set?;
     only(turn_keys() | Keys::SET, step.keys)?;
     Ok(Act::Block(set))
 }
 
-#[tactic(auto, unfolding(crate::specs::Acts::enter_of))]
 fn enter_of(step: &Fields) -> Result<Act, KeyError>
-    ensures { result ≡ enter_of step.now }
+    ensures { result ≡ act_of acts.Enter step.now }
 {
     let kind = step.call?;
     let call = call_of(step, kind)?;

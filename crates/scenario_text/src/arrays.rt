@@ -4,8 +4,7 @@ ghost use Rattle.event_masks.specs.Exits.{mask_with, both};
 ghost use Rattle.event_masks.specs.Reading.{events_named, flag_named};
 ghost use Rattle.signals.specs.Sets.{with as signal_added};
 ghost use Rattle.scenario_text.specs.declared.fields.KeyError.{KeyError as Flaw};
-ghost use Rattle.scenario_text.specs.Arrays.{with_option, signal_in, adds, gather, gathered};
-ghost use Rattle.scenario_text.specs.Fields.{Atom, atom_in, name_in};
+ghost use Rattle.scenario_text.specs.Fields.{with_option, signal_in, adds, gather, gathered, Atom, atom_in, name_in};
 ghost use Rattle.scenario_text.specs.Names.{option_named};
 ghost use Rattle.scenario_text.specs.Streams.{Reads, ReadsItems};
 

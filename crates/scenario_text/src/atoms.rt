@@ -1,7 +1,6 @@
 //! Whole numbers and texts at the keys of steps and rules.
 ghost use Rattle.std.specs.Prelude.{◌≡◌};
-ghost use Rattle.scenario_text.specs.Fields.{atom_in, integer, number_within, word, text, Gives, within};
-ghost use Rattle.scenario_text.specs.Arrays.{signal_in};
+ghost use Rattle.scenario_text.specs.Fields.{atom_in, integer, number_within, word, text, Gives, within, signal_in};
 ghost use Rattle.scenario_text.specs.Steps.{user_in};
 
 use crate::fields::KeyError;

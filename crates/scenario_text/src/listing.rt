@@ -2,7 +2,7 @@
 ghost use Rattle.std.specs.Prelude.{◌≡◌, ◌+◌, ◌<◌, ◌≤◌, OnOk, length};
 ghost use Rattle.json_values.specs.Reading.{read_items};
 ghost use Rattle.scenario_text.specs.Fields.{items_of};
-ghost use Rattle.scenario_text.specs.Listing.{IsListOf, StepsAre, Tries, pushed, taken};
+ghost use Rattle.scenario_text.specs.Streams.{IsListOf, StepsAre, Tries, pushed, taken};
 ghost use Rattle.scenario_text.specs.Plan.{max_steps};
 ghost use Rattle.scenario_text.specs.Scenarios.{numbered};
 ghost use Rattle.scenario_text.specs.Steps.{step_of};

@@ -4,7 +4,7 @@ ghost use Rattle.serde_json.specs.Read.{read};
 ghost use Rattle.scenario_text.specs.Fields.{Gives};
 ghost use Rattle.scenario_text.specs.OneStep.{IsStep, AnswersBy};
 ghost use Rattle.scenario_text.specs.Plan.{asked};
-ghost use Rattle.scenario_text.specs.Whole.{TriesText};
+ghost use Rattle.scenario_text.specs.Streams.{TriesText};
 ghost use Rattle.scenario_text.specs.Steps.{step_of};
 ghost use Rattle.scenario_text.specs.declared.fault.Fault.TheVariants.{Read as ReadFault};
 

@@ -4,12 +4,11 @@ ghost use Rattle.json.specs.Json.{value};
 ghost use Rattle.json_values.specs.Reading.{read_members};
 ghost use Rattle.serde_json.specs.Data.{Members, object};
 ghost use Rattle.serde_json.specs.Read.{of_json, converted, read};
-ghost use Rattle.scenario_text.specs.Listing.{AreRead, IsNamed, Tries, taken};
+ghost use Rattle.scenario_text.specs.Streams.{AreRead, IsNamed, Tries, taken, TriesText};
 ghost use Rattle.scenario_text.specs.Plan.{Plan, max_steps};
 ghost use Rattle.scenario_text.specs.declared.fault.Fault.{Fault};
 ghost use Rattle.scenario_text.specs.declared.fault.Fault.TheVariants.{Read as ReadFault, TooManySteps};
 ghost use Rattle.scenario_text.specs.Scenarios.{at_step, head_settings, settings_of, plan_of, StandsFor, Yields, Answers};
-ghost use Rattle.scenario_text.specs.Whole.{TriesText};
 
 use crate::atoms::integer;
 use crate::fault::Fault;

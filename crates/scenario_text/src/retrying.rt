@@ -9,7 +9,7 @@ ghost use Rattle.std.specs.declared.io.ErrorKind.TheVariants.{Interrupted};
 use std::io::{Error, ErrorKind, Read, Result};
 
 /// Makes one read, and retries it while a signal interrupts it.
-#[tactic(auto, using(crate::proofs::RetryLemmas::reads_behind))]
+#[tactic(auto, using(crate::proofs::Answering::reads_behind))]
 pub(crate) fn read_some<R: Read>(reader: &mut R, buf: &mut [u8]) -> Result<usize>
     ensures bound { ReadsAtMost result buf.new }
     ensures bytes { ReadConsumes (R.remaining reader.old) (R.remaining reader.new) result buf.new }

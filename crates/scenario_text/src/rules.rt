@@ -220,7 +220,7 @@ pub(crate) struct RuleList {
 
 impl RuleList {
     ghost use Rattle.std.specs.Prelude.{Ok, [], ◌+◌};
-    ghost use Rattle.scenario_text.specs.Listing.{pushed, rules_taken};
+    ghost use Rattle.scenario_text.specs.Streams.{pushed, rules_taken};
 
     fn none() -> RuleList
         ensures taken { rules_taken result ≡ Ok [] }

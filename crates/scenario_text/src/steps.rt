@@ -2,7 +2,8 @@
 ghost use Rattle.std.specs.Prelude.{◌≡◌};
 ghost use Rattle.scenario_text.specs.Fields.{Gives};
 ghost use Rattle.scenario_text.specs.Plan.{asked};
-ghost use Rattle.scenario_text.specs.Steps.{spawn_of, wait4_of, kill_of, sigaction_of, list_of, install_of, handle_of, turn_of, rest_of, step_from};
+ghost use Rattle.scenario_text.specs.Steps.{rest_of, step_from};
+ghost use Rattle.scenario_text.specs.declared.names.Op.TheVariants as ops;
 
 use crate::acts::act_of;
 use crate::fields::{Fields, KeyError, only};
@@ -12,17 +13,17 @@ use crate::tracing::ptrace_of;
 use pid_blocks::Uid;
 use requests::PlainStep;
 
-#[tactic(auto, unfolding(crate::specs::Steps::spawn_of))]
+#[tactic(auto, unfolding(crate::specs::Steps::rest_of))]
 fn spawn_of(step: &Fields) -> Result<PlainStep, KeyError>
-    ensures { result ≡ spawn_of step.now }
+    ensures { result ≡ rest_of ops.Spawn step.now }
 {
     only(Keys::USER | Keys::OP, step.keys)?;
     Ok(PlainStep::Spawn)
 }
 
-#[tactic(auto, unfolding(crate::specs::Steps::wait4_of))]
+#[tactic(auto, unfolding(crate::specs::Steps::rest_of))]
 fn wait4_of(step: &Fields) -> Result<PlainStep, KeyError>
-    ensures { result ≡ wait4_of step.now }
+    ensures { result ≡ rest_of ops.Wait4 step.now }
 {
     let caller = step.caller?;
     let which = step.which?;
@@ -38,9 +39,9 @@ fn wait4_of(step: &Fields) -> Result<PlainStep, KeyError>
     })
 }
 
-#[tactic(auto, unfolding(crate::specs::Steps::kill_of))]
+#[tactic(auto, unfolding(crate::specs::Steps::rest_of))]
 fn kill_of(step: &Fields) -> Result<PlainStep, KeyError>
-    ensures { result ≡ kill_of step.now }
+    ensures { result ≡ rest_of ops.Kill step.now }
 {
     let caller = step.caller?;
     let which = step.which?;
@@ -52,9 +53,9 @@ fn kill_of(step: &Fields) -> Result<PlainStep, KeyError>
     Ok(PlainStep::Kill { caller, which, sig })
 }
 
-#[tactic(auto, unfolding(crate::specs::Steps::sigaction_of))]
+#[tactic(auto, unfolding(crate::specs::Steps::rest_of))]
 fn sigaction_of(step: &Fields) -> Result<PlainStep, KeyError>
-    ensures { result ≡ sigaction_of step.now }
+    ensures { result ≡ rest_of ops.Sigaction step.now }
 {
     let caller = step.caller?;
     let sig = step.signal?;
@@ -70,18 +71,18 @@ fn sigaction_of(step: &Fields) -> Result<PlainStep, KeyError>
     })
 }
 
-#[tactic(auto, unfolding(crate::specs::Steps::list_of))]
+#[tactic(auto, unfolding(crate::specs::Steps::rest_of))]
 fn list_of(step: &Fields) -> Result<PlainStep, KeyError>
-    ensures { result ≡ list_of step.now }
+    ensures { result ≡ rest_of ops.List step.now }
 {
     let caller = step.caller?;
     only(Keys::USER | Keys::OP | Keys::CALLER, step.keys)?;
     Ok(PlainStep::List { caller })
 }
 
-#[tactic(auto, unfolding(crate::specs::Steps::install_of))]
+#[tactic(auto, unfolding(crate::specs::Steps::rest_of))]
 fn install_of(step: &Fields) -> Result<PlainStep, KeyError>
-    ensures { result ≡ install_of step.now }
+    ensures { result ≡ rest_of ops.Install step.now }
 {
     let caller = step.caller?;
     let handler = step.rules?;
@@ -92,18 +93,18 @@ fn install_of(step: &Fields) -> Result<PlainStep, KeyError>
     Ok(PlainStep::Install { caller, handler })
 }
 
-#[tactic(auto, unfolding(crate::specs::Steps::handle_of))]
+#[tactic(auto, unfolding(crate::specs::Steps::rest_of))]
 fn handle_of(step: &Fields) -> Result<PlainStep, KeyError>
-    ensures { result ≡ handle_of step.now }
+    ensures { result ≡ rest_of ops.Handle step.now }
 {
     let caller = step.caller?;
     only(Keys::USER | Keys::OP | Keys::CALLER, step.keys)?;
     Ok(PlainStep::Handle { caller })
 }
 
-#[tactic(auto, unfolding(crate::specs::Steps::turn_of))]
+#[tactic(auto, unfolding(crate::specs::Steps::rest_of))]
 fn turn_of(step: &Fields) -> Result<PlainStep, KeyError>
-    ensures { result ≡ turn_of step.now }
+    ensures { result ≡ rest_of ops.Turn step.now }
 {
     let tid = step.lwp?;
     let act = act_of(step, step.act?)?;

@@ -1,6 +1,8 @@
 //! The requests of ptrace(2).
 ghost use Rattle.std.specs.Prelude.{◌≡◌};
-ghost use Rattle.scenario_text.specs.Tracing.{ptrace_keys, trace_me_of, set_event_mask_of, request_of, asked_of, ptrace_of};
+ghost use Rattle.requests.specs.declared.Request.TheVariants as ptrace;
+ghost use Rattle.scenario_text.specs.Steps.{ptrace_keys, request_of, asked_of, rest_of};
+ghost use Rattle.scenario_text.specs.declared.names.Op.TheVariants as ops;
 
 use crate::fields::{Fields, KeyError, only};
 use crate::keys::Keys;
@@ -13,9 +15,8 @@ fn ptrace_keys() -> Keys
     Keys::USER | Keys::OP | Keys::CALLER | Keys::REQUEST
 }
 
-#[tactic(auto, unfolding(crate::specs::Tracing::trace_me_of))]
 fn trace_me_of(step: &Fields, caller: u32) -> Result<PlainStep, KeyError>
-    ensures { result ≡ trace_me_of caller step.now }
+    ensures { result ≡ asked_of caller ptrace.TraceMe step.now }
 {
     only(ptrace_keys(), step.keys)?;
     Ok(PlainStep::Ptrace {
@@ -26,9 +27,8 @@ fn trace_me_of(step: &Fields, caller: u32) -> Result<PlainStep, KeyError>
     })
 }
 
-#[tactic(auto, unfolding(crate::specs::Tracing::set_event_mask_of))]
 fn set_event_mask_of(step: &Fields, caller: u32) -> Result<PlainStep, KeyError>
-    ensures { result ≡ set_event_mask_of caller step.now }
+    ensures { result ≡ asked_of caller ptrace.SetEventMask step.now }
 {
     let target = step.target?;
     let mask = step.mask?;
@@ -42,7 +42,7 @@ fn set_event_mask_of(step: &Fields, caller: u32) -> Result<PlainStep, KeyError>
 }
 
 /// Returns a request with a target and data.
-#[tactic(auto, unfolding(crate::specs::Tracing::request_of))]
+#[tactic(auto, unfolding(crate::specs::Steps::request_of))]
 fn request_of(step: &Fields, caller: u32, request: Request) -> Result<PlainStep, KeyError>
     ensures { result ≡ request_of caller request step.now }
 {
@@ -68,9 +68,9 @@ fn asked_of(step: &Fields, caller: u32, request: Request) -> Result<PlainStep, K
 }
 
 /// Returns a ptrace step, from the keys of its request.
-#[tactic(auto, unfolding(crate::specs::Tracing::ptrace_of))]
+#[tactic(auto, unfolding(crate::specs::Steps::rest_of))]
 pub(crate) fn ptrace_of(step: &Fields) -> Result<PlainStep, KeyError>
-    ensures { result ≡ ptrace_of step.now }
+    ensures { result ≡ rest_of ops.Ptrace step.now }
 {
     let caller = step.caller?;
     let request = step.request?;

@@ -1,12 +1,6 @@
-use Rattle.json_values.proofs.CommonNames.{nat_tests, drop, sym, ap, ◌∙◌, arith, length-drop, prefix_len-le-length, count_trailing_zeros, is_plain}
-use Rattle.json_values.proofs.Runs.{run_stops, run_through}
+use Rattle.json_values.proofs.CommonNames.{drop, sym, ap, ◌∙◌, arith, prefix_len-le-length, count_trailing_zeros, is_plain, length-drop}
+use Rattle.json_values.proofs.Runs.{run_stops}
 use Rattle.json_values.proofs.bytes.plain_end.Goals as goal
-
-pub returns-then-found-eq0-clause-value : goal.returns-then-found-eq0-clause-value
-returns-then-found-eq0-clause-value c = grind (arith, nat_tests, run_through)
-
-pub returns-clause-value : goal.returns-clause-value
-returns-clause-value c = grind (arith, nat_tests, run_stops)
 
 pub returns-clause-bound : goal.returns-clause-bound
 returns-clause-bound c =

@@ -1,12 +1,7 @@
-use Rattle.json_values.proofs.CommonNames.{nat_tests, ◌∷◌, sym, ap, ◌∙◌, arith, string, is_blank, after_value, begins_colon, class, punctuate}
-use Rattle.json_values.proofs.Places.{a_key, a_string, at_operator, no_colon, no_string}
+use Rattle.json_values.proofs.CommonNames.{◌∷◌, sym, ap, ◌∙◌, is_blank, after_value, begins_colon, class, punctuate}
+use Rattle.json.specs.Token.{string}
+use Rattle.json_values.proofs.Places.{a_string, no_colon}
 use Rattle.json_values.proofs.plain.string.Goals as goal
-
-pub returns-in_default-clause-value : goal.returns-in_default-clause-value
-returns-in_default-clause-value c = no_string c.args.lexer.now c.args.place c.requires.1 c.requires.0 c.in_default.ensures.value
-
-pub returns-then-peek-eq58-clause-value : goal.returns-then-peek-eq58-clause-value
-returns-then-peek-eq58-clause-value c = grind (arith, nat_tests, at_operator, a_key)
 
 pub returns-else-peek-eq58-clause-value : goal.returns-else-peek-eq58-clause-value
 returns-else-peek-eq58-clause-value c =

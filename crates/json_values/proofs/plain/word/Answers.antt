@@ -1,9 +1,6 @@
-use Rattle.json_values.proofs.CommonNames.{nat_tests, arith, ◌≡◌, ◌∷◌, true, sym, ap, ◌∙◌, subst, is_good, after_value, punctuate, token, token_of}
-use Rattle.json_values.proofs.Places.{a_word, at_word, bad_word, behind, good, IsWord, word_is}
+use Rattle.json_values.proofs.CommonNames.{◌≡◌, ◌∷◌, true, sym, ap, ◌∙◌, subst, is_good, after_value, punctuate, token, token_of}
+use Rattle.json_values.proofs.Places.{a_word, at_word, behind, good, IsWord, word_is}
 use Rattle.json_values.proofs.plain.word.Goals as goal
-
-pub returns-in-Bad-clause-value : goal.returns-in-Bad-clause-value
-returns-in-Bad-clause-value c = grind (arith, nat_tests, bad_word, at_word, behind)
 
 pub returns : goal.returns
 returns c =

@@ -1,40 +1,12 @@
 use Rattle.json_values.proofs.CommonNames.{nat_tests, ◌≡◌, ◌-◌, length, Some, refl, ◌∙◌, arith, read_key, value, read_key-shorter, no_members}
-use Rattle.json_values.proofs.FirstTokens.{too_deep, passed_array, failed_array, passed_object, failed_object}
-use Rattle.json_values.proofs.Loops.{last_item, last_member, next_item_fails, next_member_fails, no_key, pass_item, pass_member}
+use Rattle.json_values.proofs.Loops.{pass_item, pass_member}
 use Rattle.json_values.proofs.scalars.+pass.Goals as goal
-
-pub next_scalar-returns-then-depth-eq0-clause-invalid : goal.next_scalar-returns-then-depth-eq0-clause-invalid
-next_scalar-returns-then-depth-eq0-clause-invalid t c = grind (arith, nat_tests, too_deep)
-
-pub next_scalar-returns-then-depth-eq0-2-clause-invalid : goal.next_scalar-returns-then-depth-eq0-2-clause-invalid
-next_scalar-returns-then-depth-eq0-2-clause-invalid t c = grind (arith, nat_tests, too_deep)
-
-pub next_scalar-returns-in_err-pass_items-in-Array-clause-invalid : goal.next_scalar-returns-in_err-pass_items-in-Array-clause-invalid
-next_scalar-returns-in_err-pass_items-in-Array-clause-invalid t c = grind (arith, nat_tests, failed_array)
-
-pub next_scalar-returns-in_ok-pass_items-in-Array-clause-ok : goal.next_scalar-returns-in_ok-pass_items-in-Array-clause-ok
-next_scalar-returns-in_ok-pass_items-in-Array-clause-ok t c = grind (arith, nat_tests, passed_array)
-
-pub next_scalar-returns-in_err-pass_members-in-Object-clause-invalid : goal.next_scalar-returns-in_err-pass_members-in-Object-clause-invalid
-next_scalar-returns-in_err-pass_members-in-Object-clause-invalid t c = grind (arith, nat_tests, failed_object)
-
-pub next_scalar-returns-in_ok-pass_members-in-Object-clause-ok : goal.next_scalar-returns-in_ok-pass_members-in-Object-clause-ok
-next_scalar-returns-in_ok-pass_members-in-Object-clause-ok t c = grind (arith, nat_tests, passed_object)
 
 pub pass_items-loop-reader-preserved : goal.pass_items-loop-reader-preserved
 pass_items-loop-reader-preserved t c = grind (arith, nat_tests, pass_item)
 
-pub pass_items-returns-in_err-next_scalar-clause-value : goal.pass_items-returns-in_err-next_scalar-clause-value
-pass_items-returns-in_err-next_scalar-clause-value t c = grind (arith, nat_tests, next_item_fails)
-
-pub pass_items-returns-clause-value : goal.pass_items-returns-clause-value
-pass_items-returns-clause-value t c = grind (arith, nat_tests, last_item)
-
 pub pass_members-loop-reader-init : goal.pass_members-loop-reader-init
 pass_members-loop-reader-init t c = (length c.args.reader.now, no_members, omega arith, refl, omega arith)
-
-pub pass_members-returns-in_err-next_key-clause-value : goal.pass_members-returns-in_err-next_key-clause-value
-pass_members-returns-in_err-next_key-clause-value t c = grind (arith, nat_tests, no_key)
 
 pub pass_members-loop-reader-preserved : goal.pass_members-loop-reader-preserved
 pass_members-loop-reader-preserved t c =
@@ -48,9 +20,3 @@ pass_members-loop-reader-preserved t c =
     let lesser = c.in_ok-next_scalar.ensures.shorter in
     let was = c.in_ok-next_scalar.ensures.ok in
     (n - 1, _, omega (arith, l.invariant.2), l.invariant.3 ∙ pass_member p l.invariant.1 n k l.reader s _ was.0 (omega (arith, l.invariant.2)) key was.1, omega (arith, l.invariant.4))
-
-pub pass_members-returns-in_err-next_scalar-clause-value : goal.pass_members-returns-in_err-next_scalar-clause-value
-pass_members-returns-in_err-next_scalar-clause-value t c = grind (arith, nat_tests, next_member_fails)
-
-pub pass_members-returns-clause-value : goal.pass_members-returns-clause-value
-pass_members-returns-clause-value t c = grind (arith, nat_tests, last_member)

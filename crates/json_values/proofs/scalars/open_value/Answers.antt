@@ -1,16 +1,6 @@
-use Rattle.json_values.proofs.CommonNames.{nat_tests, ◌≡◌, ℕ, ◌∷◌, None, ap, ◌∙◌, arith, rules, value, token_of, value_is, of_json, converted}
-use mir.Val.{SFits}
-use Rattle.json_values.proofs.FirstTokens.{no_token, string_scalar, integer_number, number_scalar, other_scalar, number_beyond}
+use Rattle.json_values.proofs.CommonNames.{nat_tests, ◌≡◌, ℕ, ◌∷◌, None, ap, ◌∙◌, arith, rules, value, token_of, value_is, of_json, converted, SFits}
+use Rattle.json_values.proofs.FirstTokens.{integer_number, number_scalar, number_beyond}
 use Rattle.json_values.proofs.scalars.open_value.Goals as goal
-
-pub returns-in_err-token-clause-invalid : goal.returns-in_err-token-clause-invalid
-returns-in_err-token-clause-invalid c = grind (arith, nat_tests, no_token)
-
-pub returns-in-String-clause-opened : goal.returns-in-String-clause-opened
-returns-in-String-clause-opened c = grind (arith, nat_tests, string_scalar)
-
-pub returns-in_ok-number_scalar-in-Number-clause-opened : goal.returns-in_ok-number_scalar-in-Number-clause-opened
-returns-in_ok-number_scalar-in-Number-clause-opened c = grind (arith, nat_tests, number_scalar)
 
 pub returns-in_err-number_scalar-in-Number-clause-invalid : goal.returns-in_err-number_scalar-in-Number-clause-invalid
 returns-in_err-number_scalar-in-Number-clause-invalid c =
@@ -18,9 +8,6 @@ returns-in_err-number_scalar-in-Number-clause-invalid c =
     let none : (depth : ℕ) → converted of_json (value depth c.args.reader.now) ≡ None =
     λ depth. number_beyond c.in-Number.text.now c.args.reader.now c.next.new.self depth (first ∙ ap (λ t. token_of t ∷ c.next.new.self) c.in-Number.is) c.in_err-number_scalar-in-Number.ensures.invalid in
     search (rules, none)
-
-pub returns-in-Bool-clause-opened : goal.returns-in-Bool-clause-opened
-returns-in-Bool-clause-opened c = grind (arith, nat_tests, other_scalar)
 
 pub returns-in-EndObject-clause-invalid : goal.returns-in-EndObject-clause-invalid
 returns-in-EndObject-clause-invalid c = λ depth.

@@ -1,5 +1,5 @@
-use Rattle.json_values.proofs.CommonNames.{◌≡◌, ◌+◌, ◌-◌, ◌<◌, get_or, drop, length, take, sym, ap, ◌∙◌, subst, arith, get_or-drop, length-drop, digit_value, AllDigits, digits_value}
-use Rattle.std.proofs.lemmas.Int.Digits.{digits_more, digits_value_more}
+use Rattle.json_values.proofs.CommonNames.{◌≡◌, ◌+◌, ◌-◌, ◌<◌, get_or, drop, length, take, sym, ap, ◌∙◌, subst, arith, get_or-drop, digit_value, AllDigits, digits_value, digits_more}
+use Rattle.json_values.proofs.CommonNames.{digits_value_more, length-drop}
 use Rattle.json_values.proofs.words.few_digits.Goals as goal
 
 pub loop-end-preserved : goal.loop-end-preserved

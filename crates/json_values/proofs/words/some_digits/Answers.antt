@@ -1,4 +1,4 @@
-use Rattle.json_values.proofs.CommonNames.{◌≡◌, ◌+◌, cond, drop, None, Some, sym, ap, ◌∙◌, arith, ne_eqb, drop-drop, length-drop, prefix_len-le-length, is_ascii_digit, prefix_len}
+use Rattle.json_values.proofs.CommonNames.{◌≡◌, ◌+◌, cond, drop, None, Some, sym, ap, ◌∙◌, arith, ne_eqb, drop-drop, prefix_len-le-length, is_ascii_digit, prefix_len, length-drop}
 use Rattle.json_values.proofs.words.some_digits.Goals as goal
 
 pub returns-else-end-from : goal.returns-else-end-from

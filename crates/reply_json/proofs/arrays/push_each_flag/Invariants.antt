@@ -1,4 +1,4 @@
-use Rattle.std.proofs.Common.{◌≡◌, ◌++◌, map, drop}
+use Rattle.reply_json.proofs.CommonNames.{◌≡◌, ◌++◌, map, drop}
 use Rattle.reply_json.proofs.TokenLemmas.{name_tokens}
 use Rattle.reply_json.proofs.arrays.push_each_flag.Given as goal
 

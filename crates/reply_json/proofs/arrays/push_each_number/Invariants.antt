@@ -1,7 +1,4 @@
-use Rattle.std.proofs.Common.{◌≡◌, ◌++◌, map, drop}
-use Rattle.json.specs.Tree.{items_tokens}
-use Rattle.json.specs.Value.{items_of}
-use Rattle.reply_json.specs.Objects.{natural}
+use Rattle.reply_json.proofs.CommonNames.{◌≡◌, ◌++◌, map, drop, items_tokens, items_of, natural}
 use Rattle.reply_json.proofs.arrays.push_each_number.Given as goal
 
 -- the tokens so far, and those of the numbers that are left

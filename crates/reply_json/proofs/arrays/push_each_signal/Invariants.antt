@@ -1,9 +1,4 @@
-use Rattle.std.proofs.Common.{◌≡◌, ◌++◌, map}
-use Rattle.json.specs.Json.{string}
-use Rattle.signals.specs.Names.{signal_name}
-use Rattle.signals.specs.Sets.{members}
-use Rattle.json.specs.Tree.{items_tokens}
-use Rattle.json.specs.Value.{items_of}
+use Rattle.reply_json.proofs.CommonNames.{◌≡◌, ◌++◌, map, string, signal_name, members, items_tokens, items_of}
 use Rattle.reply_json.proofs.arrays.push_each_signal.Given as goal
 
 -- the tokens so far, and those of the signals that are left

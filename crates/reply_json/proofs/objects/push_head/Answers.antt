@@ -1,6 +1,4 @@
-use Rattle.std.proofs.Common.{rules, [], ◌∷◌, codes}
-use Rattle.json.specs.Json.{string}
-use Rattle.reply_json.specs.Objects.{member_tokens, natural}
+use Rattle.reply_json.proofs.CommonNames.{rules, [], ◌∷◌, codes, string, member_tokens, natural}
 use Rattle.reply_json.proofs.TokenLemmas.{tokens_put}
 use Rattle.reply_json.proofs.objects.push_head.Goals as goal
 

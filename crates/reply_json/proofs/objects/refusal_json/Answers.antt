@@ -1,8 +1,4 @@
-use Rattle.std.proofs.Common.{◌≡◌, rules, arith, subst}
-use Rattle.json.specs.Lex.{tokens}
-use Rattle.json.specs.Print.{print}
-use Rattle.json.specs.Tree.{json_tokens}
-use Rattle.reply_json.specs.Replies.{refusal_value}
+use Rattle.reply_json.proofs.CommonNames.{◌≡◌, rules, arith, subst, tokens, print, json_tokens, refusal_value}
 use Rattle.reply_json.proofs.TokenLemmas.{document-back}
 use Rattle.reply_json.proofs.objects.refusal_json.Goals as goal
 

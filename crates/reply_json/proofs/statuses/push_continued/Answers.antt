@@ -1,5 +1,4 @@
-use Rattle.std.proofs.Common.{rules, true, [], ◌∷◌, codes}
-use Rattle.json.specs.Token.{key, boolean}
+use Rattle.reply_json.proofs.CommonNames.{rules, true, [], ◌∷◌, codes, key, boolean}
 use Rattle.reply_json.proofs.TokenLemmas.{tokens_put}
 use Rattle.reply_json.proofs.statuses.push_continued.Goals as goal
 

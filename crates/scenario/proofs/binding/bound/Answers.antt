@@ -1,6 +1,4 @@
-use Rattle.std.proofs.Common.{◌≡◌, ◌+◌, ◌∙◌, length, drop, Some, None, ap, sym, arith}
-use Rattle.std.specs.Vec.Iter.{into_iter_items}
-use Rattle.scenario_text.specs.Plan.{filled, policies_in, first_policy, step_with}
+use Rattle.scenario.proofs.CommonNames.{◌≡◌, ◌+◌, ◌∙◌, length, drop, Some, None, ap, sym, arith, into_iter_items, filled, policies_in, first_policy, step_with}
 use Rattle.scenario.proofs.BindLemmas.{all_bound, each_next, filled_next, first_before, one_bound, one_longer}
 use Rattle.scenario.proofs.binding.bound.Goals as goal
 

@@ -1,6 +1,4 @@
-use Rattle.std.proofs.Common.{◌≡◌, ◌≤◌, ◌++◌, map, length, drop}
-use Rattle.std.specs.Vec.Iter.{into_iter_items}
-use Rattle.scenario_text.specs.Plan.{asked, filled, policies_in}
+use Rattle.scenario.proofs.CommonNames.{◌≡◌, ◌≤◌, ◌++◌, map, length, drop, into_iter_items, asked, filled, policies_in}
 use Rattle.scenario.proofs.binding.bound.Given as goal
 
 abbrev pub invariant-loop-shape : goal.invariant-loop-shape

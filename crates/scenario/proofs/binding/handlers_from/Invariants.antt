@@ -1,4 +1,4 @@
-use Rattle.std.proofs.Common.{◌≡◌, take}
+use Rattle.scenario.proofs.CommonNames.{◌≡◌, take}
 use Rattle.scenario.proofs.binding.handlers_from.Given as goal
 
 abbrev pub invariant-loop-policy : goal.invariant-loop-policy

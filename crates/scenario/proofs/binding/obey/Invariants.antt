@@ -1,4 +1,4 @@
-use Rattle.std.proofs.Common.{◌≡◌, length, take}
+use Rattle.scenario.proofs.CommonNames.{◌≡◌, length, take}
 use Rattle.scenario.proofs.binding.obey.Given as goal
 
 abbrev pub invariant-loop-i : goal.invariant-loop-i

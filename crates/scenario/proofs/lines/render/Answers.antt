@@ -1,5 +1,4 @@
-use Rattle.std.proofs.Common.{◌≡◌, ◌++◌, [], ◌∷◌, get_or, map, ◌+◌, ap, ◌∙◌, refl, arith, rules}
-use Rattle.scenario.specs.Runs.{answered}
+use Rattle.scenario.proofs.CommonNames.{◌≡◌, ◌++◌, [], ◌∷◌, get_or, map, ◌+◌, ap, ◌∙◌, refl, arith, rules, answered}
 use Rattle.scenario.proofs.LineLemmas.{counted_start, counted_more, counted_few, counted_number, shown_after, shown_whole, text_more}
 use Rattle.scenario.proofs.lines.render.Goals as goal
 

@@ -1,5 +1,4 @@
-use Rattle.std.proofs.Common.{◌≡◌, ◌++◌, ℕ, List, length, map, drop, string_bytes}
-use Rattle.scenario.specs.Runs.{answered, shown}
+use Rattle.scenario.proofs.CommonNames.{◌≡◌, ◌++◌, ℕ, List, length, map, drop, string_bytes, answered, shown}
 use Rattle.scenario.proofs.LineLemmas.{Counted, shown_after}
 use Rattle.scenario.proofs.lines.render.Given as goal
 

@@ -1,4 +1,4 @@
-use Rattle.std.specs.Io.KnownBytes.{Keeps}
+use Rattle.scenario.proofs.CommonNames.{Keeps}
 use Rattle.scenario.proofs.retrying.write_some.Given as goal
 
 abbrev pub invariant-loop : goal.invariant-loop

@@ -1,5 +1,4 @@
-use Rattle.std.proofs.Common.{◌≡◌, None}
-use Rattle.std.specs.Vec.Iter.{into_iter_items}
+use Rattle.scenario.proofs.CommonNames.{◌≡◌, None, into_iter_items}
 use Rattle.scenario.proofs.BindLemmas.{needs_none, nothing_made, made_bound}
 use Rattle.scenario.proofs.running.reply_of.Goals as goal
 

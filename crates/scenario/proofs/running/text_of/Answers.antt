@@ -1,12 +1,7 @@
-use Rattle.std.proofs.Common.{◌+◌, ◌++◌, ◌∷◌, ◌∙◌, List, [], drop, refl, ap, sym, string_bytes, append-nil, arith}
-use Rattle.std.specs.Vec.Iter.{into_iter_items}
-use Rattle.requests.specs.Machine.{empty}
-use Rattle.requests.specs.Run.{Asked, replies}
-use Rattle.scenario_text.specs.Plan.{filled, policies_in, first_policy, step_with}
-use Rattle.scenario.specs.Runs.{answered, answers_of, paired}
-use Rattle.scenario.proofs.BindLemmas.{each_next, filled_next, first_before}
+use Rattle.scenario.proofs.CommonNames.{◌+◌, ◌++◌, ◌∷◌, ◌∙◌, List, [], drop, refl, ap, sym, string_bytes, append-nil, arith, into_iter_items, empty, Asked, replies, filled, policies_in, first_policy}
+use Rattle.scenario.proofs.CommonNames.{step_with, answered, answers_of, paired}
 use Rattle.scenario.proofs.LineLemmas.{counted_start, counted_more, counted_few, counted_number, shown_after, shown_none, shown_whole, text_next}
-use Rattle.scenario.proofs.RunLemmas.{answers_next, none_left}
+use Rattle.scenario.proofs.{BindLemmas.each_next, BindLemmas.filled_next, BindLemmas.first_before, RunLemmas.answers_next, RunLemmas.none_left}
 use Rattle.scenario.proofs.running.text_of.Goals as goal
 
 pub loop-shape-init : goal.loop-shape-init

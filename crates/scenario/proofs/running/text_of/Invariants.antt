@@ -1,8 +1,4 @@
-use Rattle.std.proofs.Common.{◌≡◌, ◌++◌, ℕ, List, length, drop, string_bytes}
-use Rattle.std.specs.Vec.Iter.{into_iter_items}
-use Rattle.requests.specs.Run.{replies}
-use Rattle.scenario_text.specs.Plan.{filled, policies_in}
-use Rattle.scenario.specs.Runs.{answers_of, paired, shown}
+use Rattle.scenario.proofs.CommonNames.{◌≡◌, ◌++◌, ℕ, List, length, drop, string_bytes, into_iter_items, replies, filled, policies_in, answers_of, paired, shown}
 use Rattle.scenario.proofs.LineLemmas.{Counted, shown_after}
 use Rattle.scenario.proofs.running.text_of.Given as goal
 

@@ -1,4 +1,4 @@
-use Rattle.std.proofs.Common.{rules}
+use Rattle.scenario.proofs.CommonNames.{rules}
 use Rattle.scenario.proofs.WriteLemmas.{front_sliced, front_taken, front_ended}
 use Rattle.scenario.proofs.running.write_whole.Goals as goal
 

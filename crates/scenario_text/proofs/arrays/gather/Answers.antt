@@ -1,7 +1,4 @@
-use Rattle.std.proofs.Common.{refl, sym, ap, ◌∙◌, arith}
-use Rattle.serde_json.specs.Data.{item}
-use Rattle.scenario_text.specs.Fields.{◌>>=◌}
-use Rattle.scenario_text.specs.Arrays.{gather}
+use Rattle.scenario_text.proofs.CommonNames.{refl, sym, ap, ◌∙◌, arith, item, ◌>>=◌, gather}
 use Rattle.scenario_text.proofs.ReadLoops.{first_item, more_items, atom_is}
 use Rattle.scenario_text.proofs.arrays.gather.Goals as goal
 

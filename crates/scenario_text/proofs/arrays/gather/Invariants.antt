@@ -1,7 +1,4 @@
-use Rattle.std.proofs.Common.{◌≡◌, length}
-use Rattle.serde_json.specs.Data.{Items}
-use Rattle.scenario_text.specs.Arrays.{gather}
-use Rattle.scenario_text.specs.Fields.{◌>>=◌}
+use Rattle.scenario_text.proofs.CommonNames.{◌≡◌, length, Items, gather, ◌>>=◌}
 use Rattle.scenario_text.proofs.ReadLoops.{HasItems}
 use Rattle.scenario_text.proofs.arrays.gather.Given as goal
 

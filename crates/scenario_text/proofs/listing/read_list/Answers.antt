@@ -1,7 +1,5 @@
-use Rattle.std.proofs.Common.{rules, refl, arith}
-use Rattle.serde_json.specs.Data.{item}
-use Rattle.scenario_text.proofs.Lists.{none_taken, one_taken, passed}
-use Rattle.scenario_text.proofs.ReadLoops.{first_item, more_items}
+use Rattle.scenario_text.proofs.CommonNames.{rules, refl, arith, item}
+use Rattle.scenario_text.proofs.{Lists.none_taken, Lists.one_taken, Lists.passed, ReadLoops.first_item, ReadLoops.more_items}
 use Rattle.scenario_text.proofs.listing.read_list.Goals as goal
 
 pub items-init : goal.items-init

@@ -1,8 +1,5 @@
-use Rattle.std.proofs.Common.{◌≤◌, ◌+◌, length}
-use Rattle.serde_json.specs.Data.{Items}
-use Rattle.scenario_text.specs.Plan.{max_steps}
-use Rattle.scenario_text.proofs.ReadLoops.{HasItems}
-use Rattle.scenario_text.proofs.Lists.{HasSteps}
+use Rattle.scenario_text.proofs.CommonNames.{◌≤◌, ◌+◌, length, Items, max_steps}
+use Rattle.scenario_text.proofs.{ReadLoops.HasItems, Lists.HasSteps}
 use Rattle.scenario_text.proofs.listing.read_list.Given as goal
 
 abbrev pub invariant-items : goal.invariant-items

@@ -1,6 +1,4 @@
-use Rattle.std.proofs.Common.{refl, arith}
-use Rattle.json.proofs.Grammar.{left_some}
-use Rattle.serde_json.specs.Data.{array, object}
+use Rattle.scenario_text.proofs.CommonNames.{refl, arith, left_some, array, object}
 use Rattle.scenario_text.proofs.ReadLoops.{opened}
 use Rattle.scenario_text.proofs.listing.read_steps.Goals as goal
 

@@ -1,9 +1,5 @@
-use Rattle.std.proofs.Common.{rules, sym, ap, ◌∙◌, arith}
-use Rattle.serde_json.specs.Data.{no_members, put}
-use Rattle.scenario_text.specs.Streams.{with_named}
-use Rattle.scenario_text.specs.Keys.{key_named}
-use Rattle.scenario_text.proofs.KeyLemmas.{fields_in-put}
-use Rattle.scenario_text.proofs.ReadLoops.{first_member, more_members}
+use Rattle.scenario_text.proofs.CommonNames.{rules, sym, ap, ◌∙◌, arith, no_members, put, with_named, key_named}
+use Rattle.scenario_text.proofs.{KeyLemmas.fields_in-put, ReadLoops.first_member, ReadLoops.more_members}
 use Rattle.scenario_text.proofs.members.read_fields.Goals as goal
 
 pub members-init : goal.members-init

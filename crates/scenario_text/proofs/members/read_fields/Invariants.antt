@@ -1,6 +1,4 @@
-use Rattle.std.proofs.Common.{◌≡◌, length}
-use Rattle.serde_json.specs.Data.{Members}
-use Rattle.scenario_text.specs.Steps.{fields_in}
+use Rattle.scenario_text.proofs.CommonNames.{◌≡◌, length, Members, fields_in}
 use Rattle.scenario_text.proofs.ReadLoops.{HasMembers}
 use Rattle.scenario_text.proofs.members.read_fields.Given as goal
 

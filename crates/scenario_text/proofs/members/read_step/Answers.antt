@@ -1,7 +1,4 @@
-use Rattle.std.proofs.Common.{refl, ap, ◌∙◌, arith}
-use Rattle.json.proofs.Grammar.{left_some}
-use Rattle.serde_json.specs.Data.{array, object}
-use Rattle.scenario_text.specs.Steps.{step_from}
+use Rattle.scenario_text.proofs.CommonNames.{refl, ap, ◌∙◌, arith, left_some, array, object, step_from}
 use Rattle.scenario_text.proofs.ReadLoops.{opened}
 use Rattle.scenario_text.proofs.members.read_step.Goals as goal
 

@@ -1,9 +1,5 @@
-use Rattle.std.proofs.Common.{refl, subst, arith}
-use Rattle.json.proofs.Grammar.{left_some}
-use Rattle.serde_json.specs.Data.{array}
-use Rattle.json_values.specs.Reading.{IsScalar, Opens}
-use Rattle.scenario_text.proofs.Plans.{no_object}
-use Rattle.scenario_text.proofs.ReadLoops.{opened}
+use Rattle.scenario_text.proofs.CommonNames.{refl, subst, arith, left_some, array, IsScalar, Opens}
+use Rattle.scenario_text.proofs.{Plans.no_object, ReadLoops.opened}
 use Rattle.scenario_text.proofs.parsing.read_scenario.Goals as goal
 
 pub returns-in_ok-pass_items-in-Array-clause-scenario : goal.returns-in_ok-pass_items-in-Array-clause-scenario

@@ -1,9 +1,5 @@
-use Rattle.std.proofs.Common.{refl, ap, ◌∙◌, subst, arith}
-use Rattle.serde_json.specs.Data.{no_members, put}
-use Rattle.scenario_text.specs.Fields.{integer}
-use Rattle.scenario_text.specs.Listing.{IsNamed}
-use Rattle.scenario_text.proofs.Plans.{short_list, with_steps, with_kill, with_other}
-use Rattle.scenario_text.proofs.ReadLoops.{first_member, more_members, atom_is}
+use Rattle.scenario_text.proofs.CommonNames.{refl, ap, ◌∙◌, subst, arith, no_members, put, integer, IsNamed}
+use Rattle.scenario_text.proofs.{Plans.short_list, Plans.with_steps, Plans.with_kill, Plans.with_other, ReadLoops.first_member, ReadLoops.more_members, ReadLoops.atom_is}
 use Rattle.scenario_text.proofs.parsing.read_scenario_members.Goals as goal
 
 pub members-init : goal.members-init

@@ -1,6 +1,4 @@
-use Rattle.std.proofs.Common.{length}
-use Rattle.serde_json.specs.Data.{Members}
-use Rattle.scenario_text.specs.Listing.{AreRead}
+use Rattle.scenario_text.proofs.CommonNames.{length, Members, AreRead}
 use Rattle.scenario_text.proofs.ReadLoops.{HasMembers}
 use Rattle.scenario_text.proofs.parsing.read_scenario_members.Given as goal
 

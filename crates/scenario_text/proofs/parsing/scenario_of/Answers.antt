@@ -1,5 +1,4 @@
-use Rattle.std.proofs.Common.{rules, sym, ◌∙◌}
-use Rattle.scenario_text.specs.Plan.{Plan}
+use Rattle.scenario_text.proofs.CommonNames.{rules, sym, ◌∙◌, Plan}
 use Rattle.scenario_text.proofs.Plans.{yields_fault, steps_fail}
 use Rattle.scenario_text.proofs.parsing.scenario_of.Goals as goal
 

@@ -1,5 +1,4 @@
-use Rattle.std.proofs.Common.{rules, ◌≤◌, ◌-◌, length, take, arith}
-use Rattle.std.proofs.lemmas.List.{length-take}
+use Rattle.scenario_text.proofs.CommonNames.{rules, ◌≤◌, ◌-◌, length, take, arith, length-take}
 use Rattle.scenario_text.proofs.Answering.{takes_more}
 use Rattle.scenario_text.proofs.reading.front_of.Goals as goal
 

@@ -1,5 +1,4 @@
-use Rattle.std.proofs.Common.{◌-◌, ◌≤◌, vec_len}
-use Rattle.std.specs.Io.KnownBytes.{Consumes}
+use Rattle.scenario_text.proofs.CommonNames.{◌-◌, ◌≤◌, vec_len, Consumes}
 use Rattle.scenario_text.proofs.reading.front_of.Given as goal
 
 abbrev pub invariant-chunks : goal.invariant-chunks

@@ -1,4 +1,4 @@
-use Rattle.std.specs.Io.KnownBytes.{Keeps}
+use Rattle.scenario_text.proofs.CommonNames.{Keeps}
 use Rattle.scenario_text.proofs.retrying.read_some.Given as goal
 
 abbrev pub invariant-loop : goal.invariant-loop

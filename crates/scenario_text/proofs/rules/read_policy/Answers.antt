@@ -1,8 +1,5 @@
-use Rattle.std.proofs.Common.{refl, ap, ◌∙◌, arith}
-use Rattle.serde_json.specs.Data.{item}
-use Rattle.scenario_text.specs.Listing.{pushed, rules_taken}
-use Rattle.scenario_text.proofs.Lists.{none_taken, one_taken, passed}
-use Rattle.scenario_text.proofs.ReadLoops.{first_item, more_items}
+use Rattle.scenario_text.proofs.CommonNames.{refl, ap, ◌∙◌, arith, item, pushed, rules_taken}
+use Rattle.scenario_text.proofs.{Lists.none_taken, Lists.one_taken, Lists.passed, ReadLoops.first_item, ReadLoops.more_items}
 use Rattle.scenario_text.proofs.rules.read_policy.Goals as goal
 
 pub items-init : goal.items-init

@@ -1,7 +1,5 @@
-use Rattle.std.proofs.Common.{length}
-use Rattle.serde_json.specs.Data.{Items}
-use Rattle.scenario_text.proofs.ReadLoops.{HasItems}
-use Rattle.scenario_text.proofs.Lists.{HasRules}
+use Rattle.scenario_text.proofs.CommonNames.{length, Items}
+use Rattle.scenario_text.proofs.{ReadLoops.HasItems, Lists.HasRules}
 use Rattle.scenario_text.proofs.rules.read_policy.Given as goal
 
 abbrev pub invariant-items : goal.invariant-items

@@ -1,7 +1,4 @@
-use Rattle.std.proofs.Common.{refl, ap, ◌∙◌, arith}
-use Rattle.json.proofs.Grammar.{left_some}
-use Rattle.serde_json.specs.Data.{array, object}
-use Rattle.scenario_text.specs.Rules.{rule_from}
+use Rattle.scenario_text.proofs.CommonNames.{refl, ap, ◌∙◌, arith, left_some, array, object, rule_from}
 use Rattle.scenario_text.proofs.ReadLoops.{opened}
 use Rattle.scenario_text.proofs.rules.read_rule.Goals as goal
 

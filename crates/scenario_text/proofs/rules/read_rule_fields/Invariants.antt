@@ -1,6 +1,4 @@
-use Rattle.std.proofs.Common.{◌≡◌, length}
-use Rattle.serde_json.specs.Data.{Members}
-use Rattle.scenario_text.specs.Rules.{rule_fields_in}
+use Rattle.scenario_text.proofs.CommonNames.{◌≡◌, length, Members, rule_fields_in}
 use Rattle.scenario_text.proofs.ReadLoops.{HasMembers}
 use Rattle.scenario_text.proofs.rules.read_rule_fields.Given as goal
 

@@ -1,6 +1,4 @@
-use Rattle.std.proofs.Common.{refl, arith}
-use Rattle.json.proofs.Grammar.{left_some}
-use Rattle.serde_json.specs.Data.{object}
+use Rattle.scenario_text.proofs.CommonNames.{refl, arith, left_some, object}
 use Rattle.scenario_text.proofs.ReadLoops.{opened}
 use Rattle.scenario_text.proofs.rules.read_rules.Goals as goal
 

@@ -1,5 +1,5 @@
-use Rattle.json_values.proofs.CommonNames.{nat_tests, ◌≡◌, ◌<◌, drop, get_or, Some, sym, ap, ◌∙◌, subst, arith, class, other, is_blank, after_number, head, get_or_default, IsCharBoundary-before_ascii}
-use Rattle.json_values.proofs.Texts.{first_of_number, head_at, number_at, past_number, solid_at}
+use Rattle.json_values.proofs.CommonNames.{◌≡◌, ◌<◌, drop, get_or, Some, sym, ap, ◌∙◌, subst, arith, class, other, is_blank, after_number, head, get_or_default, IsCharBoundary-before_ascii}
+use Rattle.json_values.proofs.Texts.{first_of_number, head_at, solid_at}
 use Rattle.json_values.proofs.lexer.Lexer.number.Goals as goal
 
 pub range-requires-clause-start_boundary : goal.range-requires-clause-start_boundary
@@ -11,6 +11,3 @@ range-requires-clause-start_boundary c some =
     let kind : class (get_or d a.at 32) ≡ other = ap class (sym (head_at d a.at) ∙ ap head c.self.view_is) ∙ c.requires in
     let within = solid_at d a.at (ap is_blank kind) in
     IsCharBoundary-before_ascii d a.at within (omega (arith, small, get_or_default d a.at 0 32 within))
-
-pub returns-clause-after : goal.returns-clause-after
-returns-clause-after c good = grind (arith, nat_tests, past_number, number_at)

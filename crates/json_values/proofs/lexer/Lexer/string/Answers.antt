@@ -1,9 +1,6 @@
-use Rattle.json_values.proofs.CommonNames.{nat_tests, ◌≡◌, ◌<◌, get_or, sym, ap, ◌∙◌, arith, get_or_default, IsCharBoundary-after_ascii, head}
-use Rattle.json_values.proofs.Texts.{head_at, no_content, past_string, string_content, within_at}
+use Rattle.json_values.proofs.CommonNames.{◌≡◌, ◌<◌, get_or, sym, ap, ◌∙◌, arith, get_or_default, IsCharBoundary-after_ascii, head}
+use Rattle.json_values.proofs.Texts.{head_at, within_at}
 use Rattle.json_values.proofs.lexer.Lexer.string.Goals as goal
-
-pub returns-then-byte_at-ne34-clause-value : goal.returns-then-byte_at-ne34-clause-value
-returns-then-byte_at-ne34-clause-value c = grind (arith, nat_tests, head_at, no_content)
 
 pub range-requires-clause-start_boundary : goal.range-requires-clause-start_boundary
 range-requires-clause-start_boundary c some =
@@ -12,9 +9,3 @@ range-requires-clause-start_boundary c some =
     let first : get_or d a.at 32 ≡ 34 = sym (head_at d a.at) ∙ ap head c.self.view_is ∙ c.requires in
     let within : a.at < _ = within_at d a.at (λ e. omega (arith, first, e)) in
     IsCharBoundary-after_ascii d a.at c.self.invariant.utf8 within (omega (arith, first, get_or_default d a.at 0 32 within))
-
-pub returns-clause-value : goal.returns-clause-value
-returns-clause-value c = grind (arith, nat_tests, head_at, string_content)
-
-pub returns-clause-after : goal.returns-clause-after
-returns-clause-after c = grind (arith, nat_tests, head_at, past_string)

@@ -1,10 +1,5 @@
-use Rattle.std.proofs.Common.{◌≡◌, rules, subst}
-use Rattle.json.specs.Lex.{tokens}
-use Rattle.json.specs.Print.{print}
-use Rattle.json.specs.Tree.{json_tokens}
-use Rattle.reply_json.specs.Replies.{reply_value}
-use Rattle.reply_json.proofs.TokenLemmas.{document-back}
-use Rattle.reply_json.proofs.DepthLemmas.{shallow}
+use Rattle.reply_json.proofs.CommonNames.{◌≡◌, rules, subst, tokens, print, json_tokens, reply_value}
+use Rattle.reply_json.proofs.{TokenLemmas.document-back, DepthLemmas.shallow}
 use Rattle.reply_json.proofs.objects.ObjectWriter.push_reply.Goals as goal
 
 pub returns-clause-reads_back : goal.returns-clause-reads_back

@@ -1,10 +1,5 @@
-use Rattle.std.proofs.Common.{Ok, Err, sym, ap, ◌∙◌, arith}
-use Rattle.serde_json.specs.Read.{read}
-use Rattle.scenario_text.specs.Fields.{seen}
-use Rattle.scenario_text.specs.OneStep.{IsStep, value}
-use Rattle.scenario_text.specs.Plan.{asked}
-use Rattle.scenario_text.specs.Scenarios.{numbered}
-use Rattle.scenario_text.specs.Steps.{step_of}
+use Rattle.scenario_text.proofs.CommonNames.{Ok, Err, sym, ap, ◌∙◌, arith, read, seen, IsStep, asked, numbered, step_of}
+use Rattle.scenario_text.specs.OneStep.{value}
 use Rattle.scenario_text.proofs.Answering.{answers_by}
 use Rattle.scenario_text.proofs.one_step.StepReader.parse_step.Goals as goal
 

@@ -1,0 +1,23 @@
+-- The words of other crates, of the declared types and of scenarios that these definitions use, from one place.
+pub use Rattle.std.specs.Prelude.{Bool, Err, IsUtf8, List, None, Ok, Option, Result, Some, [], codes, false, if◌then◌else◌, length, nat_lt, negsuc, ok_or, option_and_then, option_map, pos, take, true}
+pub use Rattle.std.specs.Prelude.{ℕ, ℤ, ⊤, ◌++◌, ◌+◌, ◌<◌, ◌==◌, ◌∷◌, ◌≡◌, ◌≤◌, ◌⊎◌}
+pub use Rattle.std.specs.{Int.RustNames.bit_and, Int.RustNames.bit_or, Io.KnownBytes.Consumes, Str.bytes_eq}
+pub use Rattle.event_masks.specs.{Exits.both, Exits.mask_with, Exits.no_events, Exits.no_flags, Reading.events_named, Reading.flag_named, declared.EventMask.EventMask, declared.StopFlags.StopFlags}
+pub use Rattle.event_masks.specs.declared.Call.{Call}
+pub use Rattle.json.specs.{Json.value, Token.Token, declared.reader.Invalid.Invalid}
+pub use Rattle.json_values.specs.{Reading.integer_in, Reading.members_among, Reading.read_items, Reading.read_members, Reading.text_in, declared.scalars.Scalar.Scalar}
+pub use Rattle.requests.specs.{Handle.no_options, Plain.PlainStep, Run.Asked, declared.Act.Act, declared.Request.Request}
+pub use Rattle.serde_json.specs.{Data.Data, Data.Items, Data.Members, Data.item, Data.member, Data.no_items, Data.no_members, Data.object, Events.items_len, Read.converted, Read.of_json, Read.read}
+pub use Rattle.serde_json.specs.Find.{as_array, as_i64, as_number, as_str, get_member}
+pub use Rattle.signals.specs.{Sets.with, declared.Disposition.Disposition}
+pub use Rattle.stop_handlers.specs.{declared.Decision.Decision, declared.Rule.Rule}
+pub use Rattle.trace_stop.specs.declared.Settings.{Settings}
+pub use Rattle.wait4.specs.declared.Options.{Options}
+pub use Rattle.scenario_text.specs.Plan.{Plan, max_steps}
+pub use Rattle.scenario_text.specs.declared.{fault.Fault.Fault, fields.Fields.Fields, fields.KeyError.KeyError, keys.Key.Key, keys.Keys.Keys, listing.Listed.Listed, names.ActKind.ActKind}
+pub use Rattle.scenario_text.specs.declared.{names.CallKind.CallKind, names.DecisionKind.DecisionKind, names.Op.Op, names.WaitOption.WaitOption, parsing.ScenarioKey.ScenarioKey}
+pub use Rattle.scenario_text.specs.declared.{rules.RuleFields.RuleFields, rules.RuleList.RuleList, stop.Stop.Stop}
+pub use Rattle.scenario_text.specs.declared.fault.Fault.TheVariants.{BadJson, BadName, BadNumber, BadShape, BadUser, Memory, Read, TooLong, TooManyRules, TooManySteps}
+pub use Rattle.scenario_text.specs.declared.fields.KeyError.TheVariants.{Name, Number, Shape, User}
+pub use Rattle.scenario_text.specs.declared.keys.TheConstants.Keys.{DECISION, FLAGS, PASS, SIGNAL}
+pub use Rattle.scenario_text.specs.declared.names.WaitOption.TheVariants.{Continued, Nohang, Untraced}
