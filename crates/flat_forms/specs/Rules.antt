@@ -1,10 +1,6 @@
 -- The rules of stop handlers by their numbers.
 use Rattle.std.specs.Prelude.{ℕ, ◌==◌, ltb, List, [], ◌∷◌, length, Option, Some, None, option_map, if◌then◌else◌}
-use Rattle.stop_handlers.specs.declared.Decision.{Decision}
-use Rattle.stop_handlers.specs.declared.Decision.TheVariants as decision
-use Rattle.stop_handlers.specs.declared.Rule.{Rule}
-use Rattle.flat_forms.specs.declared.rules.FlatRule.{FlatRule}
-use Rattle.flat_forms.specs.Numbers.{numbered}
+use Rattle.{stop_handlers.specs.declared.{Decision.Decision, Rule.Rule}, flat_forms.specs.{declared.rules.FlatRule.FlatRule, Numbers.numbered}}
 
 -- the signal that is passed on, where 0 is none
 abbrev pub pass_numbered : ℕ → Option ℕ
@@ -12,9 +8,9 @@ pass_numbered n = if ltb n 32 then Some n else None
 
 abbrev pub decision_numbered : ℕ → ℕ → Option Decision
 decision_numbered n pass =
-    if n == 2 then option_map (λ s. decision.Continue s) (pass_numbered pass)
-    else (if n == 3 then option_map (λ s. decision.Detach s) (pass_numbered pass)
-    else numbered ((0, decision.Decline) ∷ (1, decision.Leave) ∷ (4, decision.Kill) ∷ []) n)
+    if n == 2 then option_map (λ s. Decision.Continue s) (pass_numbered pass)
+    else (if n == 3 then option_map (λ s. Decision.Detach s) (pass_numbered pass)
+    else numbered ((0, Decision.Decline) ∷ (1, Decision.Leave) ∷ (4, Decision.Kill) ∷ []) n)
 
 -- the signal that a rule names, where 0 is none
 abbrev pub signal_numbered : ℕ → Option (Option ℕ)

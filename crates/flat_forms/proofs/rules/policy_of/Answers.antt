@@ -1,8 +1,5 @@
-use Rattle.std.proofs.Common.{◌≡◌, ℕ, zero, suc, ◌+◌, ◌<◌, length, Bool, true, false, List, [], ◌∷◌, ◌++◌, get_or, set, take, arith, refl, ap, sym, ◌∙◌}
-use Rattle.std.specs.Prelude.{Option, Some, None, if◌then◌else◌, ltb}
-use Rattle.std.proofs.lemmas.List.{take_more, take_more_set, length-set}
-use Rattle.stop_handlers.specs.declared.Rule.{Rule}
-use Rattle.flat_forms.specs.declared.rules.FlatRule.{FlatRule}
+use Rattle.std.proofs.{Common.{◌≡◌, ℕ, zero, suc, ◌+◌, ◌<◌, length, Bool, true, false, List, [], ◌∷◌, ◌++◌, get_or, set, take, arith, refl, ap, sym, ◌∙◌}, lemmas.List.{take_more, take_more_set}}
+use Rattle.{std.{proofs.lemmas.List.length-set, specs.Prelude.{Option, Some, None, if◌then◌else◌, ltb}}, stop_handlers.specs.declared.Rule.Rule, flat_forms.specs.declared.rules.FlatRule.FlatRule}
 use Rattle.flat_forms.specs.Rules.{rule_numbered, rules_numbered, policy_numbered, both}
 use Rattle.flat_forms.proofs.rules.policy_of.Goals as goal
 
