@@ -2,7 +2,7 @@
 use Rattle.{std.{proofs.Common.{◌≡◌, ℕ, Option, Some, None, refl, ap, subst, arith}, specs.Prelude.false}, pid_blocks.specs.{Blocks.errno_number, declared.Errno.Errno}, wait4.specs.Status.WordsDiffer}
 use Rattle.{lwpinfo.specs.declared.Event.Event, stop_handlers.specs.declared.{Decision.Decision, StopView.StopView}, requests.specs.{declared.Reply.Reply, Refusals.is_listing}}
 use Rattle.flat_forms.specs.{declared.replies.FlatReply.FlatReply, Replies.{flat, Alike, same, lwps, pids, status, handled, FlatFormsDiffer, HasStatus, OneReply, event_number, decision_number}}
-use Rattle.flat_forms.specs.Replies.{passed, has_index, index_number}
+use Rattle.flat_forms.specs.{Replies.{passed, has_index}, FlatRows.number_or_0}
 
 -- ---- parts with the same numbers
 
@@ -11,7 +11,7 @@ event_same Event.Nothing Event.Nothing e = refl
 event_same Event.Signal Event.Signal e = refl
 event_same x y e = absurd (omega arith)
 
-index_same : (i j : Option ℕ) → has_index i ≡ has_index j → index_number i ≡ index_number j → i ≡ j
+index_same : (i j : Option ℕ) → has_index i ≡ has_index j → number_or_0 i ≡ number_or_0 j → i ≡ j
 index_same None None e f = refl
 index_same (Some i) (Some j) e f = ap (λ x. Some x) f
 index_same i j e f = absurd (omega arith)

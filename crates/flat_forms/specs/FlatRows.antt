@@ -1,15 +1,14 @@
 -- Rows of processes and LWPs as numbers.
-use Rattle.std.specs.Prelude.{ℕ, Bool, true, false, Option, Some, None}
+use Rattle.std.specs.Prelude.{ℕ, Bool, Option, unwrap_or, if◌then◌else◌}
 use Rattle.{event_masks.specs.declared.Call.Call, lwp_table.specs.declared.{Due.Due, LwpData.LwpData, Mode.Mode}, proc_table.specs.declared.{ProcData.ProcData, State.State}}
 use Rattle.flat_forms.specs.declared.rows.{FlatProcess.FlatProcess, FlatLwp.FlatLwp, FlatState.FlatState, FlatMode.FlatMode}
 
 abbrev pub flag : Bool → ℕ
-flag true = 1
-flag false = 0
+flag is_set = if is_set then 1 else 0
 
-abbrev pub tracer_number : Option ℕ → ℕ
-tracer_number None = 0
-tracer_number (Some pid) = pid
+-- the number, where there is one, and else 0
+abbrev pub number_or_0 : Option ℕ → ℕ
+number_or_0 number = unwrap_or number 0
 
 abbrev pub flat_state : State → FlatState
 flat_state State.Run = record { state = 0; lwp = 0; signal = 0; reported = 0; status = 0 }
@@ -21,7 +20,7 @@ abbrev pub flat_process : ProcData → FlatProcess
 flat_process p = let s = flat_state p.state in record {
   pid = p.pid;
   parent = p.parent;
-  tracer = tracer_number p.tracer;
+  tracer = number_or_0 p.tracer;
   state = s.state;
   lwp = s.lwp;
   signal = s.signal;

@@ -1,7 +1,8 @@
 -- A reply as numbers.
-use Rattle.std.specs.Prelude.{⊤, ◌≡◌, ℕ, false, ◌%◌, ◌^◌, List, length, Option, Some, None}
+use Rattle.std.specs.Prelude.{⊤, ◌≡◌, ℕ, false, ◌%◌, ◌^◌, List, length, Option, is_some}
 use Rattle.{pid_blocks.specs.Blocks.errno_number, wait4.specs.{Status.{IsStatus, word}, declared.StatusKind.StatusKind}, lwpinfo.specs.declared.{Event.Event, LwpInfo.LwpInfo}}
 use Rattle.{stop_handlers.specs.declared.{Decision.Decision, StopView.StopView}, requests.specs.{declared.Reply.Reply, Refusals.is_listing}, flat_forms.specs.declared.replies.FlatReply.FlatReply}
+use Rattle.flat_forms.specs.FlatRows.{flag, number_or_0}
 
 -- a reply of this kind with all its numbers 0
 abbrev pub blank : ℕ → FlatReply
@@ -32,15 +33,8 @@ event_number Event.Nothing = 0
 event_number Event.Signal = 1
 
 abbrev pub flat_info : LwpInfo → FlatReply
-flat_info i = record (blank 5) {
-  lwp = i.tid;
-  event = event_number i.event;
-  flags = i.flags.0;
-  mask = i.sigmask;
-  pending = i.siglist;
-  child = i.child;
-  code = i.code;
-}
+flat_info i =
+    record (blank 5) { lwp = i.tid; event = event_number i.event; flags = i.flags.0; mask = i.sigmask; pending = i.siglist; child = i.child; code = i.code }
 
 abbrev pub decision_number : Decision → ℕ
 decision_number Decision.Decline = 0
@@ -55,14 +49,9 @@ passed (Decision.Continue s) = s
 passed (Decision.Detach s) = s
 passed d = 0
 
--- whether there is an index, as 1 or 0, and which
+-- whether there is an index, as 1 or 0
 abbrev pub has_index : Option ℕ → ℕ
-has_index None = 0
-has_index (Some i) = 1
-
-abbrev pub index_number : Option ℕ → ℕ
-index_number None = 0
-index_number (Some i) = i
+has_index index = flag (is_some index)
 
 abbrev pub flat_handled : ℕ → StatusKind → StopView → Option ℕ → Decision → FlatReply
 flat_handled pid status view index d = record (blank 9) {
@@ -74,7 +63,7 @@ flat_handled pid status view index d = record (blank 9) {
   child = view.child;
   code = view.code;
   has_handler = has_index index;
-  handler = index_number index;
+  handler = number_or_0 index;
   decision = decision_number d;
   pass = passed d;
   stop_pid = view.pid;
