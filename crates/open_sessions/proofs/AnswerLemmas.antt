@@ -1,22 +1,8 @@
 -- The answers of a session, from its steps.
-use Rattle.std.proofs.Common.{◌≡◌, ◌≢◌, ◌<◌, ℕ, ◌-◌, ◌+◌, List, Option, Some, refl, sym, ap, subst, ◌∙◌, length, slice_set, slice_index}
-use Rattle.std.specs.Prelude.{Result, Ok, Err, OnOk}
-use Rattle.std.proofs.lemmas.List.{get_or-set_same}
-use Rattle.pid_blocks.specs.Users.{IsUser}
-use Rattle.requests.specs.Hosts.{Steps as HostSteps}
-use Rattle.requests.specs.declared.Reply.{Reply}
-use Rattle.requests.specs.Machine.{Machine}
-use Rattle.requests.specs.Plain.{PlainStep}
-use Rattle.requests.specs.Run.{Asked}
-use Rattle.visibility.proofs.Steps.{did}
-use Rattle.scenario_text.specs.declared.fault.Fault.{Fault}
-use Rattle.scenario_text.specs.declared.fault.Fault.TheVariants.{Memory}
-use Rattle.scenario_text.specs.OneStep.{IsStep, AnswersBy}
-use Rattle.scenario.specs.declared.style.Style.{Style}
-use Rattle.scenario.specs.Lines.{Answered, line}
-use Rattle.open_sessions.specs.Answers.{LineReply, step, refused, answer_text}
-use Rattle.open_sessions.specs.Open.{OpenSession}
-use Rattle.open_sessions.specs.Calls.{Steps, Answers}
+use Rattle.std.{proofs.{Common.{◌≡◌, ◌≢◌, ◌<◌, ℕ, ◌-◌, ◌+◌, List, Option, Some, refl, sym, ap, subst, ◌∙◌, length, slice_set, slice_index}, lemmas.List.get_or-set_same}, specs.Prelude.{Result, Ok}}
+use Rattle.{std.specs.Prelude.{Err, OnOk}, pid_blocks.specs.Users.IsUser, requests.specs.{Hosts.Steps as HostSteps, declared.Reply.Reply, Machine.Machine, Plain.PlainStep, Run.Asked}}
+use Rattle.{visibility.proofs.Steps.did, scenario_text.specs.{declared.fault.Fault.{Fault, TheVariants.Memory}, OneStep.{IsStep, AnswersBy}}, scenario.specs.declared.style.Style.Style}
+use Rattle.{scenario.specs.Lines.{Answered, line}, open_sessions.specs.{Answers.{LineReply, step, refused, answer_text}, Calls.{OpenSession, Steps, Answers}}}
 
 -- a step of the host, with the count at the user's place raised and the reply kept
 pub steps : (u : ℕ) (p : PlainStep) (s : OpenSession) (k : Machine) (r : Reply) (place : ℕ) → IsUser u → HostSteps u p s.host k r → place ≡ u - 1001 → place < length s.made

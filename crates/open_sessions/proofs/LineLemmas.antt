@@ -1,11 +1,6 @@
 -- A line is one step, or has one fault; and so it is a step of one user.
-use Rattle.std.proofs.Common.{◌≡◌, ℕ, ◌+◌, ◌-◌, ◌^◌, List, slice_index, Result, Ok, Err, refl, ap, subst, arith}
-use Rattle.requests.specs.Run.{Asked}
-use Rattle.scenario_text.specs.declared.fault.Fault.{Fault}
-use Rattle.scenario_text.specs.OneStep.{IsStep, too_long, no_value, value}
-use Rattle.scenario_text.specs.Scenarios.{numbered}
-use Rattle.scenario_text.specs.Steps.{step_of}
-use Rattle.open_sessions.specs.Open.{OpenSession}
+use Rattle.{std.proofs.Common.{◌≡◌, ℕ, ◌+◌, ◌-◌, ◌^◌, List, slice_index, Result, Ok, Err, refl, ap, subst, arith}, requests.specs.Run.Asked, scenario_text.specs.declared.fault.Fault.Fault}
+use Rattle.{scenario_text.specs.{OneStep.{IsStep, too_long, no_value, value}, Scenarios.numbered, Steps.step_of}, open_sessions.specs.Calls.OpenSession}
 
 one_result : (bytes : List ℕ) (r q : Result Asked Fault) → IsStep bytes r → IsStep bytes q → r ≡ q
 one_result bytes r q (too_long h) (too_long k) = refl

@@ -1,11 +1,5 @@
-use Rattle.std.proofs.Common.{subst}
-use Rattle.std.specs.Prelude.{OnOk}
-use Rattle.scenario_text.specs.OneStep.{IsStep}
-use Rattle.scenario_text.specs.Plan.{asked}
-use Rattle.open_sessions.specs.Open.{OpenSession}
-use Rattle.open_sessions.specs.Calls.{Answers, FullFor}
-use Rattle.open_sessions.proofs.AnswerLemmas.{answers, refuses_at, told_fault, on_ok_so}
-use Rattle.open_sessions.proofs.LineLemmas.{room_for, room_for_refused}
+use Rattle.{std.{proofs.Common.subst, specs.Prelude.OnOk}, scenario_text.specs.{OneStep.IsStep, Plan.asked}, open_sessions.specs.Calls.{OpenSession, Answers, FullFor}}
+use Rattle.open_sessions.proofs.{AnswerLemmas.{answers, refuses_at, told_fault, on_ok_so}, LineLemmas.{room_for, room_for_refused}}
 use Rattle.open_sessions.proofs.session.Session.answer.Goals as goal
 
 pub returns-in-Ok-clause-answered : goal.returns-in-Ok-clause-answered

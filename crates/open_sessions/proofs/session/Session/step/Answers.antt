@@ -1,6 +1,4 @@
-use Rattle.std.proofs.Common.{◌<◌, subst, sym, ℕ}
-use Rattle.open_sessions.proofs.AnswerLemmas.{steps_at}
-use Rattle.open_sessions.proofs.LineLemmas.{room_at}
+use Rattle.{std.proofs.Common.{◌<◌, subst, sym, ℕ}, open_sessions.proofs.{AnswerLemmas.steps_at, LineLemmas.room_at}}
 use Rattle.open_sessions.proofs.session.Session.step.Goals as goal
 
 pub returns-clause-stepped : goal.returns-clause-stepped
