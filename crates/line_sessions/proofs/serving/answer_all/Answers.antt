@@ -1,7 +1,5 @@
-use Rattle.std.proofs.Common.{[], Ok, Err, ap, refl, sym, subst, ◌∙◌}
-use Rattle.scenario.proofs.LineLemmas.{Counted, counted_start}
-use Rattle.line_sessions.proofs.AnswerLemmas.{serves_by, none_feed, input_feed, some_so}
-use Rattle.line_sessions.proofs.TalkLemmas.{start, cannot_read, ends_now, ends_last, fails, goes_on, too_many, told_kept, lost_feed}
+use Rattle.{std.proofs.Common.{[], Ok, Err, ap, refl, sym, subst, ◌∙◌}, scenario.proofs.LineLemmas.{Counted, counted_start}, line_sessions.proofs.AnswerLemmas.{serves_by, none_feed, input_feed}}
+use Rattle.line_sessions.proofs.{AnswerLemmas.some_so, TalkLemmas.{start, cannot_read, ends_now, ends_last, fails, goes_on, too_many, told_kept, lost_feed}}
 use Rattle.line_sessions.proofs.serving.answer_all.Goals as goal
 
 pub loop-init : goal.loop-init
