@@ -2,9 +2,8 @@
 use mir.Syntax.{impl, tnil, dnil}
 use mathlib.Core.List.{[]}
 use denote.Signature.{Slot, plain}
-use Rattle.std_alloc.proofs.BoxSteps.Form.{Bx}
+use Rattle.{std_alloc.proofs.BoxSteps.Form.Bx, std.specs.contracts.impls.GlobalAllocator.TheImpl.{ghosts, dict}}
 use Rattle.std.specs.contracts.alloc.Global as Heap
-use Rattle.std.specs.contracts.impls.GlobalAllocator.TheImpl.{ghosts, dict}
 use Rattle.std.proofs.alloc.Global.TheLaws as heap
 use Rattle.open_sessions.specs.contracts.session.Session as Session
 use Rattle.open_sessions.proofs.session.Session.TheLaws as session

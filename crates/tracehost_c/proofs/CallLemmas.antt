@@ -1,8 +1,5 @@
 -- What a step's reply is, as the session keeps it.
-use Rattle.std.proofs.Common.{◌≡◌, ℕ, Option, Some, None, ap, ◌∙◌}
-use Rattle.std.specs.Prelude.{Ok}
-use Rattle.requests.specs.declared.Reply.{Reply}
-use Rattle.open_sessions.specs.Answers.{LineReply, last_reply}
+use Rattle.{std.{proofs.Common.{◌≡◌, ℕ, Option, Some, None, ap, ◌∙◌}, specs.Prelude.Ok}, requests.specs.declared.Reply.Reply, open_sessions.specs.Answers.{LineReply, last_reply}}
 
 abbrev or_else : Reply → Option Reply → Reply
 or_else r None = r

@@ -1,10 +1,6 @@
 -- Rows that are written over the front of a room, one after another.
-use Rattle.std.proofs.Common.{◌≡◌, ℕ, zero, suc, ◌+◌, ◌<◌, ◌≤◌, min, List, [], ◌∷◌, ◌++◌, length, get_or, set, take, drop, refl, ap, sym, ◌∙◌, arith, inl, inr}
-use Rattle.std.specs.Prelude.{map}
-use Rattle.std.proofs.Math.ListN.{drop_of_length-le}
-use Rattle.std.proofs.lemmas.Bool.{cases_lt}
-use Rattle.std.proofs.lemmas.List.{get_or-map, length-map, take_min}
-use Rattle.open_sessions.specs.Answers.{shown}
+use Rattle.std.proofs.{Common.{◌≡◌, ℕ, zero, suc, ◌+◌, ◌<◌, ◌≤◌, min, List, [], ◌∷◌, ◌++◌, length, get_or, set, take, drop, refl, ap, sym, ◌∙◌, arith, inl, inr}, Math.ListN.drop_of_length-le}
+use Rattle.{std.{proofs.lemmas.{Bool.cases_lt, List.{get_or-map, length-map, take_min}}, specs.Prelude.map}, open_sessions.specs.Answers.shown}
 
 -- the next of a list's items is written
 next : {X : Type 0} (ts room : List X) (i : ℕ) (z : X) → i < length ts → i < length room

@@ -1,5 +1,4 @@
-use Rattle.std.proofs.Common.{Some, subst}
-use Rattle.tracehost_c.specs.Calls.{TypedCall}
+use Rattle.{std.proofs.Common.{Some, subst}, tracehost_c.specs.Calls.TypedCall}
 use Rattle.tracehost_c.proofs.tracehost_handle.Goals as goal
 
 pub returns : goal.returns

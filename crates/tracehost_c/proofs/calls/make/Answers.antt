@@ -1,5 +1,4 @@
-use Rattle.std.proofs.Common.{ap, sym, subst, refl, ◌∙◌, rules}
-use Rattle.tracehost_c.specs.Calls.{StepOf, no_step, in_session}
+use Rattle.{std.proofs.Common.{ap, sym, subst, refl, ◌∙◌, rules}, tracehost_c.specs.Calls.{StepOf, no_step, in_session}}
 use Rattle.tracehost_c.proofs.calls.make.Goals as goal
 
 pub returns-in_default : goal.returns-in_default

@@ -1,7 +1,4 @@
-use Rattle.std.proofs.Common.{ap, refl, ◌∙◌}
-use Rattle.flat_forms.specs.Replies.{flat}
-use Rattle.tracehost_c.specs.Calls.{answered}
-use Rattle.tracehost_c.proofs.CallLemmas.{told_reply}
+use Rattle.{std.proofs.Common.{ap, refl, ◌∙◌}, flat_forms.specs.Replies.flat, tracehost_c.{specs.Calls.answered, proofs.CallLemmas.told_reply}}
 use Rattle.tracehost_c.proofs.calls.make_step.Goals as goal
 
 pub returns-in-Some : goal.returns-in-Some

@@ -1,39 +1,18 @@
 -- `into_parts` moves two fields, and what they own goes with them.
-use mathlib.Core.Path.{refl, sym, subst}
-use mathlib.Core.List.{List, [], ◌∷◌, ◌++◌}
-use Rattle.std.proofs.Common.{true≢false}
-use Rattle.std.specs.Prelude.{Option, Some, None, IsSome}
-use Rattle.std.specs.Global.{Global}
-use denote.RawPtr.{Ptr}
-use contract.Monad.{fact, fact_use}
-use base.Logic.{snd∗}
+use mathlib.Core.{Path.{refl, sym, subst}, List.{List, [], ◌∷◌, ◌++◌}}
+use Rattle.{std.{proofs.Common.true≢false, specs.{Prelude.{Option, Some, None, IsSome}, Global.Global}}, std_alloc.proofs.BoxSteps.{Form.{X, D, B, word, box_typed}, Steps.{box_out, box_in}}}
+use Rattle.tracehost_c.{proofs.AsBox.{E, FromHandle as From}, specs.contracts.handle.held.Held.into_parts.Key.name as #self}
+use denote.{RawPtr.Ptr, Exit.yes, Signature.type_at, Steps.nothing, Triple.{Entry.on_entry, Spec.triple_of, Table.entered, Walked.{says, Stays, stay_dropped, walk_of, ends_at, Goes-dropped}}}
+use denote.Triple.Walked.{walk_Meets}
+use contract.{Monad.{fact, fact_use, Fun}, Running.{tables, tables_of}}
+use base.{Logic.{snd∗, SProp, ent, id⊢}, Fml.{ftrue, fsep}}
 use seplogic.Ra.Ura.{Ura}
 use mir.Val.{Val}
-use base.Logic.{SProp, ent, id⊢}
-use base.Fml.{ftrue, fsep}
-use prog.Memory.{Memory}
-use prog.Routine.{Routine}
-use prog.Wp.{WpFn, Tables}
-use types.Logic.{Logic}
-use contract.Monad.{Fun}
-use contract.Running.{tables, tables_of}
+use prog.{Memory.Memory, Routine.Routine, Wp.{WpFn, Tables}}
+use types.{Logic.Logic, Kit.{Item, ‵, raw, ◌⊛◌, ◌$◌, ◌∵◌, !, qed, by, move, drop, use1, join, split, fsplit, fjoin, suffices, done}, Part.{whole, sub, agg}, Run.{stop, fld, no_more, and_then, of_opd}}
+use types.{Run.{returns, enter}, ByLocal.{alloc_all, pass_all, free_all, look_at, get, get_in, sets}}
 use sound.WpLaws.{WpFn-mono}
-use types.Kit.{Item, ‵, raw, ◌⊛◌, ◌$◌, ◌∵◌, !, qed, by, move, drop, use1, join, split, fsplit, fjoin, suffices, done}
-use types.Part.{whole, sub, agg}
-use types.Run.{stop, fld, no_more, and_then, of_opd, returns, enter}
-use types.ByLocal.{alloc_all, pass_all, free_all, look_at, get, get_in, sets}
-use denote.Exit.{yes}
-use denote.Signature.{type_at}
-use denote.Steps.{nothing}
-use denote.Triple.Entry.{on_entry}
-use denote.Triple.Spec.{triple_of}
-use denote.Triple.Table.{entered}
-use denote.Triple.Walked.{says, Stays, stay_dropped, walk_of, ends_at, Goes-dropped, walk_Meets}
-use Rattle.std_alloc.proofs.BoxSteps.Form.{X, D, B, word, box_typed}
-use Rattle.std_alloc.proofs.BoxSteps.Steps.{box_out, box_in}
-use Rattle.tracehost_c.proofs.AsBox.{E, FromHandle as From}
 use Rattle.tracehost_c.specs.contracts.handle.held.Held.into_parts as F
-use Rattle.tracehost_c.specs.contracts.handle.held.Held.into_parts.Key.{name as #self}
 use Rattle.tracehost_c.proofs.handle.held.Held.into_parts.Statement as stated
 use Rattle.tracehost_c.proofs.handle.held.Held.into_parts.Code as code
 

@@ -1,41 +1,19 @@
 -- `none` makes a handle of the null pointer, which owns nothing.
-use mathlib.Core.Path.{refl, sym, subst}
-use mathlib.Core.List.{List, [], ◌∷◌, ◌++◌}
-use Rattle.std.specs.Prelude.{None}
+use mathlib.Core.{Path.{refl, sym, subst}, List.{List, [], ◌∷◌, ◌++◌}}
+use Rattle.{std.{specs.{Prelude.None, contracts.alloc.Global.the_field}, proofs.Common.lit<}, core.proofs.alloc.Calls.{α, handle_tells}, std_alloc.proofs.ResultValues.and_tt}
+use Rattle.tracehost_c.{proofs.AsBox.{E, FromHeap as From}, specs.contracts.handle.held.Held.none.Key.name as #self}
 use seplogic.Ra.Ura.{Ura}
-use Rattle.std.proofs.Common.{lit<}
 use mir.Val.{Val, has_ty, vnull, vstruct, vcons, vnil}
-use base.Logic.{SProp, ent, emp, id⊢}
-use base.Fml.{ftrue, fsep}
-use prog.Memory.{Memory}
-use prog.Routine.{Routine}
-use prog.Wp.{WpFn, Tables}
-use types.Logic.{Logic}
-use contract.Monad.{Fun}
-use contract.Running.{tables, tables_of}
+use base.{Logic.{SProp, ent, emp, id⊢}, Fml.{ftrue, fsep}}
+use prog.{Memory.Memory, Routine.Routine, Wp.{WpFn, Tables}}
+use types.{Logic.Logic, Kit.{Item, ‵, raw, ◌⊛◌, ◌$◌, ◌∵◌, !, qed, by, move, drop, use1, join, split, fsplit, fjoin, fpack, feq_i, suffices, done}, Part.agg, Run.{lit, no_more, and_then, returns}}
+use types.{Run.enter, ByLocal.{alloc_all, pass_all, free_all, look_at, get, sets}}
+use contract.{Monad.Fun, Running.{tables, tables_of}}
 use sound.WpLaws.{WpFn-mono}
-use types.Kit.{Item, ‵, raw, ◌⊛◌, ◌$◌, ◌∵◌, !, qed, by, move, drop, use1, join, split, fsplit, fjoin, fpack, feq_i, suffices, done}
-use types.Part.{agg}
-use types.Run.{lit, no_more, and_then, returns, enter}
-use types.ByLocal.{alloc_all, pass_all, free_all, look_at, get, sets}
-use denote.Exit.{yes}
-use denote.Builtin.{RawPtr}
-use denote.RattleType.{Valss}
-use denote.RawPtr.{null_ptr}
-use denote.Signature.{type_at}
-use denote.Steps.{nothing}
-use denote.Struct.Struct.{within}
-use denote.Struct.Owning.{shape, to}
-use denote.Triple.Spec.{triple_of}
-use denote.Triple.Table.{entered}
+use denote.{Exit.yes, Builtin.RawPtr, RattleType.Valss, RawPtr.null_ptr, Signature.type_at, Steps.nothing, Struct.{Struct.within, Owning.{shape, to}}, Triple.{Spec.triple_of, Table.entered}}
 use denote.Triple.Walked.{says, Stays, stay_dropped, walk_of, ends_at, Goes-dropped, walk_Meets}
-use Rattle.core.proofs.alloc.Calls.{α, handle_tells}
-use Rattle.std_alloc.proofs.ResultValues.{and_tt}
-use Rattle.std.specs.contracts.alloc.Global.{the_field}
-use Rattle.tracehost_c.proofs.AsBox.{E, FromHeap as From}
 use Rattle.tracehost_c.specs.contracts.handle.held.Held as handle
 use Rattle.tracehost_c.specs.contracts.handle.held.Held.none as F
-use Rattle.tracehost_c.specs.contracts.handle.held.Held.none.Key.{name as #self}
 use Rattle.tracehost_c.proofs.handle.held.Held.none.Statement as stated
 use Rattle.tracehost_c.proofs.handle.held.Held.none.Code as code
 
