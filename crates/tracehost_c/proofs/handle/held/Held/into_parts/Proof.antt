@@ -1,7 +1,7 @@
 -- `into_parts` moves two fields, and what they own goes with them.
 use Rattle.tracehost_c.proofs.AsBox.{◌$◌, refl, sym, [], ◌∷◌, ◌++◌, None, ent, id⊢, ftrue, fsep, WpFn, Item, ‵, raw, ◌⊛◌, ◌∵◌, !, qed, move, drop, use1, join, split, fsplit, fjoin, suffices, done}
 use Rattle.tracehost_c.proofs.AsBox.{agg, no_more, and_then, returns, enter, alloc_all, pass_all, free_all, look_at, get, sets, tables, yes, type_at, nothing, says, Stays, stay_dropped, walk_of}
-use Rattle.tracehost_c.proofs.AsBox.{ends_at, Goes-dropped, true≢false, Option, Some, IsSome, X, D, B, word, box_typed, box_out, box_in, on_entry, fact, whole, sub, stop, fld, of_opd, get_in, some}
+use Rattle.tracehost_c.proofs.AsBox.{ends_at, Goes-dropped, true≢false, Option, Some, IsSome, X, D, B, word, box_typed, box_out, box_in, on_entry, fact, whole, sub, stop, fld, of_opd, get_in}
 use Rattle.tracehost_c.proofs.AsBox.{plain, heard, proved_at, regoal, prop, E}
 use Rattle.tracehost_c.proofs.handle.held.Held.into_parts.Statement.{statement}
 use Rattle.tracehost_c.specs.contracts.handle.held.Held as handle
