@@ -1,7 +1,7 @@
 -- The answer to one line.
-use Rattle.std.{proofs.Common.{◌≡◌, ◌≢◌, ℕ, List, take, Option, None, Some, sym, ap, subst, ◌∙◌, is_some, Bool, true, false, true≢false}, specs.{Prelude.{⊤, Result, Ok, Err, IfSome}, Result.IsErrAnd}}
-use Rattle.{std.specs.Io.KnownBytes.Appends, byte_io.specs.declared.reading.LineEnd.{LineEnd, TheVariants.{Feed, Input}}, requests.specs.Machine.Machine, scenario.specs.declared.style.Style.Style}
-use Rattle.{open_sessions.specs.Calls.{OpenSession, Answers, last_text}, line_sessions.specs.declared.fault.ServeError.{ServeError, TheVariants.{Read, Write, Memory, TooManyLines}}}
+use Rattle.std.{proofs.Common.{◌≡◌, ℕ, List, Option}, specs.{Prelude.{⊤, Result, Ok, Err}, Result.IsErrAnd}}
+use Rattle.{requests.specs.Machine.Machine, scenario.specs.declared.style.Style.Style}
+use Rattle.{open_sessions.specs.Calls.{OpenSession, Answers, last_text}, line_sessions.specs.declared.fault.ServeError.{ServeError, TheVariants.{Write}}}
 use Rattle.line_sessions.specs.{Sessions.Serves, Turns.{Writes, Told}}
 
 -- a line was answered, and its answer written
@@ -14,12 +14,3 @@ told_by style (Err e) line s t had has p w = w
 pub serves_by : (style : Style) (m : Machine) (r u h w : Option (List ℕ)) (result : Result ⊤ ServeError) (e : ServeError) → IsErrAnd result (λ x. x ≡ e) → Serves style (Err e) m r u h w → Serves style result m r u h w
 serves_by style m r u h w (Ok done) e is p = absurd is
 serves_by style m r u h w (Err x) e is p = rw is p
-
-pub none_feed : (x : Option LineEnd) → x ≡ None → x ≢ Some Feed
-none_feed x none some = cc
-
-pub input_feed : (x : Option LineEnd) (end : LineEnd) → x ≡ Some end → end ≡ Input → x ≢ Some Feed
-input_feed x end some is feed = cc
-
-pub some_so : {X : Type 0} (x : Option X) (P : X → Type 0) (a : X) → x ≡ Some a → IfSome x P → P a
-some_so x P a is p = rw is at p

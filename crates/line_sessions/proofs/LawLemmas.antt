@@ -1,11 +1,11 @@
 -- Sessions compared with scenarios.
-use Rattle.std.{proofs.Common.{◌≡◌, ℕ, Bool, true, false, true≢false, ◌+◌, ◌==◌, count_by, List, [], ◌∷◌, ◌++◌, map, Option, Some, None, refl, ap, subst, ◌∙◌, arith}, specs.Prelude.{Result, Ok, Err}}
+use Rattle.std.{proofs.Common.{◌≡◌, ℕ, ◌+◌, ◌==◌, count_by, List, [], ◌∷◌, ◌++◌, map, Option, Some, None, refl, ap, subst, arith}, specs.Prelude.{Ok, Err}}
 use Rattle.open_sessions.proofs.LineLemmas.{one_result}
-use Rattle.{std.specs.{Prelude.if◌then◌else◌, List.AllByRecursion}, requests.specs.{declared.Reply.Reply, Isolation.{Ran, Users, host_after, reply_of}, Machine.{Machine, empty}, Memory.is_memory}}
-use Rattle.{requests.specs.Run.{Asked, replies}, visibility.{specs.Runs.{told, Did}, proofs.{Answered.runs_are_private, Apart.users_are_apart_at_first}}}
-use Rattle.{scenario_text.specs.{declared.fault.Fault.Fault, OneStep.{IsStep, too_long, no_value, value}, Scenarios.numbered, Steps.step_of}, scenario.specs.declared.style.Style.Style}
+use Rattle.{std.specs.{Prelude.if◌then◌else◌, List.AllByRecursion}, requests.specs.{declared.Reply.Reply, Isolation.{Ran, Users, host_after, reply_of}, Machine.{Machine}}}
+use Rattle.{requests.specs.Run.{Asked, replies}, visibility.{specs.Runs.{told, Did}}}
+use Rattle.{scenario_text.specs.{OneStep.{IsStep}}, scenario.specs.declared.style.Style.Style}
 use Rattle.{scenario.specs.{Lines.{Answered, line, lines_after, text_of}, Runs.paired}, open_sessions.specs.Answers.{LineReply, AnswersLine, step, refused}, line_sessions.specs.Sessions.AnswersLines}
-use Rattle.line_sessions.specs.{Sessions.text_after, Laws.{AreSteps, IsMade, AsScenario, StepsIn, replies_in, SessionsArePrivate, none as no_step, step as a_step, refused as no_step_here}}
+use Rattle.line_sessions.specs.{Sessions.text_after, Laws.{AreSteps, IsMade, StepsIn, replies_in, none as no_step, step as a_step, refused as no_step_here}}
 
 -- the answer to a line that is a step, where memory was left
 record Made (a : Asked) (m : Machine) (r : LineReply) (k : Machine) : Type 0 where
@@ -19,7 +19,7 @@ made text a m r k is (step b reply after was user did) left =
     record { reply = rw (← same) (ap (λ x. Ok (record { uid = b.uid; reply = x })) both.0); host = rw (← same) both.1 }
 made text a m r k is (refused f was) left = cc (one_result text (Ok a) (Err f) is was)
 
-lines_of_scenario : (style : Style) (before : List ℕ) (lines : List (List ℕ)) (steps : List Asked) (m : Machine) (rs : List LineReply) (k : Machine)
+pub lines_of_scenario : (style : Style) (before : List ℕ) (lines : List (List ℕ)) (steps : List Asked) (m : Machine) (rs : List LineReply) (k : Machine)
     → AreSteps lines steps → AnswersLines lines m rs k → AllByRecursion IsMade rs
     → text_after style before rs ≡ text_of (lines_after style before (paired steps (replies steps m)))
 lines_of_scenario style before [] [] m [] k are answers left = refl
@@ -30,15 +30,12 @@ lines_of_scenario style before (l ∷ lines) (a ∷ steps) m (r ∷ rs) k are an
     rw one.reply (ap (λ t. (line style (count_by (λ u. u == a.uid) before + 1) now).text ++ t) rest)
 lines_of_scenario style before lines steps m rs k are answers left = grind arith
 
-pub as_scenario : AsScenario
-as_scenario style settings lines steps rs k are answers left = lines_of_scenario style [] lines steps (empty settings) rs k are answers left
-
 -- the steps of a session, as a run
-record Found (lines : List (List ℕ)) (m : Machine) (rs : List LineReply) (k : Machine) : Type 0 where
-  steps : List Asked
-  are : StepsIn lines steps
-  users : Users steps
-  ran : Ran steps (map (λ r. told r) (replies_in rs)) m k
+pub record Found (lines : List (List ℕ)) (m : Machine) (rs : List LineReply) (k : Machine) : Type 0 where
+  pub steps : List Asked
+  pub are : StepsIn lines steps
+  pub users : Users steps
+  pub ran : Ran steps (map (λ r. told r) (replies_in rs)) m k
 
 ran_more : (a : Asked) (steps : List Asked) (o : Option Reply) (os : List (Option Reply)) (m n k : Machine) → Did o a.uid a.step m n → Ran steps os n k → Ran (a ∷ steps) (o ∷ os) m k
 ran_more a steps None os m n k did ran = rw did.0 at ran
@@ -53,12 +50,7 @@ found_more l lines m n k r rs (step a reply after is user did) rest = record {
 }
 found_more l lines m n k r rs (refused f is) rest = record { steps = rest.steps; are = no_step_here l lines f rest.steps is rest.are; users = rest.users; ran = rest.ran }
 
-found : (lines : List (List ℕ)) (m : Machine) (rs : List LineReply) (k : Machine) → AnswersLines lines m rs k → Found lines m rs k
+pub found : (lines : List (List ℕ)) (m : Machine) (rs : List LineReply) (k : Machine) → AnswersLines lines m rs k → Found lines m rs k
 found [] m [] k answers = record { steps = []; are = no_step; users = tt; ran = answers }
 found (l ∷ lines) m (r ∷ rs) k answers = found_more l lines m answers.0 k r rs answers.1 (found lines answers.0 rs k answers.2)
 found lines m rs k answers = absurd answers
-
-pub sessions_are_private : SessionsArePrivate
-sessions_are_private settings lines rs k answers =
-    let at = found lines (empty settings) rs k answers in
-    (at.steps, at.are, runs_are_private at.steps (map (λ r. told r) (replies_in rs)) (empty settings) k at.users (users_are_apart_at_first settings) at.ran)

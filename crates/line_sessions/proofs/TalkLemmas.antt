@@ -1,6 +1,6 @@
 -- A session, line after line.
-use Rattle.std.proofs.{Common.{◌≡◌, ◌≤◌, ◌<◌, ◌+◌, ℕ, List, [], ◌∷◌, ◌++◌, length, take, Option, Some, None, refl, sym, ap, subst, ◌∙◌, inl, inr, arith, take_all, ◌⊎◌}, Math.Seq.take-append-add}
-use Rattle.std.{proofs.lemmas.{Bool.cases_lt, List.{append_assoc, append-nil, length-take}}, specs.{Prelude.{⊤, Result, Ok, Err, IfOk, IfSome}, Io.KnownBytes.{Appends, Consumes, Keeps, IsAtEnd}}}
+use Rattle.std.proofs.{Common.{◌≡◌, ◌≤◌, ◌<◌, ◌+◌, ℕ, List, [], ◌∷◌, ◌++◌, length, take, Option, refl, sym, ap, ◌∙◌, inl, inr, arith, take_all, ◌⊎◌}, Math.Seq.take-append-add}
+use Rattle.std.{proofs.lemmas.{Bool.cases_lt, List.{append_assoc, append-nil, length-take}}, specs.{Prelude.{Result, Ok, Err, IfOk, IfSome}, Io.KnownBytes.{Appends, Consumes, Keeps, IsAtEnd}}}
 use Rattle.byte_io.{specs.{declared.reading.LineEnd.{LineEnd, TheVariants.{Feed, Input}}, Lines.{lines_in, NoFeed, Loses, end_bytes}}, proofs.LineLemmas.{Whole, whole_start, whole_line, whole_more}}
 use Rattle.{byte_io.proofs.{LineLemmas.{lines_last, lines_one}, ReadLemmas.consumes_more}, pid_blocks.specs.Users.IsUser, requests.specs.{Machine.Machine, Run.Asked}}
 use Rattle.scenario.{proofs.{LineLemmas.{Counted, counted_more, counted_number}, WriteLemmas.{appends_more, appends_kept}}, specs.{declared.style.Style.Style, Lines.line}}
@@ -67,18 +67,9 @@ pub record Talking (style : Style) (first : Machine) (read unread had has : Opti
   pub next : (rs : List LineReply) → text_of style (replies ++ rs) ≡ text_of style replies ++ text_after style before rs
   pub counted : Counted made before
 
-consumes_none : (a : Option (List ℕ)) → Consumes a a []
-consumes_none a = grind arith
-
-keeps_same : (a : Option (List ℕ)) → Keeps a a
-keeps_same a = grind arith
-
 -- a reader whose bytes were known is at its end
 at_end : (r u v : Option (List ℕ)) (bytes : List ℕ) → Consumes r u bytes → IfSome u (λ _. IsAtEnd v) → IfSome r (λ _. IsAtEnd v)
 at_end r u v bytes taken over = grind arith
-
-appends_none : (a : Option (List ℕ)) → Appends a a []
-appends_none a = grind (arith, append-nil {A = ℕ})
 
 pub start : (style : Style) (first : Machine) (r w : Option (List ℕ)) (m : Machine) (made : List ℕ) → m ≡ first → Counted made [] → Talking style first r r w w m made
 start style first r w m made is counted = record {
@@ -86,9 +77,9 @@ start style first r w m made is counted = record {
   replies = [];
   before = [];
   whole = whole_start;
-  taken = consumes_none r;
+  taken = grind arith;
   answered = is;
-  told = appends_none w;
+  told = grind (arith, append-nil {A = ℕ});
   next = λ rs. refl;
   counted = counted;
 }
@@ -155,7 +146,7 @@ module _ (style : Style) (first : Machine) (r u h w : Option (List ℕ)) (m : Ma
   pub cannot_read : (e : ServeError) → (e ≡ Read) ⊎ (e ≡ Memory) → (text : List ℕ) → Loses u v text [] → Serves style (Err e) first r v h w
   cannot_read e kind text lost =
       let few = lines_one text Input lost.0 in
-      let left = stops w (text ++ []) few lost.1 (keeps_same w) in
+      let left = stops w (text ++ []) few lost.1 (grind arith) in
       elim kind [ inl is ↦ rw is left | inr is ↦ rw is left ]
 
   -- the input has ended
@@ -200,15 +191,9 @@ module _ (style : Style) (first : Machine) (r u h w : Option (List ℕ)) (m : Ma
     at.told,
   )
 
--- the answer to the kept bytes of a line
-pub told_kept : (style : Style) (result : Result ⊤ ServeError) (line items text : List ℕ) (m k : Machine) (made after : List ℕ) (had has : Option (List ℕ)) → line ≡ items → items ≡ kept text
-    → Told style result line m k made after had has → Told style result (kept text) m k made after had has
-told_kept style result line items text m k made after had has p q told = subst (λ t. Told style result t m k made after had has) (p ∙ q) told
-
 -- a line that does not end with the input
 pub lost_feed : (u v : Option (List ℕ)) (text : List ℕ) (end : LineEnd) → (end ≡ Input → ⊥) → Loses u v text (end_bytes end) → Loses u v text (end_bytes Feed)
-lost_feed u v text Feed not lost = lost
-lost_feed u v text Input not lost = absurd (not refl)
+lost_feed u v text end not lost = grind (arith, not)
 
 -- nothing was taken, and nothing written
 pub begins_not : (style : Style) (first : Machine) (r h : Option (List ℕ)) → Serves style (Err Memory) first r r h h
@@ -216,6 +201,6 @@ begins_not style first r h = (
   [],
   [],
   omega arith,
-  record { bytes = []; host = first; taken = consumes_none r; answered = refl },
-  appends_none h,
+  record { bytes = []; host = first; taken = grind arith; answered = refl },
+  grind (arith, append-nil {A = ℕ}),
 )
