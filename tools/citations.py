@@ -18,7 +18,8 @@ from pathlib import Path
 TOP = Path(__file__).resolve().parent.parent
 CRATES = TOP / 'crates'
 
-IMPORT = re.compile(r'^ *(?:pub |ghost )?use (Rattle\.[\w.]+)(?:\.\{(.*)\}| as (\w+));?$', re.MULTILINE)
+IMPORT = re.compile(r'^ *(?:pub |ghost )?use (Rattle\..*?)(?: as (\w+))?;?$', re.MULTILINE)
+GROUP = re.compile(r'([^\s{},]*)\{([^{}]*)\}')
 OTHER = re.compile(r'^ *((pub )?(use|mod) .*|--.*)$', re.MULTILINE)
 DECLARED = re.compile(r'\s*(?:abbrev |unfoldable )?(?:pub )?(record |data )?(\S+)')
 CONSTRUCTOR = re.compile(r'^  (?:pub )?(\S+) :', re.MULTILINE)
@@ -54,12 +55,20 @@ class Source:
     aliases: dict[str, str] = field(default_factory=dict)
 
     def add_imports(self, text: str) -> None:
-        for module, names, alias in IMPORT.findall(text):
+        for path, alias in IMPORT.findall(text):
             if alias:
-                self.aliases[alias] = module
+                self.aliases[alias] = path
             else:
-                paths = [f'{module}.{name.strip()}'.rpartition('.') for name in names.split(',')]
-                self.names.update((name, place) for place, _, name in paths)
+                self.names.update((name, module) for module, name in imported(path))
+
+
+def imported(path: str) -> Iterator[tuple[str, str]]:
+    """The names that an import brings, each after its module: `a.{b.{c, d}, e}` brings c and d of a.b, and e of a."""
+    while '{' in path:
+        path = GROUP.sub(lambda group: ', '.join(group[1] + name.strip() for name in group[2].split(',')), path)
+    for name in path.split(', '):
+        module, _, last = name.rpartition('.')
+        yield module, last
 
 
 @cache

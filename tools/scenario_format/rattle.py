@@ -135,7 +135,7 @@ def request_numbers(form: Format) -> str:
 
 def request_definition(form: Format) -> str:
     """`request_numbered`, in crates/flat_forms/specs/Numbers.antt"""
-    items = [f"{entry.number}, requests.{entry.variant}" for entry in by_number(form.requests)]
+    items = [f"{entry.number}, Request.{entry.variant}" for entry in by_number(form.requests)]
     return f"abbrev pub request_numbered : ℕ → Option Request\nrequest_numbered = numbered\n{rows(items)}\n\n"
 
 

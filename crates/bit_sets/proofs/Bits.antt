@@ -1,10 +1,6 @@
 -- Words with one bit changed, and the places of bits.
 use Rattle.std.proofs.Common.{◌≡◌, ◌≢◌, ℕ, ◌<◌, ◌≤◌, ◌+◌, ◌-◌, ◌*◌, ◌/◌, ◌%◌, ◌^◌, ◌==◌, Bool, true, false, not, List, length, get_or, set, w64, ap, sym, ◌∙◌, arith, if◌then◌else◌}
-use Rattle.std.specs.Int.{bit_at}
-use Rattle.std.proofs.lemmas.List.{get_or-set_same, get_or-set_other}
-use Rattle.std.proofs.lemmas.Nat.{shr-shr}
-use Rattle.std.proofs.lemmas.Nat.Bits.{bit_at-lt, bit_at_not, bit_at_above}
-use Rattle.bit_sets.specs.Members.{has_bit, member}
+use Rattle.{std.{proofs.lemmas.{List.{get_or-set_same, get_or-set_other}, Nat.{shr-shr, Bits.{bit_at-lt, bit_at_not, bit_at_above}}}, specs.Int.bit_at}, bit_sets.specs.Members.{has_bit, member}}
 
 -- a word replaces the one with n's bit: n's bit is the new word's, and the others stay if the word's do
 pub member-here : (words : List ℕ) (n v : ℕ) → n / 64 < length words → member (set words (n / 64) v) n ≡ has_bit v (n % 64)

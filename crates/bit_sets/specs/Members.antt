@@ -1,6 +1,5 @@
 -- Sets of numbers as words of 64 bits: the set contains number n if bit n % 64 of word n / 64 is 1.
-use Rattle.std.specs.Prelude.{ℕ, ◌*◌, ◌/◌, ◌%◌, ◌==◌, Bool, List, length, get_or}
-use Rattle.std.specs.Int.{bit_at}
+use Rattle.std.specs.{Prelude.{ℕ, ◌*◌, ◌/◌, ◌%◌, ◌==◌, Bool, List, length, get_or}, Int.bit_at}
 
 abbrev pub has_bit : ℕ → ℕ → Bool
 has_bit word place = bit_at word place == 1

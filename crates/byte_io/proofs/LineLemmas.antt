@@ -1,7 +1,5 @@
 -- Lines one after another.
-use Rattle.std.proofs.Common.{◌≡◌, ◌≤◌, ℕ, List, [], ◌∷◌, ◌++◌, length, refl, arith}
-use Rattle.std.proofs.lemmas.List.{append_assoc, append-nil}
-use Rattle.byte_io.specs.Lines.{lines_in, NoFeed, end_bytes}
+use Rattle.{std.proofs.{Common.{◌≡◌, ◌≤◌, ℕ, List, [], ◌∷◌, ◌++◌, length, refl, arith}, lemmas.List.{append_assoc, append-nil}}, byte_io.specs.Lines.{lines_in, NoFeed, end_bytes}}
 use Rattle.byte_io.specs.declared.reading.LineEnd.{LineEnd}
 
 -- a line, and then others

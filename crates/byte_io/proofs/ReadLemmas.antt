@@ -1,10 +1,6 @@
 -- Parts of a line, one after another.
-use Rattle.std.proofs.Common.{◌≡◌, ◌≤◌, ◌-◌, ◌+◌, ℕ, min, List, [], ◌∷◌, ◌++◌, length, take, Option, arith, take_all, take-take, length-take}
-use Rattle.std.specs.Prelude.{Result, OnErr}
-use Rattle.std.specs.Io.KnownBytes.{Consumes}
-use Rattle.std.proofs.Math.Seq.{take-append-add, take-append-le}
-use Rattle.std.proofs.lemmas.List.{append_assoc, append-nil}
-use Rattle.byte_io.specs.Lines.{NoFeed, Loses}
+use Rattle.std.proofs.{Common.{◌≡◌, ◌≤◌, ◌-◌, ◌+◌, ℕ, min, List, [], ◌∷◌, ◌++◌, length, take, Option, arith, take_all, take-take, length-take}, Math.Seq.{take-append-add, take-append-le}}
+use Rattle.{std.{proofs.lemmas.List.{append_assoc, append-nil}, specs.{Prelude.{Result, OnErr}, Io.KnownBytes.Consumes}}, byte_io.specs.Lines.{NoFeed, Loses}}
 
 pub on_err : {X E : Type 0} (r : Result X E) (P : Type 0) → P → OnErr r P
 on_err r P p = grind arith

@@ -1,9 +1,6 @@
 -- The lines of bytes.
-use Rattle.std.specs.Prelude.{ℕ, ◌==◌, ◌≢◌, List, [], ◌∷◌, ◌++◌, Option, None, Some, if◌then◌else◌}
-use Rattle.std.specs.List.{AllByRecursion}
-use Rattle.std.specs.Io.KnownBytes.{Consumes}
-use Rattle.byte_io.specs.declared.reading.LineEnd.{LineEnd}
-use Rattle.byte_io.specs.declared.reading.LineEnd.TheVariants.{Feed, Input}
+use Rattle.std.specs.{Prelude.{ℕ, ◌==◌, ◌≢◌, List, [], ◌∷◌, ◌++◌, Option, None, Some, if◌then◌else◌}, List.AllByRecursion, Io.KnownBytes.Consumes}
+use Rattle.byte_io.specs.declared.reading.LineEnd.{LineEnd, TheVariants.{Feed, Input}}
 
 -- the lines with one more byte before the first of them
 abbrev pub in_first : ℕ → List (List ℕ) → List (List ℕ)

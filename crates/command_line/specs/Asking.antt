@@ -1,15 +1,7 @@
 -- What the options and the operand of a command line ask for.
-use Rattle.std.specs.Prelude.{ℕ, ◌==◌, Bool, true, false, not, List, Option, Some, None, is_some, bytes_eq, codes, if◌then◌else◌}
-use Rattle.std.specs.Borrow.{Bor}
-use Rattle.pid_blocks.specs.Users.{IsUser}
-use Rattle.command_line.specs.declared.asking.Arguments.{Arguments}
-use Rattle.command_line.specs.declared.asking.Asked.{Asked}
-use Rattle.command_line.specs.declared.asking.Mode.{Mode}
-use Rattle.command_line.specs.declared.asking.Mode.TheVariants.{Scenario, Lines}
-use Rattle.command_line.specs.declared.asking.Shown.{Shown}
-use Rattle.command_line.specs.declared.asking.Style.{Style}
-use Rattle.command_line.specs.declared.asking.Style.TheVariants.{Words, Json}
-use Rattle.command_line.specs.declared.asking.Terminals.{Terminals}
+use Rattle.std.specs.{Prelude.{ℕ, ◌==◌, Bool, true, false, not, List, Option, Some, None, is_some, bytes_eq, codes, if◌then◌else◌}, Borrow.Bor}
+use Rattle.{pid_blocks.specs.Users.IsUser, command_line.specs.declared.asking.{Arguments.Arguments, Asked.Asked, Mode.{Mode, TheVariants.{Scenario, Lines}}, Shown.Shown, Style.Style}}
+use Rattle.command_line.specs.declared.asking.{Style.TheVariants.{Words, Json}, Terminals.Terminals}
 
 -- whether a word is given, and is this one
 abbrev pub has_value : Option (Bor (List ℕ)) → List ℕ → Bool

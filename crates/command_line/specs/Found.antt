@@ -1,10 +1,6 @@
 -- The options and the operand among what clap found, which it keeps under the names that the program gave them.
-use Rattle.std.specs.Prelude.{◌≡◌, ℕ, true, List, Option, Some, option_map, codes}
-use Rattle.std.specs.Borrow.{Bor}
-use Rattle.std.specs.Str.Parse.{digits_value, without_leading_plus}
-use Rattle.clap.specs.Matches.{first_value, one_text}
-use Rattle.clap.specs.declared.parser.matches.Found.{Found}
-use Rattle.command_line.specs.declared.asking.Arguments.{Arguments}
+use Rattle.std.specs.{Prelude.{◌≡◌, ℕ, true, List, Option, Some, option_map, codes}, Borrow.Bor, Str.Parse.{digits_value, without_leading_plus}}
+use Rattle.{clap.specs.{Matches.{first_value, one_text}, declared.parser.matches.Found.Found}, command_line.specs.declared.asking.Arguments.Arguments}
 
 -- the word that was found, or none
 abbrev pub IsWord : Found → List ℕ → Option (Bor (List ℕ)) → Type 0

@@ -1,39 +1,26 @@
 -- Rows of processes and LWPs as numbers.
-use Rattle.std.specs.Prelude.{ℕ, Bool, true, false, Option, Some, None}
-use Rattle.event_masks.specs.declared.Call.{Call}
-use Rattle.event_masks.specs.declared.Call.TheVariants as call
-use Rattle.lwp_table.specs.declared.Due.{Due}
-use Rattle.lwp_table.specs.declared.Due.TheVariants as due
-use Rattle.lwp_table.specs.declared.LwpData.{LwpData}
-use Rattle.lwp_table.specs.declared.Mode.{Mode}
-use Rattle.lwp_table.specs.declared.Mode.TheVariants as mode
-use Rattle.proc_table.specs.declared.ProcData.{ProcData}
-use Rattle.proc_table.specs.declared.State.{State}
-use Rattle.proc_table.specs.declared.State.TheVariants as state
-use Rattle.flat_forms.specs.declared.rows.FlatProcess.{FlatProcess}
-use Rattle.flat_forms.specs.declared.rows.FlatLwp.{FlatLwp}
-use Rattle.flat_forms.specs.declared.rows.FlatState.{FlatState}
-use Rattle.flat_forms.specs.declared.rows.FlatMode.{FlatMode}
+use Rattle.std.specs.Prelude.{ℕ, Bool, Option, unwrap_or, if◌then◌else◌}
+use Rattle.{event_masks.specs.declared.Call.Call, lwp_table.specs.declared.{Due.Due, LwpData.LwpData, Mode.Mode}, proc_table.specs.declared.{ProcData.ProcData, State.State}}
+use Rattle.flat_forms.specs.declared.rows.{FlatProcess.FlatProcess, FlatLwp.FlatLwp, FlatState.FlatState, FlatMode.FlatMode}
 
 abbrev pub flag : Bool → ℕ
-flag true = 1
-flag false = 0
+flag is_set = if is_set then 1 else 0
 
-abbrev pub tracer_number : Option ℕ → ℕ
-tracer_number None = 0
-tracer_number (Some pid) = pid
+-- the number, where there is one, and else 0
+abbrev pub number_or_0 : Option ℕ → ℕ
+number_or_0 number = unwrap_or number 0
 
 abbrev pub flat_state : State → FlatState
-flat_state state.Run = record { state = 0; lwp = 0; signal = 0; reported = 0; status = 0 }
-flat_state (state.Trace tid sig reported) = record { state = 1; lwp = tid; signal = sig; reported = flag reported; status = 0 }
-flat_state (state.Job sig reported) = record { state = 2; lwp = 0; signal = sig; reported = flag reported; status = 0 }
-flat_state (state.Zombie status) = record { state = 3; lwp = 0; signal = 0; reported = 0; status = status }
+flat_state State.Run = record { state = 0; lwp = 0; signal = 0; reported = 0; status = 0 }
+flat_state (State.Trace tid sig reported) = record { state = 1; lwp = tid; signal = sig; reported = flag reported; status = 0 }
+flat_state (State.Job sig reported) = record { state = 2; lwp = 0; signal = sig; reported = flag reported; status = 0 }
+flat_state (State.Zombie status) = record { state = 3; lwp = 0; signal = 0; reported = 0; status = status }
 
 abbrev pub flat_process : ProcData → FlatProcess
 flat_process p = let s = flat_state p.state in record {
   pid = p.pid;
   parent = p.parent;
-  tracer = tracer_number p.tracer;
+  tracer = number_or_0 p.tracer;
   state = s.state;
   lwp = s.lwp;
   signal = s.signal;
@@ -46,24 +33,24 @@ flat_process p = let s = flat_state p.state in record {
 
 -- the number of a system call, and its argument
 abbrev pub flat_call : Call → ℕ × ℕ
-flat_call call.Fork = (0, 0)
-flat_call call.Vfork = (1, 0)
-flat_call call.Exec = (2, 0)
-flat_call call.ThrNew = (3, 0)
-flat_call call.ThrExit = (4, 0)
-flat_call (call.Exit status) = (5, status)
-flat_call (call.Other number) = (6, number)
+flat_call Call.Fork = (0, 0)
+flat_call Call.Vfork = (1, 0)
+flat_call Call.Exec = (2, 0)
+flat_call Call.ThrNew = (3, 0)
+flat_call Call.ThrExit = (4, 0)
+flat_call (Call.Exit status) = (5, status)
+flat_call (Call.Other number) = (6, number)
 
 abbrev pub flat_mode : Mode → FlatMode
-flat_mode mode.User = record { mode = 0; call = 0; argument = 0; child = 0 }
-flat_mode (mode.InCall c) = record { mode = 1; call = (flat_call c).0; argument = (flat_call c).1; child = 0 }
-flat_mode (mode.VforkWait child) = record { mode = 2; call = 0; argument = 0; child = child }
+flat_mode Mode.User = record { mode = 0; call = 0; argument = 0; child = 0 }
+flat_mode (Mode.InCall c) = record { mode = 1; call = (flat_call c).0; argument = (flat_call c).1; child = 0 }
+flat_mode (Mode.VforkWait child) = record { mode = 2; call = 0; argument = 0; child = child }
 
 abbrev pub due_number : Due → ℕ
-due_number due.Nothing = 0
-due_number due.Born = 1
-due_number due.Begun = 2
-due_number due.VforkDone = 3
+due_number Due.Nothing = 0
+due_number Due.Born = 1
+due_number Due.Begun = 2
+due_number Due.VforkDone = 3
 
 abbrev pub flat_lwp : LwpData → FlatLwp
 flat_lwp l = let m = flat_mode l.mode in record {

@@ -1,18 +1,8 @@
 -- A reply as numbers.
-use Rattle.std.specs.Prelude.{⊤, ◌≡◌, ℕ, false, ◌%◌, ◌^◌, List, length, Option, Some, None}
-use Rattle.pid_blocks.specs.Blocks.{errno_number}
-use Rattle.wait4.specs.Status.{IsStatus, word}
-use Rattle.wait4.specs.declared.StatusKind.{StatusKind}
-use Rattle.lwpinfo.specs.declared.Event.{Event}
-use Rattle.lwpinfo.specs.declared.Event.TheVariants as event
-use Rattle.lwpinfo.specs.declared.LwpInfo.{LwpInfo}
-use Rattle.stop_handlers.specs.declared.Decision.{Decision}
-use Rattle.stop_handlers.specs.declared.Decision.TheVariants as decision
-use Rattle.stop_handlers.specs.declared.StopView.{StopView}
-use Rattle.requests.specs.declared.Reply.{Reply}
-use Rattle.requests.specs.declared.Reply.TheVariants as reply
-use Rattle.requests.specs.Refusals.{is_listing}
-use Rattle.flat_forms.specs.declared.replies.FlatReply.{FlatReply}
+use Rattle.std.specs.Prelude.{⊤, ◌≡◌, ℕ, false, ◌%◌, ◌^◌, List, length, Option, is_some}
+use Rattle.{pid_blocks.specs.Blocks.errno_number, wait4.specs.{Status.{IsStatus, word}, declared.StatusKind.StatusKind}, lwpinfo.specs.declared.{Event.Event, LwpInfo.LwpInfo}}
+use Rattle.{stop_handlers.specs.declared.{Decision.Decision, StopView.StopView}, requests.specs.{declared.Reply.Reply, Refusals.is_listing}, flat_forms.specs.declared.replies.FlatReply.FlatReply}
+use Rattle.flat_forms.specs.FlatRows.{flag, number_or_0}
 
 -- a reply of this kind with all its numbers 0
 abbrev pub blank : ℕ → FlatReply
@@ -39,41 +29,29 @@ blank kind = record {
 }
 
 abbrev pub event_number : Event → ℕ
-event_number event.Nothing = 0
-event_number event.Signal = 1
+event_number Event.Nothing = 0
+event_number Event.Signal = 1
 
 abbrev pub flat_info : LwpInfo → FlatReply
-flat_info i = record (blank 5) {
-  lwp = i.tid;
-  event = event_number i.event;
-  flags = i.flags.0;
-  mask = i.sigmask;
-  pending = i.siglist;
-  child = i.child;
-  code = i.code;
-}
+flat_info i =
+    record (blank 5) { lwp = i.tid; event = event_number i.event; flags = i.flags.0; mask = i.sigmask; pending = i.siglist; child = i.child; code = i.code }
 
 abbrev pub decision_number : Decision → ℕ
-decision_number decision.Decline = 0
-decision_number decision.Leave = 1
-decision_number (decision.Continue s) = 2
-decision_number (decision.Detach s) = 3
-decision_number decision.Kill = 4
+decision_number Decision.Decline = 0
+decision_number Decision.Leave = 1
+decision_number (Decision.Continue s) = 2
+decision_number (Decision.Detach s) = 3
+decision_number Decision.Kill = 4
 
 -- the signal that a decision passes on, or 0
 abbrev pub passed : Decision → ℕ
-passed (decision.Continue s) = s
-passed (decision.Detach s) = s
+passed (Decision.Continue s) = s
+passed (Decision.Detach s) = s
 passed d = 0
 
--- whether there is an index, as 1 or 0, and which
+-- whether there is an index, as 1 or 0
 abbrev pub has_index : Option ℕ → ℕ
-has_index None = 0
-has_index (Some i) = 1
-
-abbrev pub index_number : Option ℕ → ℕ
-index_number None = 0
-index_number (Some i) = i
+has_index index = flag (is_some index)
 
 abbrev pub flat_handled : ℕ → StatusKind → StopView → Option ℕ → Decision → FlatReply
 flat_handled pid status view index d = record (blank 9) {
@@ -85,39 +63,39 @@ flat_handled pid status view index d = record (blank 9) {
   child = view.child;
   code = view.code;
   has_handler = has_index index;
-  handler = index_number index;
+  handler = number_or_0 index;
   decision = decision_number d;
   pass = passed d;
   stop_pid = view.pid;
 }
 
 abbrev pub flat : Reply → FlatReply
-flat reply.Done = blank 0
-flat (reply.New pid tid) = record (blank 1) { pid = pid; lwp = tid }
-flat (reply.Number n) = record (blank 2) { number = n }
-flat (reply.Status pid status) = record (blank 3) { pid = pid; status = word status }
-flat reply.Nothing = blank 4
-flat (reply.Info i) = flat_info i
-flat (reply.Lwps tids) = record (blank 6) { count = length tids % 2 ^ 32 }
-flat (reply.Pids pids) = record (blank 7) { count = length pids % 2 ^ 32 }
-flat (reply.Mask mask) = record (blank 8) { mask = mask.0 }
-flat (reply.Handled pid status view index d) = flat_handled pid status view index d
-flat (reply.Stopped tid sig flags) = record (blank 10) { lwp = tid; signal = sig; flags = flags.0 }
-flat (reply.Caught sig) = record (blank 11) { signal = sig }
-flat (reply.Ended w) = record (blank 12) { status = w }
-flat reply.Held = blank 13
-flat (reply.Errno e) = record (blank 14) { error = errno_number e }
+flat Reply.Done = blank 0
+flat (Reply.New pid tid) = record (blank 1) { pid = pid; lwp = tid }
+flat (Reply.Number n) = record (blank 2) { number = n }
+flat (Reply.Status pid status) = record (blank 3) { pid = pid; status = word status }
+flat Reply.Nothing = blank 4
+flat (Reply.Info i) = flat_info i
+flat (Reply.Lwps tids) = record (blank 6) { count = length tids % 2 ^ 32 }
+flat (Reply.Pids pids) = record (blank 7) { count = length pids % 2 ^ 32 }
+flat (Reply.Mask mask) = record (blank 8) { mask = mask.0 }
+flat (Reply.Handled pid status view index d) = flat_handled pid status view index d
+flat (Reply.Stopped tid sig flags) = record (blank 10) { lwp = tid; signal = sig; flags = flags.0 }
+flat (Reply.Caught sig) = record (blank 11) { signal = sig }
+flat (Reply.Ended w) = record (blank 12) { status = w }
+flat Reply.Held = blank 13
+flat (Reply.Errno e) = record (blank 14) { error = errno_number e }
 
 -- ---- what a flat reply tells
 
 -- two replies are the same, but that a list counts by its length, in 32 bits, and a status by its word
 pub data Alike : Reply → Reply → Type 0 where
   same : (r : Reply) → Alike r r
-  lwps : (xs ys : List ℕ) → length xs % 2 ^ 32 ≡ length ys % 2 ^ 32 → Alike (reply.Lwps xs) (reply.Lwps ys)
-  pids : (xs ys : List ℕ) → length xs % 2 ^ 32 ≡ length ys % 2 ^ 32 → Alike (reply.Pids xs) (reply.Pids ys)
-  status : (pid : ℕ) (s t : StatusKind) → word s ≡ word t → Alike (reply.Status pid s) (reply.Status pid t)
+  lwps : (xs ys : List ℕ) → length xs % 2 ^ 32 ≡ length ys % 2 ^ 32 → Alike (Reply.Lwps xs) (Reply.Lwps ys)
+  pids : (xs ys : List ℕ) → length xs % 2 ^ 32 ≡ length ys % 2 ^ 32 → Alike (Reply.Pids xs) (Reply.Pids ys)
+  status : (pid : ℕ) (s t : StatusKind) → word s ≡ word t → Alike (Reply.Status pid s) (Reply.Status pid t)
   handled : (pid : ℕ) (s t : StatusKind) (view : StopView) (index : Option ℕ) (d : Decision) → word s ≡ word t
-      → Alike (reply.Handled pid s view index d) (reply.Handled pid t view index d)
+      → Alike (Reply.Handled pid s view index d) (Reply.Handled pid t view index d)
 
 -- two replies with the same flat form are alike
 abbrev pub FlatFormsDiffer : Type 0
@@ -125,8 +103,8 @@ FlatFormsDiffer = (q r : Reply) → flat q ≡ flat r → Alike q r
 
 -- the status of a reply, if it has one, exists
 abbrev pub HasStatus : Reply → Type 0
-HasStatus (reply.Status pid s) = IsStatus s
-HasStatus (reply.Handled pid s view index d) = IsStatus s
+HasStatus (Reply.Status pid s) = IsStatus s
+HasStatus (Reply.Handled pid s view index d) = IsStatus s
 HasStatus r = ⊤
 
 -- two replies whose statuses exist are the same reply if their flat forms are the same and they are no lists

@@ -1,6 +1,7 @@
 //! A reply as numbers.
 ghost use Rattle.std.specs.Prelude.{◌≡◌, ◌%◌, ◌^◌, length};
-ghost use Rattle.flat_forms.specs.Replies.{blank, flat, flat_info, flat_handled, has_index, index_number, event_number, decision_number, passed};
+ghost use Rattle.flat_forms.specs.Replies.{blank, flat, flat_info, flat_handled, has_index, event_number, decision_number, passed};
+ghost use Rattle.flat_forms.specs.FlatRows.{number_or_0};
 
 use lwpinfo::{Event, LwpInfo, NumList};
 use pid_blocks::Pid;
@@ -87,7 +88,7 @@ fn has_index(index: Option<u32>) -> u32
 }
 
 fn index_number(index: Option<u32>) -> u32
-    ensures { result ≡ index_number index }
+    ensures { result ≡ number_or_0 index }
 {
     match index {
         Some(place) => place,

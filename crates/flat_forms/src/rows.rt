@@ -1,6 +1,6 @@
 //! Rows of processes and LWPs as numbers.
 ghost use Rattle.std.specs.Prelude.{◌≡◌};
-ghost use Rattle.flat_forms.specs.FlatRows.{flag, tracer_number, flat_state, flat_process, flat_call, flat_mode, due_number, flat_lwp};
+ghost use Rattle.flat_forms.specs.FlatRows.{flag, number_or_0, flat_state, flat_process, flat_call, flat_mode, due_number, flat_lwp};
 
 use event_masks::Call;
 use lwp_table::{Due, LwpData, Mode};
@@ -79,7 +79,7 @@ fn flag(is_set: bool) -> u32
 }
 
 fn tracer_number(tracer: Option<Pid>) -> u32
-    ensures { result ≡ tracer_number tracer }
+    ensures { result ≡ number_or_0 tracer }
 {
     match tracer {
         Some(pid) => pid.get(),

@@ -1,9 +1,6 @@
 -- The first line of a text, and the lines after it.
 use Rattle.std.proofs.Common.{◌≡◌, ◌≤◌, ◌==◌, ℕ, ◌+◌, Bool, true, false, List, [], ◌∷◌, length, take, drop, min, Some, cond, refl, add-one, ◌∙◌, ◌-◌, arith, length-drop}
-use Rattle.std.specs.Prelude.{slice_get}
-use Rattle.std.specs.List.{position_or_len}
-use Rattle.std.proofs.lemmas.Bool.Decides.{nat_tests}
-use Rattle.line_diff.specs.Lines.{in_first, lines_in, line_length, line_there}
+use Rattle.{std.{proofs.lemmas.Bool.Decides.nat_tests, specs.{Prelude.slice_get, List.position_or_len}}, line_diff.specs.Lines.{in_first, lines_in, line_length, line_there}}
 
 abbrev is_feed : ℕ → Bool
 is_feed byte = byte == 10

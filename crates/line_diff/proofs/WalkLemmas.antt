@@ -1,13 +1,7 @@
 -- Two texts that begin with some equal lines.
-use Rattle.std.proofs.Common.{◌≡◌, ◌≢◌, ◌≤◌, ℕ, ◌+◌, ◌-◌, Bool, true, false, not, suc, zero, List, [], ◌∷◌, ◌++◌, length, take, drop, refl, ap, sym, ◌∙◌, arith}
-use Rattle.std.specs.Prelude.{slice_get, option_map}
-use Rattle.std.proofs.Math.Seq.{take-add}
-use Rattle.std.proofs.lemmas.List.{drop-drop, length-append}
-use Rattle.std.specs.Str.{bytes_eq}
-use Rattle.std.proofs.lemmas.Slice.Eq.{bytes_eq-Decides}
-use Rattle.line_diff.specs.Lines.{lines_in, line_there}
-use Rattle.line_diff.specs.Differences.{IsFirstDifference}
-use Rattle.line_diff.specs.declared.comparing.Difference.{Difference}
+use Rattle.std.proofs.{Common.{◌≡◌, ◌≢◌, ◌≤◌, ℕ, ◌+◌, ◌-◌, Bool, true, false, not, suc, zero, List, [], ◌∷◌, ◌++◌, length, take, drop, refl, ap, sym, ◌∙◌, arith}, Math.Seq.take-add}
+use Rattle.{std.{proofs.lemmas.{List.{drop-drop, length-append}, Slice.Eq.bytes_eq-Decides}, specs.{Prelude.{slice_get, option_map}, Str.bytes_eq}}, line_diff.specs.Lines.{lines_in, line_there}}
+use Rattle.line_diff.specs.{Differences.IsFirstDifference, declared.comparing.Difference.Difference}
 
 -- the lines before are the same, and then the texts continue with these
 pub record Agrees (expected got expected_rest got_rest : List ℕ) (line : ℕ) : Type 0 where

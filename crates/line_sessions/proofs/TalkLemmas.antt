@@ -1,29 +1,12 @@
 -- A session, line after line.
-use Rattle.std.proofs.Common.{◌≡◌, ◌≤◌, ◌<◌, ◌+◌, ℕ, List, [], ◌∷◌, ◌++◌, length, take, Option, Some, None, refl, sym, ap, subst, ◌∙◌, inl, inr, arith, take_all, ◌⊎◌}
-use Rattle.std.specs.Prelude.{⊤, Result, Ok, Err, IfSome}
-use Rattle.std.specs.Io.KnownBytes.{Appends, Consumes, Keeps, IsAtEnd}
-use Rattle.std.proofs.Math.Seq.{take-append-add}
-use Rattle.std.proofs.lemmas.Bool.{cases_lt}
-use Rattle.std.proofs.lemmas.List.{append_assoc, append-nil, length-take}
-use Rattle.byte_io.specs.declared.reading.LineEnd.{LineEnd}
-use Rattle.byte_io.specs.declared.reading.LineEnd.TheVariants.{Feed, Input}
-use Rattle.byte_io.specs.Lines.{lines_in, NoFeed, Loses, end_bytes}
-use Rattle.byte_io.proofs.LineLemmas.{Whole, whole_start, whole_line, whole_more, lines_last, lines_one}
-use Rattle.byte_io.proofs.ReadLemmas.{consumes_more}
-use Rattle.pid_blocks.specs.Users.{IsUser}
-use Rattle.requests.specs.Machine.{Machine}
-use Rattle.scenario.proofs.LineLemmas.{Counted, counted_more, counted_number}
-use Rattle.scenario.proofs.WriteLemmas.{appends_more, appends_kept}
-use Rattle.scenario_text.specs.declared.fault.Fault.{Fault}
-use Rattle.scenario.specs.declared.style.Style.{Style}
-use Rattle.scenario.specs.Lines.{line}
-use Rattle.scenario_text.specs.OneStep.{IsStep, too_long, no_value, value, max_step_bytes}
-use Rattle.requests.specs.Run.{Asked}
-use Rattle.line_sessions.specs.declared.fault.ServeError.{ServeError}
-use Rattle.line_sessions.specs.declared.fault.ServeError.TheVariants.{Read, Write, Memory, TooManyLines}
+use Rattle.std.proofs.{Common.{◌≡◌, ◌≤◌, ◌<◌, ◌+◌, ℕ, List, [], ◌∷◌, ◌++◌, length, take, Option, refl, sym, ap, ◌∙◌, inl, inr, arith, take_all, ◌⊎◌}, Math.Seq.take-append-add}
+use Rattle.std.{proofs.lemmas.{Bool.cases_lt, List.{append_assoc, append-nil, length-take}}, specs.{Prelude.{Result, Ok, Err, IfOk, IfSome}, Io.KnownBytes.{Appends, Consumes, Keeps, IsAtEnd}}}
+use Rattle.byte_io.{specs.{declared.reading.LineEnd.{LineEnd, TheVariants.{Feed, Input}}, Lines.{lines_in, NoFeed, Loses, end_bytes}}, proofs.LineLemmas.{Whole, whole_start, whole_line, whole_more}}
+use Rattle.{byte_io.proofs.{LineLemmas.{lines_last, lines_one}, ReadLemmas.consumes_more}, pid_blocks.specs.Users.IsUser, requests.specs.{Machine.Machine, Run.Asked}}
+use Rattle.scenario.{proofs.{LineLemmas.{Counted, counted_more, counted_number}, WriteLemmas.{appends_more, appends_kept}}, specs.{declared.style.Style.Style, Lines.line}}
+use Rattle.{scenario_text.specs.{declared.fault.Fault.Fault, OneStep.{IsStep, too_long, no_value, value, max_step_bytes}}, line_sessions.specs.declared.fault.ServeError.{ServeError, TheVariants.Read}}
+use Rattle.line_sessions.specs.{declared.fault.ServeError.TheVariants.{Write, Memory, TooManyLines}, Sessions.{AnswersLines, text_after, text_of, Talk, Serves}, Turns.{kept, Told}}
 use Rattle.open_sessions.specs.Answers.{LineReply, AnswersLine, step, refused, reply_text, made_after}
-use Rattle.line_sessions.specs.Sessions.{AnswersLines, text_after, text_of, Talk, Serves}
-use Rattle.line_sessions.specs.Turns.{kept, Told}
 
 -- ---- a line that is longer than a step
 
@@ -39,19 +22,18 @@ answers_long text m r k long (refused f is) = refused f (step_of_kept text (Err 
 pub answers_kept : (text : List ℕ) (m : Machine) (r : LineReply) (k : Machine) → AnswersLine (kept text) m r k → AnswersLine text m r k
 answers_kept text m r k p = elim (cases_lt max_step_bytes (length text)) [
   | inl long ↦ answers_long text m r k long p
-  | inr short ↦ subst (λ t. AnswersLine t m r k) (take_all (max_step_bytes + 1) text (omega arith)) p
+  | inr short ↦ rw (take_all (max_step_bytes + 1) text (omega arith)) at p
 ]
 
 -- ---- one more answer
 
 answers_more : (ls : List (List ℕ)) (l : List ℕ) (m n k : Machine) (rs : List LineReply) (r : LineReply) → AnswersLines ls m rs n → AnswersLine l n r k → AnswersLines (ls ++ (l ∷ [])) m (rs ++ (r ∷ [])) k
-answers_more [] l m n k [] r p q = (k, subst (λ x. AnswersLine l x r k) p q, refl)
+answers_more [] l m n k [] r p q = (k, rw p at q, refl)
 answers_more (x ∷ ls) l m n k (s ∷ rs) r p q = (p.0, p.1, answers_more ls l p.0 n k rs r p.2 q)
 answers_more ls l m n k rs r p q = absurd p
 
 abbrev pub ToUser : LineReply → Type 0
-ToUser (Ok a) = IsUser a.uid
-ToUser (Err f) = ⊤
+ToUser r = IfOk r (λ a. IsUser a.uid)
 
 to_user : {text : List ℕ} {m : Machine} {r : LineReply} {k : Machine} → AnswersLine text m r k → ToUser r
 to_user (step a reply after is user did) = user
@@ -85,23 +67,9 @@ pub record Talking (style : Style) (first : Machine) (read unread had has : Opti
   pub next : (rs : List LineReply) → text_of style (replies ++ rs) ≡ text_of style replies ++ text_after style before rs
   pub counted : Counted made before
 
-consumes_none : (a : Option (List ℕ)) → Consumes a a []
-consumes_none None = tt
-consumes_none (Some xs) = refl
-
-keeps_same : (a : Option (List ℕ)) → Keeps a a
-keeps_same None = tt
-keeps_same (Some xs) = refl
-
 -- a reader whose bytes were known is at its end
 at_end : (r u v : Option (List ℕ)) (bytes : List ℕ) → Consumes r u bytes → IfSome u (λ _. IsAtEnd v) → IfSome r (λ _. IsAtEnd v)
-at_end None u v bytes taken over = tt
-at_end (Some xs) None v bytes taken over = absurd taken
-at_end (Some xs) (Some ys) v bytes taken over = over
-
-appends_none : (a : Option (List ℕ)) → Appends a a []
-appends_none None = tt
-appends_none (Some xs) = sym (append-nil xs)
+at_end r u v bytes taken over = grind arith
 
 pub start : (style : Style) (first : Machine) (r w : Option (List ℕ)) (m : Machine) (made : List ℕ) → m ≡ first → Counted made [] → Talking style first r r w w m made
 start style first r w m made is counted = record {
@@ -109,9 +77,9 @@ start style first r w m made is counted = record {
   replies = [];
   before = [];
   whole = whole_start;
-  taken = consumes_none r;
+  taken = grind arith;
   answered = is;
-  told = appends_none w;
+  told = grind (arith, append-nil {A = ℕ});
   next = λ rs. refl;
   counted = counted;
 }
@@ -142,17 +110,12 @@ module _ (style : Style) (first : Machine) (r u h w : Option (List ℕ)) (m : Ma
   module _ (text : List ℕ) (end : LineEnd) (lost : Loses u v text (end_bytes end)) where
     -- a line was taken, and has this answer
     line_answered : (k : Machine) (reply : LineReply) → (end ≡ Input → 0 < length text) → AnswersLine (kept text) m reply k → Talk first r v [] (at.replies ++ (reply ∷ []))
-    line_answered k reply some is =
-        let P : List ℕ → Type 0 = λ bytes. Consumes r v bytes in
-        let Q : List (List ℕ) → Type 0 = λ ls. AnswersLines ls first (at.replies ++ (reply ∷ [])) k in
-        let bytes = at.bytes ++ (text ++ end_bytes end) in
-        record {
-          bytes = bytes;
-          host = k;
-          taken = subst P (sym (append-nil bytes)) (consumes_more r u v at.bytes (text ++ end_bytes end) at.taken lost.1);
-          answered = subst Q (sym (lines_with at.bytes text end at.whole lost.0 some))
-              (answers_more (lines_in at.bytes) text first m k at.replies reply at.answered (answers_kept text m reply k is));
-        }
+    line_answered k reply some is = record {
+      bytes = at.bytes ++ (text ++ end_bytes end);
+      host = k;
+      taken = rw append-nil (consumes_more r u v at.bytes (text ++ end_bytes end) at.taken lost.1);
+      answered = rw (lines_with at.bytes text end at.whole lost.0 some) (answers_more (lines_in at.bytes) text first m k at.replies reply at.answered (answers_kept text m reply k is));
+    }
 
     text_answered : (reply : LineReply) → ToUser reply → text_of style (at.replies ++ (reply ∷ [])) ≡ text_of style at.replies ++ reply_text style made reply
     text_answered reply user =
@@ -161,31 +124,30 @@ module _ (style : Style) (first : Machine) (r u h w : Option (List ℕ)) (m : Ma
     -- the last line was answered
     pub ends_last : (k : Machine) (after : List ℕ) (x : Option (List ℕ)) → (end ≡ Input → 0 < length text) → Told style (Ok tt) (kept text) m k made after w x
         → IfSome u (λ _. IsAtEnd v) → Serves style (Ok tt) first r v h x
-    ends_last k after x some told over =
-        let P : List ℕ → Type 0 = λ t. Appends h x t in
-        (at.replies ++ (told.0 ∷ []), line_answered k told.0 some told.1, subst P (sym (text_answered told.0 (to_user told.1))) (appends_more h w x (text_of style at.replies) (reply_text style made told.0) at.told told.3), at_end r u v at.bytes at.taken over)
+    ends_last k after x some told over = (
+      at.replies ++ (told.0 ∷ []),
+      line_answered k told.0 some told.1,
+      rw (text_answered told.0 (to_user told.1)) (appends_more h w x (text_of style at.replies) (reply_text style made told.0) at.told told.3),
+      at_end r u v at.bytes at.taken over,
+    )
 
     -- a line was taken, and its answer was not written
     pub fails : (k : Machine) (after : List ℕ) (x : Option (List ℕ)) (e : ServeError) → (end ≡ Input → 0 < length text) → Told style (Err e) (kept text) m k made after w x → Serves style (Err e) first r v h x
     fails k after x Write some told =
-        let P : List ℕ → Type 0 = λ t. Appends h x t in
-        let one = reply_text style made told.0 in
-        let all = text_of style (at.replies ++ (told.0 ∷ [])) in
-        let n = length (text_of style at.replies) + told.2 in
-        let front : text_of style at.replies ++ take told.2 one ≡ take n all =
-        sym (take-append-add (text_of style at.replies) one told.2) ∙ ap (take n) (sym (text_answered told.0 (to_user told.1))) in
-        (at.replies ++ (told.0 ∷ []), line_answered k told.0 some told.1, n, subst P front (appends_more h w x (text_of style at.replies) (take told.2 one) at.told told.3))
+        let one = reply_text style made told.0 in (
+          at.replies ++ (told.0 ∷ []),
+          line_answered k told.0 some told.1,
+          length (text_of style at.replies) + told.2,
+          rw (text_answered told.0 (to_user told.1), take-append-add (text_of style at.replies) one told.2) (appends_more h w x (text_of style at.replies) (take told.2 one) at.told told.3),
+        )
     fails k after x e some told = stops x (text ++ end_bytes end) (lines_one text end lost.0) lost.1 told
 
   -- the next line could not be read
   pub cannot_read : (e : ServeError) → (e ≡ Read) ⊎ (e ≡ Memory) → (text : List ℕ) → Loses u v text [] → Serves style (Err e) first r v h w
   cannot_read e kind text lost =
       let few = lines_one text Input lost.0 in
-      let left = stops w (text ++ []) few lost.1 (keeps_same w) in
-      elim kind [
-        | inl is ↦ subst (λ x. Serves style (Err x) first r v h w) (sym is) left
-        | inr is ↦ subst (λ x. Serves style (Err x) first r v h w) (sym is) left
-      ]
+      let left = stops w (text ++ []) few lost.1 (grind arith) in
+      elim kind [ inl is ↦ rw is left | inr is ↦ rw is left ]
 
   -- the input has ended
   pub ends_now : Consumes u v [] → IfSome u (λ _. IsAtEnd v) → Serves style (Ok tt) first r v h w
@@ -201,9 +163,6 @@ module _ (style : Style) (first : Machine) (r u h w : Option (List ℕ)) (m : Ma
       → Talking style first r v h x k after
   goes_on text lost k after x told =
       let reply = told.0 in
-      let P : List ℕ → Type 0 = λ t. Appends h x t in
-      let Q : List (List ℕ) → Type 0 = λ ls. AnswersLines ls first (at.replies ++ (reply ∷ [])) k in
-      let R : List ℕ → Type 0 = λ xs. Counted xs (users_after at.before reply) in
       let user = to_user told.1 in
       let text_is = text_answered text Feed lost reply user in
       record {
@@ -212,15 +171,14 @@ module _ (style : Style) (first : Machine) (r u h w : Option (List ℕ)) (m : Ma
         before = users_after at.before reply;
         whole = whole_more at.bytes text at.whole lost.0;
         taken = consumes_more r u v at.bytes (text ++ (10 ∷ [])) at.taken lost.1;
-        answered = subst Q (sym (whole_line at.bytes text at.whole lost.0))
-            (answers_more (lines_in at.bytes) text first m k at.replies reply at.answered (answers_kept text m reply k told.1));
-        told = subst P (sym text_is) (appends_more h w x (text_of style at.replies) (reply_text style made reply) at.told told.3);
+        answered = rw (whole_line at.bytes text at.whole lost.0) (answers_more (lines_in at.bytes) text first m k at.replies reply at.answered (answers_kept text m reply k told.1));
+        told = rw text_is (appends_more h w x (text_of style at.replies) (reply_text style made reply) at.told told.3);
         next = λ rs.
             ap (text_of style) (append_assoc at.replies (reply ∷ []) rs) ∙ at.next (reply ∷ rs)
             ∙ ap (λ t. text_of style at.replies ++ t) (text_more style made at.before reply rs at.counted user)
             ∙ sym (append_assoc (text_of style at.replies) (reply_text style made reply) (text_after style (users_after at.before reply) rs))
             ∙ ap (λ t. t ++ text_after style (users_after at.before reply) rs) (sym text_is);
-        counted = subst R (sym told.2) (counted_after made at.before reply at.counted user);
+        counted = rw told.2 (counted_after made at.before reply at.counted user);
       }
 
   -- no more lines are answered
@@ -229,19 +187,13 @@ module _ (style : Style) (first : Machine) (r u h w : Option (List ℕ)) (m : Ma
     at.replies,
     [],
     omega arith,
-    record { bytes = at.bytes; host = m; taken = let P : List ℕ → Type 0 = λ bytes. Consumes r u bytes in subst P (sym (append-nil at.bytes)) at.taken; answered = at.answered },
+    record { bytes = at.bytes; host = m; taken = rw append-nil at.taken; answered = at.answered },
     at.told,
   )
 
--- the answer to the kept bytes of a line
-pub told_kept : (style : Style) (result : Result ⊤ ServeError) (line items text : List ℕ) (m k : Machine) (made after : List ℕ) (had has : Option (List ℕ)) → line ≡ items → items ≡ kept text
-    → Told style result line m k made after had has → Told style result (kept text) m k made after had has
-told_kept style result line items text m k made after had has p q told = subst (λ t. Told style result t m k made after had has) (p ∙ q) told
-
 -- a line that does not end with the input
 pub lost_feed : (u v : Option (List ℕ)) (text : List ℕ) (end : LineEnd) → (end ≡ Input → ⊥) → Loses u v text (end_bytes end) → Loses u v text (end_bytes Feed)
-lost_feed u v text Feed not lost = lost
-lost_feed u v text Input not lost = absurd (not refl)
+lost_feed u v text end not lost = grind (arith, not)
 
 -- nothing was taken, and nothing written
 pub begins_not : (style : Style) (first : Machine) (r h : Option (List ℕ)) → Serves style (Err Memory) first r r h h
@@ -249,6 +201,6 @@ begins_not style first r h = (
   [],
   [],
   omega arith,
-  record { bytes = []; host = first; taken = consumes_none r; answered = refl },
-  appends_none h,
+  record { bytes = []; host = first; taken = grind arith; answered = refl },
+  grind (arith, append-nil {A = ℕ}),
 )

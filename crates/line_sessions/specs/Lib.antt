@@ -1,4 +1,3 @@
-pub mod Faults
 pub mod Sessions
 pub mod Turns
 pub mod Laws

@@ -1,20 +1,13 @@
 -- A session line by line: each line of the input has one answer.
-use Rattle.std.specs.Prelude.{⊤, ◌≡◌, ◌≤◌, ℕ, ◌==◌, ◌+◌, List, [], ◌∷◌, ◌++◌, length, take, Option, IfSome, Result, Ok, Err, count_by}
-use Rattle.std.specs.Io.KnownBytes.{Appends, Consumes, IsAtEnd}
-use Rattle.requests.specs.Machine.{Machine}
-use Rattle.scenario.specs.declared.style.Style.{Style}
-use Rattle.scenario.specs.Lines.{line}
-use Rattle.open_sessions.specs.Answers.{LineReply, AnswersLine, refusal}
-use Rattle.line_sessions.specs.declared.fault.ServeError.{ServeError}
-use Rattle.line_sessions.specs.declared.fault.ServeError.TheVariants.{Write}
-use Rattle.byte_io.specs.Lines.{lines_in}
+use Rattle.std.specs.{Prelude.{⊤, ◌≡◌, ◌≤◌, ℕ, ◌==◌, ◌+◌, List, [], ◌∷◌, ◌++◌, length, take, Option, IfSome, Result, Ok, Err, count_by}, Io.KnownBytes.{Appends, Consumes, IsAtEnd}}
+use Rattle.{requests.specs.Machine.Machine, scenario.specs.{declared.style.Style.Style, Lines.line}, open_sessions.specs.Answers.{LineReply, AnswersLine, refusal}}
+use Rattle.{line_sessions.specs.declared.fault.ServeError.{ServeError, TheVariants.Write}, byte_io.specs.Lines.lines_in}
 
 -- the answers to lines in order, on a host that is m before and k after them
 abbrev pub AnswersLines : List (List ℕ) → Machine → List LineReply → Machine → Type 0
 AnswersLines [] m [] k = k ≡ m
-AnswersLines [] m (r ∷ rs) k = ⊥
-AnswersLines (l ∷ ls) m [] k = ⊥
 AnswersLines (l ∷ ls) m (r ∷ rs) k = (n : Machine) × AnswersLine l m r n × AnswersLines ls n rs k
+AnswersLines ls m rs k = ⊥
 
 -- ---- the text of answers
 
@@ -29,6 +22,11 @@ abbrev pub text_of : Style → List LineReply → List ℕ
 text_of style rs = text_after style [] rs
 
 -- ---- the input and output of a session
+
+-- the exit status of a session that ended early: 1 where the input is refused, 3 where reading, writing or memory failed
+abbrev pub serve_fault_status : ServeError → ℕ
+serve_fault_status ServeError.TooManyLines = 1
+serve_fault_status e = 3
 
 -- the reader gave some lines, which have these answers from the host m on, and then `rest`
 pub record Talk (m : Machine) (read unread : Option (List ℕ)) (rest : List ℕ) (rs : List LineReply) : Type 0 where

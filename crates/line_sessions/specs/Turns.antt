@@ -1,12 +1,7 @@
 -- One line of a session: its reading and its answer.
-use Rattle.std.specs.Prelude.{⊤, ◌≡◌, ℕ, ◌+◌, List, Option, Result, Ok, Err, take}
-use Rattle.std.specs.Io.KnownBytes.{Appends, Keeps}
-use Rattle.requests.specs.Machine.{Machine}
-use Rattle.scenario_text.specs.OneStep.{max_step_bytes}
-use Rattle.scenario.specs.declared.style.Style.{Style}
-use Rattle.open_sessions.specs.Answers.{LineReply, AnswersLine, reply_text, made_after}
-use Rattle.line_sessions.specs.declared.fault.ServeError.{ServeError}
-use Rattle.line_sessions.specs.declared.fault.ServeError.TheVariants.{Write}
+use Rattle.std.specs.{Prelude.{⊤, ◌≡◌, ℕ, ◌+◌, List, Option, Result, Ok, Err, take}, Io.KnownBytes.{Appends, Keeps}}
+use Rattle.{requests.specs.Machine.Machine, scenario_text.specs.OneStep.max_step_bytes, scenario.specs.declared.style.Style.Style, open_sessions.specs.Answers.{LineReply, AnswersLine, reply_text}}
+use Rattle.{open_sessions.specs.Answers.made_after, line_sessions.specs.declared.fault.ServeError.{ServeError, TheVariants.Write}}
 
 -- the part of a line that is kept: if the line is longer, neither it nor the part is a step
 abbrev pub kept : List ℕ → List ℕ

@@ -1,6 +1,6 @@
 ghost use Rattle.std.specs.Prelude.{◌≡◌};
 ghost use Rattle.line_sessions.specs.declared.fault.ServeError.TheVariants.{Memory};
-ghost use Rattle.line_sessions.specs.Faults.{serve_fault_status};
+ghost use Rattle.line_sessions.specs.Sessions.{serve_fault_status};
 
 use std::alloc::{AllocError, AllocFailed};
 use thiserror::Error;

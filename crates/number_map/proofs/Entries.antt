@@ -1,10 +1,6 @@
 -- What a number finds among entries.
-use Rattle.std.proofs.Common.{◌≡◌, ◌≢◌, ℕ, zero, suc, ◌+◌, ◌<◌, ◌≤◌, true, false, List, [], Option, None, refl, ap, arith, nat_eq}
-use Rattle.std.specs.List.{cons_option}
-use Rattle.std.specs.Map.{lookup}
-use Rattle.std.specs.Option.{option_map}
-use Rattle.std.proofs.lemmas.Bool.Decides.{nat_tests}
-use Rattle.number_map.specs.Pages.{entries_from}
+use Rattle.std.{proofs.{Common.{◌≡◌, ◌≢◌, ℕ, zero, suc, ◌+◌, ◌<◌, ◌≤◌, true, false, List, [], Option, None, refl, ap, arith, nat_eq}, lemmas.Bool.Decides.nat_tests}, specs.List.cons_option}
+use Rattle.{std.specs.{Map.lookup, Option.option_map}, number_map.specs.Pages.entries_from}
 
 pub test_same : (a : ℕ) → nat_eq a a ≡ true
 test_same a = grind (arith, nat_tests)

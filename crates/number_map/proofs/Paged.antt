@@ -1,9 +1,6 @@
 -- What changes of cells and pages do to the values of numbers.
 use Rattle.std.proofs.Common.{◌≡◌, ℕ, zero, suc, ◌+◌, ◌*◌, ◌/◌, ◌%◌, ◌<◌, ◌≤◌, List, Option, None, IsSome, length, get_or, replicate, count_by, cond, refl, sym, ap, ◌∙◌, arith, nat_eq}
-use Rattle.std.specs.Map.{lookup}
-use Rattle.std.proofs.lemmas.List.{get_or_past, get_or_default, get_or-replicate, length-replicate}
-use Rattle.std.proofs.lemmas.List.Sums.{sum_by-cons}
-use Rattle.number_map.specs.Pages.{cell, entries_of, is_own, IsPaged}
+use Rattle.{std.{proofs.lemmas.List.{get_or_past, get_or_default, get_or-replicate, length-replicate, Sums.sum_by-cons}, specs.Map.lookup}, number_map.specs.Pages.{cell, entries_of, is_own, IsPaged}}
 use Rattle.number_map.proofs.Entries.{lookup-past, lookup-within}
 
 abbrev nothing : (V : Type 0) → Option V

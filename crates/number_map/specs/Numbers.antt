@@ -1,6 +1,5 @@
 -- What contracts see of a map from numbers.
-use Rattle.std.specs.Prelude.{ℕ, List, refl}
-use Rattle.std.specs.Coded.{Coded, code_by, coded×, coded_ℕ, coded_list}
+use Rattle.std.specs.{Prelude.{ℕ, List, refl}, Coded.{Coded, code_by, coded×, coded_ℕ, coded_list}}
 
 -- the numbers with their values, by rising number, and how many more numbers fit without allocation
 pub record Numbers (V : Type 0) : Type 0 where

@@ -1,7 +1,5 @@
 -- How pages of cells contain the values of numbers: 128 numbers share a page, and each has a cell in it.
-use Rattle.std.specs.Prelude.{◌≡◌, ℕ, zero, suc, ◌+◌, ◌*◌, ◌/◌, ◌%◌, ◌<◌, ◌≤◌, Bool, List, [], length, Option, None, count_by, get_or, nat_lt}
-use Rattle.std.specs.List.{cons_option}
-use Rattle.std.specs.Option.{option_map}
+use Rattle.std.specs.{Prelude.{◌≡◌, ℕ, zero, suc, ◌+◌, ◌*◌, ◌/◌, ◌%◌, ◌<◌, ◌≤◌, Bool, List, [], length, Option, None, count_by, get_or, nat_lt}, List.cons_option, Option.option_map}
 
 -- the cell of a number, where `pages` has the place of each 128 numbers' page among the cells
 abbrev pub cell : {V : Type 0} → List ℕ → List (Option V) → ℕ → Option V

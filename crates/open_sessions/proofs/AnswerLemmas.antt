@@ -1,45 +1,20 @@
 -- The answers of a session, from its steps.
-use Rattle.std.proofs.Common.{◌≡◌, ◌≢◌, ◌<◌, ℕ, ◌-◌, ◌+◌, List, Option, Some, refl, sym, ap, subst, ◌∙◌, length, slice_set, slice_index}
-use Rattle.std.specs.Prelude.{Result, Ok, Err, OnOk}
-use Rattle.std.proofs.lemmas.List.{get_or-set_same}
-use Rattle.pid_blocks.specs.Users.{IsUser}
-use Rattle.requests.specs.Hosts.{Steps as HostSteps}
-use Rattle.requests.specs.declared.Reply.{Reply}
-use Rattle.requests.specs.Machine.{Machine}
-use Rattle.requests.specs.Plain.{PlainStep}
-use Rattle.requests.specs.Run.{Asked}
-use Rattle.visibility.proofs.Steps.{did}
-use Rattle.scenario_text.specs.declared.fault.Fault.{Fault}
-use Rattle.scenario_text.specs.declared.fault.Fault.TheVariants.{Memory}
-use Rattle.scenario_text.specs.OneStep.{IsStep, AnswersBy}
-use Rattle.scenario.specs.declared.style.Style.{Style}
-use Rattle.scenario.specs.Lines.{Answered, line}
-use Rattle.open_sessions.specs.Answers.{LineReply, step, refused, answer_text}
-use Rattle.open_sessions.specs.Open.{OpenSession}
-use Rattle.open_sessions.specs.Calls.{Steps, Answers}
+use Rattle.std.{proofs.{Common.{arith, ◌≡◌, ◌≢◌, ◌<◌, ℕ, ◌-◌, ◌+◌, List, Option, Some, refl, ap, ◌∙◌, length, slice_set, slice_index}, lemmas.List.get_or-set_same}, specs.Prelude.{Result, Ok}}
+use Rattle.{std.specs.Prelude.{Err, OnOk}, pid_blocks.specs.Users.IsUser, requests.specs.{Hosts.Steps as HostSteps, declared.Reply.Reply, Machine.Machine, Plain.PlainStep, Run.Asked}}
+use Rattle.{visibility.proofs.Steps.did, scenario_text.specs.{declared.fault.Fault.{Fault, TheVariants.Memory}, OneStep.{IsStep, AnswersBy}}, scenario.specs.declared.style.Style.Style}
+use Rattle.{scenario.specs.Lines.{Answered, line}, open_sessions.specs.{Answers.{LineReply, step, refused, answer_text}, Calls.{OpenSession, Steps, Answers}}}
 
 -- a step of the host, with the count at the user's place raised and the reply kept
 pub steps : (u : ℕ) (p : PlainStep) (s : OpenSession) (k : Machine) (r : Reply) (place : ℕ) → IsUser u → HostSteps u p s.host k r → place ≡ u - 1001 → place < length s.made
     → Steps u p s (record { host = k; made = slice_set s.made place (slice_index s.made place + 1); last = Some (Ok (record { uid = u; reply = r })) })
-steps u p s k r place user made at below =
-    let raised : ℕ → List ℕ = λ i. slice_set s.made i (slice_index s.made i + 1) in
-    let P : ℕ → Type 0 = λ i. slice_index (raised i) (u - 1001) ≡ slice_index s.made (u - 1001) + 1 in
-    let Q : ℕ → Type 0 = λ i. i < length s.made in
-    record {
-      reply = r;
-      user = user;
-      made = made;
-      counts = ap raised at;
-      number = subst P (sym at) (get_or-set_same s.made (u - 1001) (slice_index s.made (u - 1001) + 1) 0 (subst Q at below));
-      last = refl;
-    }
-
--- the same from an equal session
-pub steps_at : (u : ℕ) (p : PlainStep) (s same : OpenSession) (k : Machine) (r : Reply) (place : ℕ) → s ≡ same → IsUser u → HostSteps u p s.host k r → place ≡ u - 1001 → place < length s.made
-    → Steps u p same (record { host = k; made = slice_set s.made place (slice_index s.made place + 1); last = Some (Ok (record { uid = u; reply = r })) })
-steps_at u p s same k r place is user made at below =
-    let P : OpenSession → Type 0 = λ x. Steps u p x (record { host = k; made = slice_set s.made place (slice_index s.made place + 1); last = Some (Ok (record { uid = u; reply = r })) }) in
-    subst P is (steps u p s k r place user made at below)
+steps u p s k r place user made at below = record {
+  reply = r;
+  user = user;
+  made = made;
+  counts = ap (λ i. slice_set s.made i (slice_index s.made i + 1)) at;
+  number = grind (arith, at, get_or-set_same s.made place (slice_index s.made place + 1) 0 below);
+  last = refl;
+}
 
 text_with : (style : Style) (made : List ℕ) (a : Answered) (last : Option LineReply) (n : ℕ) → last ≡ Some (Ok a) → slice_index made (a.uid - 1001) ≡ n → answer_text style made last ≡ (line style n a).text
 text_with style made a last n is number = ap (answer_text style made) is ∙ ap (λ x. (line style x a).text) number
@@ -56,23 +31,14 @@ answers text a s t is made =
       text = λ style. text_with style t.made reply t.last (slice_index s.made (a.uid - 1001) + 1) made.last made.number;
     }
 
--- a line that is no step was refused
-pub refuses : (text : List ℕ) (s : OpenSession) (f : Fault) → IsStep text (Err f) → Answers text s (record s { last = Some (Err f) })
-refuses text s f is = record {
-  reply = Err f;
-  answers = refused f is;
-  counts = refl;
-  last = refl;
-  text = λ style. refl;
-}
-
 -- a fault other than out of memory
 pub told_fault : {X : Type 0} (view : X → Asked) (P : Result Asked Fault → Type 0) (f : Fault) → f ≢ Memory → AnswersBy view (Err f) P → P (Err f)
 told_fault view P Memory some p = absurd (some refl)
 told_fault view P f some p = p
 
-pub refuses_at : (text : List ℕ) (s t : OpenSession) (f : Fault) → IsStep text (Err f) → t ≡ record s { last = Some (Err f) } → Answers text s t
-refuses_at text s t f is same = subst (Answers text s) (sym same) (refuses text s f is)
+-- a line that is no step was refused
+pub refuses : (text : List ℕ) (s t : OpenSession) (f : Fault) → IsStep text (Err f) → t ≡ record s { last = Some (Err f) } → Answers text s t
+refuses text s t f is same = rw same (record { reply = Err f; answers = refused f is; counts = refl; last = refl; text = λ style. refl })
 
 pub on_ok_so : {X E : Type 0} (r : Result X E) (P Q : Type 0) → (P → Q) → OnOk r P → OnOk r Q
 on_ok_so (Ok x) P Q f p = f p

@@ -1,23 +1,17 @@
 -- The answer to a line, and its text.
-use Rattle.std.specs.Prelude.{ℕ, ◌-◌, ◌+◌, List, [], ◌∷◌, ◌++◌, Option, Some, None, Result, Ok, Err, codes, take, drop, length, slice_index, slice_set}
-use Rattle.pid_blocks.specs.Users.{IsUser}
-use Rattle.requests.specs.declared.Reply.{Reply}
-use Rattle.requests.specs.declared.Reply.TheVariants.{Lwps, Pids}
-use Rattle.requests.specs.Machine.{Machine}
-use Rattle.requests.specs.Run.{Asked}
-use Rattle.visibility.specs.Runs.{told, Did}
-use Rattle.reply_json.specs.Objects.{json_text}
-use Rattle.reply_json.specs.Replies.{refusal_value}
-use Rattle.scenario_text.specs.declared.fault.Fault.{Fault}
-use Rattle.scenario_text.specs.Faults.{fault_name}
-use Rattle.scenario_text.specs.OneStep.{IsStep}
-use Rattle.scenario.specs.declared.style.Style.{Style}
-use Rattle.scenario.specs.declared.style.Style.TheVariants.{Words, Json}
-use Rattle.scenario.specs.Lines.{Answered, line}
+use Rattle.std.specs.Prelude.{unwrap_or, option_map, ℕ, ◌-◌, ◌+◌, List, [], ◌∷◌, ◌++◌, Option, Some, None, Result, Ok, Err, codes, take, drop, length, slice_index, slice_set}
+use Rattle.{pid_blocks.specs.Users.IsUser, requests.specs.{declared.Reply.{Reply, TheVariants.{Lwps, Pids}}, Machine.Machine, Run.Asked}, visibility.specs.Runs.{told, Did}}
+use Rattle.{reply_json.specs.{Objects.json_text, Replies.refusal_value}, scenario_text.specs.{declared.fault.Fault.Fault, Faults.fault_name, OneStep.IsStep}, scenario.specs.declared.style.Style.Style}
+use Rattle.scenario.specs.{declared.style.Style.TheVariants.{Words, Json}, Lines.{Answered, line}}
 
 -- the answer to a line: a reply to a user, or the fault for which the line is not a step
 abbrev pub LineReply : Type 0
 LineReply = Result Answered Fault
+
+-- the same, as the session keeps it
+abbrev pub line_reply : Result (ℕ × Reply) Fault → LineReply
+line_reply (Ok r) = Ok (record { uid = r.0; reply = r.1 })
+line_reply (Err f) = Err f
 
 -- a line's answer, and the host after it. A step has the machine's reply and leaves the machine's host; or, where it
 -- takes memory and the machine wouldn't refuse it, it runs out of memory and leaves the host as it was. A line that is
@@ -61,8 +55,7 @@ numbers_of (Pids pids) = pids
 numbers_of r = []
 
 abbrev pub last_numbers : Option LineReply → List ℕ
-last_numbers (Some (Ok a)) = numbers_of a.reply
-last_numbers last = []
+last_numbers last = unwrap_or (option_map numbers_of (last_reply last)) []
 
 -- a room with the front of a text that fits into it, and after it what was there before
 abbrev pub shown : {X : Type 0} → List X → List X → List X

@@ -1,14 +1,13 @@
--- What the calls of a session do.
-use Rattle.std.specs.Prelude.{◌≡◌, ℕ, ◌-◌, ◌+◌, ◌^◌, List, Some, Ok, slice_index}
-use Rattle.pid_blocks.specs.Users.{IsUser}
-use Rattle.requests.specs.Hosts.{Steps as HostSteps}
-use Rattle.requests.specs.declared.Reply.{Reply}
-use Rattle.requests.specs.Plain.{PlainStep}
-use Rattle.requests.specs.Run.{Asked}
-use Rattle.scenario.specs.declared.style.Style.{Style}
-use Rattle.scenario_text.specs.OneStep.{IsStep}
-use Rattle.open_sessions.specs.Answers.{LineReply, AnswersLine, answer_text, reply_text, made_after}
-use Rattle.open_sessions.specs.Open.{OpenSession}
+-- What an open session is, and what its calls do.
+use Rattle.std.specs.Prelude.{◌≡◌, ℕ, ◌-◌, ◌+◌, ◌^◌, List, Option, Some, Ok, slice_index}
+use Rattle.{pid_blocks.specs.Users.IsUser, requests.specs.{Hosts.Steps as HostSteps, declared.Reply.Reply, Machine.Machine, Plain.PlainStep, Run.Asked}, scenario.specs.declared.style.Style.Style}
+use Rattle.{scenario_text.specs.OneStep.IsStep, open_sessions.specs.{Answers.{LineReply, AnswersLine, answer_text, reply_text, made_after}}}
+
+-- a host, how many answers each of the 64 users has had, and the last answer
+pub record OpenSession : Type 0 where
+  pub host : Machine
+  pub made : List ℕ
+  pub last : Option LineReply
 
 abbrev pub last_text : Style → OpenSession → List ℕ
 last_text style s = answer_text style s.made s.last

@@ -1,4 +1,2 @@
 pub mod Answers
-pub mod Open
-pub mod Lasting
 pub mod Calls

@@ -1,7 +1,6 @@
 //! The last answer of a session.
 ghost use Rattle.std.specs.Prelude.{◌≡◌, IfOk, option_map};
-ghost use Rattle.open_sessions.specs.Answers.{last_numbers, last_reply};
-ghost use Rattle.open_sessions.specs.Lasting.{line_reply};
+ghost use Rattle.open_sessions.specs.Answers.{last_numbers, last_reply, line_reply};
 
 use pid_blocks::Uid;
 use requests::Reply;

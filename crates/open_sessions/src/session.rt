@@ -34,8 +34,8 @@ pub struct Session {
 
 impl Model for Session {
     ghost use Rattle.std.specs.Prelude.{option_map};
-    ghost use Rattle.open_sessions.specs.Open.{OpenSession};
-    ghost use Rattle.open_sessions.specs.Lasting.{line_reply};
+    ghost use Rattle.open_sessions.specs.Calls.{OpenSession};
+    ghost use Rattle.open_sessions.specs.Answers.{line_reply};
 
     ghost Value = { OpenSession };
 

@@ -1,8 +1,7 @@
 //! The text of an answer.
 ghost use Rattle.std.specs.Prelude.{◌≡◌, ◌++◌, OnOk, string_bytes, option_map};
 ghost use Rattle.scenario.specs.declared.style.Style.TheVariants as style;
-ghost use Rattle.open_sessions.specs.Answers.{answer_text, refusal};
-ghost use Rattle.open_sessions.specs.Lasting.{line_reply};
+ghost use Rattle.open_sessions.specs.Answers.{answer_text, line_reply, refusal};
 
 use crate::answers::Answer;
 use reply_json::refusal_json;

@@ -1,7 +1,5 @@
 -- The search for a free number, one number further.
-use Rattle.std.proofs.Common.{◌≡◌, ℕ, zero, suc, ◌+◌, ◌-◌, ◌<◌, Bool, true, false, arith, refl}
-use Rattle.std.specs.Prelude.{Some}
-use Rattle.pid_blocks.specs.Blocks.{first_free}
+use Rattle.{std.{proofs.Common.{◌≡◌, ℕ, zero, suc, ◌+◌, ◌-◌, ◌<◌, Bool, true, false, arith, refl}, specs.Prelude.Some}, pid_blocks.specs.Blocks.first_free}
 
 -- a taken number is passed over
 pub first_free-over : (taken : ℕ → Bool) (left n : ℕ) → 0 < left → taken n ≡ true → first_free taken left n ≡ first_free taken (left - 1) (n + 1)

@@ -1,8 +1,6 @@
 -- Every number belongs to at most one user.
 use Rattle.std.specs.Prelude.{ℕ, ◌≡◌}
-use Rattle.pid_blocks.specs.declared.Block.{Block}
-use Rattle.pid_blocks.specs.Users.{IsUser}
-use Rattle.pid_blocks.specs.Blocks.{InBlock}
+use Rattle.pid_blocks.specs.{declared.Block.Block, Users.IsUser, Blocks.InBlock}
 
 -- the blocks of different users have no number in common
 abbrev pub IsApart : (ℕ → Block) → Type 0

@@ -1,14 +1,9 @@
 -- The options of a run, by what the command line asks for.
-use Rattle.command_line.specs.declared.asking.Shown.{Shown}
-use Rattle.command_line.specs.declared.asking.Style.{Style as AskedStyle}
-use Rattle.command_line.specs.declared.asking.Style.TheVariants as asked
-use Rattle.scenario.specs.declared.running.RunOptions.{RunOptions}
-use Rattle.scenario.specs.declared.style.Style.{Style}
-use Rattle.scenario.specs.declared.style.Style.TheVariants.{Words, Json}
+use Rattle.{command_line.specs.declared.asking.{Shown.Shown, Style.Style as AskedStyle}, scenario.specs.declared.{running.RunOptions.RunOptions, style.Style.{Style, TheVariants.{Words, Json}}}}
 
 abbrev pub line_style : AskedStyle → Style
-line_style asked.Words = Words
-line_style asked.Json = Json
+line_style AskedStyle.Words = Words
+line_style AskedStyle.Json = Json
 
 -- the lines of the user that is asked for, or of all users where none is, in the style that is asked for
 abbrev pub run_options : Shown → RunOptions

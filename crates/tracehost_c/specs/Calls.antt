@@ -1,22 +1,11 @@
 -- What the calls from C do, by the code that they return.
-use Rattle.std.specs.Prelude.{◌≡◌, ℕ, Bool, true, false, List, Option, Some, None, IsSome, length, map}
-use Rattle.pid_blocks.specs.Users.{IsUser}
-use Rattle.requests.specs.Plain.{PlainStep}
-use Rattle.scenario.specs.declared.style.Style.{Style}
-use Rattle.scenario.specs.declared.style.Style.TheVariants.{Words, Json}
-use Rattle.flat_forms.specs.declared.replies.FlatReply.{FlatReply}
-use Rattle.requests.specs.View.{view}
-use Rattle.flat_forms.specs.Replies.{flat}
-use Rattle.flat_forms.specs.declared.rows.FlatProcess.{FlatProcess}
-use Rattle.flat_forms.specs.declared.rows.FlatLwp.{FlatLwp}
-use Rattle.flat_forms.specs.FlatRows.{flat_process, flat_lwp}
-use Rattle.open_sessions.specs.Answers.{last_numbers, shown}
-use Rattle.open_sessions.specs.Open.{OpenSession}
-use Rattle.open_sessions.specs.Calls.{last_text, Steps, Answers, IsFull, FullFor}
+use Rattle.std.specs.Prelude.{◌≡◌, ℕ, Bool, if◌then◌else◌, List, Option, Some, None, IsSome, IsSomeAnd, length, map}
+use Rattle.{pid_blocks.specs.Users.IsUser, requests.specs.{Plain.PlainStep, View.view}, scenario.specs.declared.style.Style.{Style, TheVariants.{Words, Json}}}
+use Rattle.flat_forms.specs.{declared.{replies.FlatReply.FlatReply, rows.{FlatProcess.FlatProcess, FlatLwp.FlatLwp}}, Replies.flat, FlatRows.{flat_process, flat_lwp}}
+use Rattle.open_sessions.specs.{Answers.{last_numbers, shown}, Calls.{OpenSession, last_text, Steps, Answers, IsFull, FullFor}}
 
 abbrev pub style_of : Bool → Style
-style_of true = Json
-style_of false = Words
+style_of json = if json then Json else Words
 
 -- ---- lines
 
@@ -27,32 +16,27 @@ Shows text room filled n = (filled ≡ shown text room) × (n ≡ length text)
 -- a line was answered in an open session, and is no step of a user who has had the most answers that are counted
 abbrev pub LineAnswered : List ℕ → Option OpenSession → Option OpenSession → Type 0
 LineAnswered line (Some s) (Some t) = Answers line s t × ¬ FullFor line s
-LineAnswered line (Some s) None = ⊥
-LineAnswered line None t = ⊥
+LineAnswered line s t = ⊥
 
 -- a line is a step of a user of an open session who has had the most answers that are counted
 abbrev pub LineFull : List ℕ → Option OpenSession → Type 0
-LineFull line (Some s) = FullFor line s
-LineFull line None = ⊥
+LineFull line session = IsSomeAnd session (FullFor line)
 
 -- the line of the last answer of an open session
 abbrev pub ShowsLast : Style → Option OpenSession → (room filled : List ℕ) → ℕ → Type 0
-ShowsLast style (Some s) room filled n = Shows (last_text style s) room filled n
-ShowsLast style None room filled n = ⊥
+ShowsLast style session room filled n = IsSomeAnd session (λ s. Shows (last_text style s) room filled n)
 
 -- the numbers of the last answer of an open session
 abbrev pub ShowsNumbers : Option OpenSession → (room filled : List ℕ) → ℕ → Type 0
-ShowsNumbers (Some s) room filled n = Shows (last_numbers s.last) room filled n
-ShowsNumbers None room filled n = ⊥
+ShowsNumbers session room filled n = IsSomeAnd session (λ s. Shows (last_numbers s.last) room filled n)
 
 -- ---- views
 
 -- a user's view of an open session: the rows of processes and of LWPs
 abbrev pub ShowsView : ℕ → Option OpenSession → (processes filled : List FlatProcess) → ℕ → (lwps filled_lwps : List FlatLwp) → ℕ → Type 0
-ShowsView u (Some s) processes filled n lwps filled_lwps m = IsUser u
+ShowsView u session processes filled n lwps filled_lwps m = IsSomeAnd session (λ s. IsUser u
     × Shows (map flat_process (view u s.host).processes) processes filled n
-    × Shows (map flat_lwp (view u s.host).lwps) lwps filled_lwps m
-ShowsView u None processes filled n lwps filled_lwps m = ⊥
+    × Shows (map flat_lwp (view u s.host).lwps) lwps filled_lwps m)
 
 -- ---- steps
 

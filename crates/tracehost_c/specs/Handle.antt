@@ -1,11 +1,7 @@
 -- What a handle owns: its session's block, where it has a session.
 use base.Fml.{Fml, ftrue}
 use denote.RawPtr.{Ptr}
-use Rattle.std.specs.Prelude.{Option, Some, None}
-use Rattle.std.specs.Coded.{Coded, coded_option}
-use Rattle.std.specs.Box.Ownership.{box_owns}
-use Rattle.std.specs.Global.{Global}
-use Rattle.std.specs.contracts.impls.GlobalAllocator.TheImpl.{ghosts}
+use Rattle.std.specs.{Prelude.{Option, Some, None}, Coded.{Coded, coded_option}, Box.Ownership.box_owns, Global.Global, contracts.impls.GlobalAllocator.TheImpl.ghosts}
 use Rattle.open_sessions.specs.contracts.session.Session.{the_row}
 
 abbrev pub session_coded : Coded (Option the_row.Denot)

@@ -1,7 +1,4 @@
-use Rattle.std.proofs.Common.{◌-◌, ◌/◌, ◌^◌, ap, sym, ◌∙◌, arith, w64}
-use Rattle.std.specs.Int.{trailing_zeros}
-use Rattle.std.proofs.lemmas.Nat.Bits.{bit_at-trailing_zeros, bit_at-zero}
-use Rattle.bit_sets.specs.Members.{has_bit}
+use Rattle.{std.{proofs.{Common.{◌-◌, ◌/◌, ◌^◌, ap, sym, ◌∙◌, arith, w64}, lemmas.Nat.Bits.{bit_at-trailing_zeros, bit_at-zero}}, specs.Int.trailing_zeros}, bit_sets.specs.Members.has_bit}
 use Rattle.bit_sets.proofs.Bits.{has_bit-shifted, has_bit-one, has_bit-none, has_bit-up, has_bit-below}
 use Rattle.bit_sets.proofs.first_one.Goals as goal
 

@@ -1,6 +1,4 @@
-use Rattle.std.proofs.Common.{ap, sym, ◌∙◌, arith, if◌then◌else◌, not}
-use Rattle.bit_sets.specs.Members.{has_bit}
-use Rattle.bit_sets.proofs.Bits.{has_bit-not}
+use Rattle.{std.proofs.Common.{ap, sym, ◌∙◌, arith, if◌then◌else◌, not}, bit_sets.{specs.Members.has_bit, proofs.Bits.has_bit-not}}
 use Rattle.bit_sets.proofs.marks.Goals as goal
 
 pub returns-else-wanted : goal.returns-else-wanted

@@ -1,10 +1,5 @@
-use Rattle.std.proofs.Common.{Some, subst}
 use Rattle.std.proofs.Math.Facts.{to_z-of_z}
-use Rattle.requests.specs.declared.step.Step.TheVariants as op
-use Rattle.tracehost_c.specs.Calls.{TypedCall}
 use Rattle.tracehost_c.proofs.tracehost_kill.Goals as goal
 
 pub returns : goal.returns
-returns c =
-    subst (λ z. TypedCall c.args.user (Some (op.Kill c.args.caller z c.args.signal)) c.args.handle.now.held.session c.make.new.handle.held.session c.args.reply.now c.make.new.reply c.make.result)
-    (to_z-of_z c.ranges.which) c.make.ensures
+returns c = rw (to_z-of_z c.ranges.which) at c.make.ensures

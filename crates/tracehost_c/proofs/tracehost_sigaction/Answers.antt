@@ -1,15 +1,7 @@
-use Rattle.std.proofs.Common.{Some, ap, subst, ◌∙◌, option_map}
-use Rattle.requests.specs.declared.step.Step.TheVariants as op
-use Rattle.tracehost_c.specs.Calls.{TypedCall}
 use Rattle.tracehost_c.proofs.tracehost_sigaction.Goals as goal
 
 pub returns-in-Some : goal.returns-in-Some
-returns-in-Some c =
-    subst (λ p. TypedCall c.args.user p c.args.handle.now.held.session c.make.new.handle.held.session c.args.reply.now c.make.new.reply c.make.result)
-    (ap Some c.sigaction.ensures ∙ ap (option_map (λ d. op.Sigaction c.args.caller c.args.signal d)) c.in-Some.ensures) c.make.ensures
+returns-in-Some c = rw (← c.in-Some.ensures, ← c.sigaction.ensures) c.make.ensures
 
 pub returns-in-None : goal.returns-in-None
-returns-in-None c =
-    let session = c.args.handle.now.held.session in
-    subst (λ p. TypedCall c.args.user p session session c.args.reply.now c.args.reply.now c.refused.result) (ap (option_map (λ d. op.Sigaction c.args.caller c.args.signal d)) c.in-None.ensures)
-    (c.refused.ensures c.args.user c.args.reply.now)
+returns-in-None c = rw (← c.in-None.ensures) (c.refused.ensures c.args.user c.args.reply.now)

@@ -1,6 +1,6 @@
 //! A boxed session, or none, behind one pointer.
 ghost use Rattle.std.specs.Prelude.{◌≡◌, Option, None, Some, IsSome};
-ghost use Rattle.open_sessions.specs.Open.{OpenSession};
+ghost use Rattle.open_sessions.specs.Calls.{OpenSession};
 ghost use Rattle.tracehost_c.specs.Handle.{session_coded, held_owns};
 
 mod parts;

@@ -1,6 +1,4 @@
-use Rattle.std.proofs.Common.{◌/◌, ◌%◌, length, ap, sym, ◌∙◌, arith, slice_index_or, nat_eq, w64}
-use Rattle.std.proofs.lemmas.Nat.Bits.{bit_at_set_same, bit_at_set_other}
-use Rattle.bit_sets.specs.Members.{member}
+use Rattle.{std.proofs.{Common.{◌/◌, ◌%◌, length, ap, sym, ◌∙◌, arith, slice_index_or, nat_eq, w64}, lemmas.Nat.Bits.{bit_at_set_same, bit_at_set_other}}, bit_sets.specs.Members.member}
 use Rattle.bit_sets.proofs.Bits.{member-here, member-others}
 use Rattle.bit_sets.proofs.NumberSet.insert.Goals as goal
 

@@ -1,6 +1,4 @@
-use Rattle.std.proofs.Common.{arith, inl, inr}
-use Rattle.std.proofs.lemmas.Bool.{cases_lt}
-use Rattle.bit_sets.proofs.Bits.{Marks, next-here, next-before}
+use Rattle.{std.proofs.{Common.{arith, inl, inr}, lemmas.Bool.cases_lt}, bit_sets.proofs.Bits.{Marks, next-here, next-before}}
 use Rattle.bit_sets.proofs.NumberSet.next.Goals as goal
 
 pub returns-then-number-end-clause-some : goal.returns-then-number-end-clause-some

@@ -1,5 +1,4 @@
-use Rattle.std.proofs.Common.{◌-◌, ◌≡◌, ℕ, ◌<◌, ◌≤◌, not}
-use Rattle.bit_sets.specs.Members.{member}
+use Rattle.{std.proofs.Common.{◌-◌, ◌≡◌, ℕ, ◌<◌, ◌≤◌, not}, bit_sets.specs.Members.member}
 use Rattle.bit_sets.proofs.NumberSet.next.Given as goal
 
 -- no number from `from` to below `at` is as wanted

@@ -1,7 +1,4 @@
-use Rattle.std.proofs.Common.{List, ℕ, [], ◌++◌, subst, arith}
-use Rattle.std.proofs.lemmas.List.{length-take}
-use Rattle.byte_io.specs.Lines.{Loses, part_end}
-use Rattle.byte_io.proofs.ReadLemmas.{on_err, loses_more, loses_none, kept_parts}
+use Rattle.{std.proofs.{Common.{List, ℕ, [], ◌++◌, subst, arith}, lemmas.List.length-take}, byte_io.{specs.Lines.{Loses, part_end}, proofs.ReadLemmas.{on_err, loses_more, loses_none, kept_parts}}}
 use Rattle.byte_io.proofs.reading.read_line.Goals as goal
 
 pub returns-in_err-end-clause-err : goal.returns-in_err-end-clause-err

@@ -1,5 +1,4 @@
-use Rattle.std.proofs.Common.{◌≡◌, ◌≤◌, List, ℕ, [], take, length}
-use Rattle.byte_io.specs.Lines.{Loses}
+use Rattle.{std.proofs.Common.{◌≡◌, ◌≤◌, List, ℕ, [], take, length}, byte_io.specs.Lines.Loses}
 use Rattle.byte_io.proofs.reading.read_line.Given as goal
 
 abbrev pub invariant-loop : goal.invariant-loop

@@ -1,8 +1,4 @@
-use Rattle.std.proofs.Common.{take, rules, subst, ◌∙◌}
-use Rattle.std.specs.Io.BufRead.{FillKeeps}
-use Rattle.std.specs.Io.KnownBytes.{Consumes}
-use Rattle.std.proofs.BufReadLemmas.{Consumes_shown}
-use Rattle.byte_io.proofs.ReadLemmas.{kept_part}
+use Rattle.{std.{proofs.{Common.{take, rules, subst, ◌∙◌}, BufReadLemmas.Consumes_shown}, specs.Io.{BufRead.FillKeeps, KnownBytes.Consumes}}, byte_io.proofs.ReadLemmas.kept_part}
 use Rattle.byte_io.proofs.reading.take_part.Goals as goal
 
 pub returns-clause-part : goal.returns-clause-part

@@ -1,5 +1,4 @@
-use Rattle.byte_io.proofs.ReadLemmas.{on_err}
-use Rattle.byte_io.proofs.WriteLemmas.{front_is, front_sliced, front_taken, front_ended}
+use Rattle.byte_io.proofs.{ReadLemmas.on_err, WriteLemmas.{front_is, front_sliced, front_taken, front_ended}}
 use Rattle.byte_io.proofs.writing.write_flushed.Goals as goal
 
 pub returns-then-is_empty-clause-err : goal.returns-then-is_empty-clause-err

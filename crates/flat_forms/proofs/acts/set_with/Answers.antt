@@ -1,7 +1,6 @@
-use Rattle.std.proofs.Common.{◌≡◌, ◌≢◌, ◌<◌, ◌^◌, ℕ, ◌+◌, ◌-◌, ◌*◌, ◌/◌, ◌%◌, bit_or, arith, ap, sym, ◌∙◌}
-use Rattle.std.proofs.lemmas.Nat.{mod-pow-add, or_comm, or_shifted, pow_pos}
-use Rattle.flat_forms.proofs.acts.set_with.Goals as goal
+use Rattle.std.proofs.{Common.{◌≡◌, ◌≢◌, ◌<◌, ◌^◌, ℕ, ◌+◌, ◌-◌, ◌*◌, ◌/◌, ◌%◌, bit_or, arith, ap, sym, ◌∙◌}, lemmas.Nat.{mod-pow-add, or_comm, or_shifted, pow_pos}}
 use Rattle.flat_forms.proofs.acts.set_with.Goals.{then-bits-place-eq1, else-bits-place-eq1}
+use Rattle.flat_forms.proofs.acts.set_with.Goals as goal
 
 -- the low bits with one more
 more : (bits place : ℕ) → bits % 2 ^ (place + 1) ≡ (bits / 2 ^ place % 2) * 2 ^ place + bits % 2 ^ place

@@ -1,6 +1,4 @@
-use Rattle.std.proofs.Common.{◌≡◌, length, take}
-use Rattle.std.specs.Prelude.{Some}
-use Rattle.flat_forms.specs.Rules.{rules_numbered}
+use Rattle.{std.{proofs.Common.{◌≡◌, length, take}, specs.Prelude.Some}, flat_forms.specs.Rules.rules_numbered}
 use Rattle.flat_forms.proofs.rules.policy_of.Given as goal
 
 abbrev pub invariant-loop-place : goal.invariant-loop-place

@@ -1,6 +1,4 @@
-use Rattle.std.proofs.Common.{◌≤◌, ◌+◌, length, arith}
-use Rattle.std.proofs.lemmas.Bool.Decides.{nat_tests}
-use Rattle.line_diff.proofs.WalkLemmas.{agrees_more, differs_here, ne_apart, ne_same}
+use Rattle.{std.proofs.{Common.{◌≤◌, ◌+◌, length, arith}, lemmas.Bool.Decides.nat_tests}, line_diff.proofs.WalkLemmas.{agrees_more, differs_here, ne_apart, ne_same}}
 use Rattle.line_diff.proofs.comparing.first_difference.Goals as goal
 
 pub returns-then-ne-clause-first : goal.returns-then-ne-clause-first

@@ -1,5 +1,4 @@
-use Rattle.std.proofs.Common.{◌+◌, length}
-use Rattle.line_diff.proofs.WalkLemmas.{Agrees}
+use Rattle.{std.proofs.Common.{◌+◌, length}, line_diff.proofs.WalkLemmas.Agrees}
 use Rattle.line_diff.proofs.comparing.first_difference.Given as goal
 
 abbrev pub invariant-loop-expected_rest : goal.invariant-loop-expected_rest

@@ -1,6 +1,4 @@
-use Rattle.std.proofs.Common.{sym, ap, ◌∙◌, nat_eq}
-use Rattle.std.specs.Map.{lookup}
-use Rattle.number_map.proofs.Paged.{read, lookup-beyond}
+use Rattle.{std.{proofs.Common.{sym, ap, ◌∙◌, nat_eq}, specs.Map.lookup}, number_map.proofs.Paged.{read, lookup-beyond}}
 use Rattle.number_map.proofs.NumberMap.get.Goals as goal
 
 pub returns-then-number-ge-LIMIT : goal.returns-then-number-ge-LIMIT

@@ -1,6 +1,4 @@
-use Rattle.std.proofs.Common.{Some, sym, ap, ◌∙◌, cond, nat_eq}
-use Rattle.std.specs.Map.{lookup}
-use Rattle.number_map.proofs.Paged.{found}
+use Rattle.{std.{proofs.Common.{Some, sym, ap, ◌∙◌, cond, nat_eq}, specs.Map.lookup}, number_map.proofs.Paged.found}
 use Rattle.number_map.proofs.NumberMap.insert.Goals as goal
 
 pub returns-clause-updates : goal.returns-clause-updates

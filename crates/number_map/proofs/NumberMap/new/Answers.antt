@@ -1,6 +1,4 @@
-use Rattle.std.proofs.Common.{◌-◌, ◌*◌, arith, length, vec_len}
-use Rattle.number_map.proofs.Entries.{entries-none}
-use Rattle.number_map.proofs.Paged.{cell-none, IsPaged-none}
+use Rattle.{std.proofs.Common.{◌-◌, ◌*◌, arith, length, vec_len}, number_map.proofs.{Entries.entries-none, Paged.{cell-none, IsPaged-none}}}
 use Rattle.number_map.proofs.NumberMap.new.Goals as goal
 
 pub invariant_of-result : goal.invariant_of-result

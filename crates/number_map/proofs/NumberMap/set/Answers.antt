@@ -1,6 +1,4 @@
-use Rattle.std.proofs.Common.{Some, IsSome, sym, ap, subst, ◌∙◌, arith, cond, nat_eq}
-use Rattle.std.specs.Map.{lookup}
-use Rattle.number_map.proofs.Paged.{found, found-own}
+use Rattle.{std.{proofs.Common.{Some, IsSome, sym, ap, subst, ◌∙◌, arith, cond, nat_eq}, specs.Map.lookup}, number_map.proofs.Paged.{found, found-own}}
 use Rattle.number_map.proofs.NumberMap.set.Goals as goal
 
 pub write-requires-clause-within : goal.write-requires-clause-within

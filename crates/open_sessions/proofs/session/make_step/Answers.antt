@@ -1,7 +1,4 @@
-use Rattle.std.proofs.Common.{subst}
-use Rattle.requests.specs.Hosts.{Steps}
-use Rattle.requests.proofs.PerStep.{steps_made}
-use Rattle.scenario.proofs.BindLemmas.{nothing_made}
+use Rattle.{std.proofs.Common.subst, requests.{specs.Hosts.Steps, proofs.PerStep.steps_made}, scenario.proofs.BindLemmas.nothing_made}
 use Rattle.open_sessions.proofs.session.make_step.Goals as goal
 
 pub returns-in-Some : goal.returns-in-Some

@@ -1,7 +1,4 @@
-use Rattle.std.proofs.Common.{◌≡◌, ◌+◌, ◌-◌, arith, ap, sym, ◌∙◌, inl, inr}
-use Rattle.std.proofs.lemmas.Bool.{cases_lt}
-use Rattle.pid_blocks.specs.Blocks.{first_free}
-use Rattle.pid_blocks.proofs.FirstFree.{first_free-over, first_free-here}
+use Rattle.{std.proofs.{Common.{◌≡◌, ◌+◌, ◌-◌, arith, ap, sym, ◌∙◌, inl, inr}, lemmas.Bool.cases_lt}, pid_blocks.{specs.Blocks.first_free, proofs.FirstFree.{first_free-over, first_free-here}}}
 use Rattle.pid_blocks.proofs.blocks.first_free.Goals as goal
 
 pub returns-then-not-taken-clause-exact : goal.returns-then-not-taken-clause-exact

@@ -1,6 +1,4 @@
-use Rattle.std.proofs.Common.{◌≡◌, ℕ, ◌-◌, ◌<◌, ◌≤◌, Bool, true}
-use Rattle.pid_blocks.specs.Blocks.{first_free}
-use Rattle.pid_blocks.specs.Search.{Decides}
+use Rattle.{std.proofs.Common.{◌≡◌, ℕ, ◌-◌, ◌<◌, ◌≤◌, Bool, true}, pid_blocks.specs.{Blocks.first_free, Search.Decides}}
 use Rattle.pid_blocks.proofs.blocks.first_free.Given as goal
 
 -- what is left to search gives the answer of the whole, and all before is taken

@@ -1,5 +1,4 @@
-use Rattle.std.proofs.Common.{refl, rules}
-use Rattle.tracehost_c.specs.Calls.{no_step, not_open}
+use Rattle.{std.proofs.Common.{refl, rules}, tracehost_c.specs.Calls.{no_step, not_open}}
 use Rattle.tracehost_c.proofs.calls.refused.Goals as goal
 
 pub returns-then-is_open : goal.returns-then-is_open

@@ -1,79 +1,31 @@
 -- `into_parts` moves two fields, and what they own goes with them.
-use mathlib.Core.Path.{refl, sym, subst}
-use mathlib.Core.List.{List, [], ◌∷◌, ◌++◌}
-use Rattle.std.proofs.Common.{true≢false}
-use Rattle.std.specs.Prelude.{Option, Some, None, IsSome}
-use Rattle.std.specs.Global.{Global}
-use denote.RawPtr.{Ptr}
-use contract.Monad.{fact, fact_use}
-use base.Logic.{snd∗}
-use seplogic.Ra.Ura.{Ura}
-use mir.Val.{Val}
-use base.Logic.{SProp, ent, id⊢}
-use base.Fml.{ftrue, fsep}
-use prog.Memory.{Memory}
-use prog.Routine.{Routine}
-use prog.Wp.{WpFn, Tables}
-use types.Logic.{Logic}
-use contract.Monad.{Fun}
-use contract.Running.{tables, tables_of}
-use sound.WpLaws.{WpFn-mono}
-use types.Kit.{Item, ‵, raw, ◌⊛◌, ◌$◌, ◌∵◌, !, qed, by, move, drop, use1, join, split, fsplit, fjoin, suffices, done}
-use types.Part.{whole, sub, agg}
-use types.Run.{stop, fld, no_more, and_then, of_opd, returns, enter}
-use types.ByLocal.{alloc_all, pass_all, free_all, look_at, get, get_in, sets}
-use denote.Exit.{yes}
-use denote.Signature.{type_at}
-use denote.Steps.{nothing}
-use denote.Triple.Entry.{on_entry}
-use denote.Triple.Spec.{triple_of}
-use denote.Triple.Table.{entered}
-use denote.Triple.Walked.{says, Stays, stay_dropped, walk_of, ends_at, Goes-dropped, walk_Meets}
-use Rattle.std_alloc.proofs.BoxSteps.Form.{X, D, B, word, box_typed}
-use Rattle.std_alloc.proofs.BoxSteps.Steps.{box_out, box_in}
-use Rattle.tracehost_c.proofs.AsBox.{E, FromHandle as From}
+use Rattle.tracehost_c.proofs.AsBox.{◌$◌, refl, sym, [], ◌∷◌, ◌++◌, None, ent, id⊢, ftrue, fsep, WpFn, Item, ‵, raw, ◌⊛◌, ◌∵◌, !, qed, move, drop, use1, join, split, fsplit, fjoin, suffices, done}
+use Rattle.tracehost_c.proofs.AsBox.{agg, no_more, and_then, returns, enter, alloc_all, pass_all, free_all, look_at, get, sets, tables, yes, type_at, nothing, says, Stays, stay_dropped, walk_of}
+use Rattle.tracehost_c.proofs.AsBox.{ends_at, Goes-dropped, true≢false, Option, Some, IsSome, X, D, B, word, box_typed, box_out, box_in, on_entry, fact, whole, sub, stop, fld, of_opd, get_in}
+use Rattle.tracehost_c.proofs.AsBox.{plain, heard, proved_at, regoal, prop, E}
+use Rattle.tracehost_c.proofs.handle.held.Held.into_parts.Statement.{statement}
+use Rattle.tracehost_c.specs.contracts.handle.held.Held as handle
 use Rattle.tracehost_c.specs.contracts.handle.held.Held.into_parts as F
-use Rattle.tracehost_c.specs.contracts.handle.held.Held.into_parts.Key.{name as #self}
-use Rattle.tracehost_c.proofs.handle.held.Held.into_parts.Statement as stated
 use Rattle.tracehost_c.proofs.handle.held.Held.into_parts.Code as code
 
-abbrev stayed : Stays (F.ended).signature.params (F.ended).kept
-stayed = (stay_dropped From yes, tt)
-
-module _ {M : Type 1} {𝓤 : Ura M} (𝓛 : Logic 𝓤) (at_mem : Memory → SProp 𝓤) (run : Routine → Fun 𝓤) (𝓣 : Tables 𝓤 𝓛.H) where
-  open 𝓛 use {H}
-
-  abbrev Ghost : Type 0
-  Ghost = (walk_of 𝓛 F.ended stayed (F.clauses 𝓛 at_mem run)).Ghost
-
-  abbrev at : Ptr → Global → Option (X E) → List Val → Ghost
-  at p a s ws = ((tt, tt, tt, (record { ptr = p; alloc = a; session = s }, tt), (ws, tt)), tt)
-
-  walk : (p : Ptr) (a : Global) (s : Option (X E)) (ws : List Val)
-      → ent 𝓤 ((walk_of 𝓛 F.ended stayed (F.clauses 𝓛 at_mem run)).pre (at p a s ws)) (WpFn 𝓤 H 𝓣.C 𝓣.Λ code.function (ws ++ []) ((walk_of 𝓛 F.ended stayed (F.clauses 𝓛 at_mem run)).post (at p a s ws)))
-  walk p a None ws =
-      fact_use 𝓤 (IsSome {T = X E} None) (snd∗ 𝓤 (on_entry 𝓛 F.signature (at p a None ws).0.0 (at p a None ws).0.1 (at p a None ws).0.3 (at p a None ws).0.4) (fact 𝓤 (IsSome {T = X E} None))) (λ f. absurd (true≢false (sym f)))
-  walk p a (Some x) ws =
-      let z = at p a (Some x) ws in
-      let Post = (walk_of 𝓛 F.ended stayed (F.clauses 𝓛 at_mem run)).post z in
-      let v : D E = record { ptr = p; alloc = a; value = x } in
-      let To = type_at (F.signature).result tt in
-      let made : To.Denot = record { ptr = v.ptr; alloc = v.alloc; value = v.value } in
-      qed 𝓛 ((‵ ftrue ⊛ ‵ (fsep ((B E).own_val v ws) ftrue)) ∷ raw (fact 𝓤 (IsSome (Some x))) ∷ []) ∵ move ! (1 ∷ []) $ drop ! $ split ! $ drop ! $ fsplit ! $
-      box_out E ! v ws (λ b o hv e us fa. box_in E ! v b o v.value e refl $ use1 𝓛 (‵ (To.own_val made (word E hv b o ∷ []))) (id⊢ 𝓤 _) $ move ! (1 ∷ []) $ drop ! $
-      let w = word E hv b o in
-      let Γ : List (Item 𝓤) = ‵ (To.own_val made (w ∷ [])) ∷ [] in
-      by ! (subst (λ (us : List Val). ent 𝓤 (types.Kit.⋆ 𝓛 Γ) (WpFn 𝓤 H 𝓣.C 𝓣.Λ code.function (us ++ []) Post)) (sym us)
-      (qed 𝓛 Γ ∵ enter ! 𝓣.C 𝓣.Λ code.function (w ∷ []) _ $ alloc_all ! (λ ls. pass_all ! refl (box_typed E hv b o fa, tt) $
-      sets ! (of_opd ! (get_in ! (fld ! refl (stop !)) (sub ! 0 refl (whole !)))) refl (tt, tt) $ sets ! (of_opd ! (get_in ! (fld ! refl (stop !)) (sub ! 1 refl (whole !)))) refl fa $
-      sets ! (of_opd ! (get ! refl)) refl (tt, tt) $ sets ! (agg ! (and_then ! (get ! refl) (and_then ! (get ! refl) (no_more !)))) refl (box_typed E hv b o fa) $ returns ! (look_at ! 0 refl) $ free_all ! refl $
-      suffices ! _ (ends_at 𝓛 F.ended stayed (F.clauses 𝓛 at_mem run) z w made (tt, tt) (tt, tt)) $ says ! refl $
-      nothing ! $ nothing ! $ fjoin ! $ join ! $ nothing ! $ join ! $ done !))))
-
-pub into_parts_spec : {M : Type 1} → stated.statement M
-unfolding tables_of
+pub into_parts_spec : {M : Type 1} → statement M
 into_parts_spec 𝓤 𝓛 𝓜 𝓡 wired =
-    let 𝓣 : Tables 𝓤 𝓛.H = tables_of 𝓤 𝓛.H 𝓜 (tables 𝓤 𝓛.H 𝓜 𝓡 𝓡.env) in
-    entered 𝓤 𝓛.H (triple_of 𝓛 F.signature (F.spec 𝓛 𝓜.mem 𝓡.returns)) 𝓣.C 𝓣.Λ #self code.function (code.unfolded 𝓤 𝓛.H 𝓜 𝓡 wired)
-    (walk_Meets 𝓛 F.ended stayed (Goes-dropped 𝓛 0 From yes (λ κs x f. refl), tt) (F.clauses 𝓛 𝓜.mem 𝓡.returns) (WpFn 𝓤 𝓛.H 𝓣.C 𝓣.Λ code.function) (WpFn-mono 𝓤 𝓛.H 𝓛.laws 𝓣 code.function)
-    (λ z. walk 𝓛 𝓜.mem 𝓡.returns 𝓣 z.0.3.0.ptr z.0.3.0.alloc z.0.3.0.session z.0.4.0))
+    let c = F.clauses 𝓛 𝓜.mem 𝓡.returns in let 𝓣 = tables 𝓤 𝓛.H 𝓜 𝓡 𝓡.env in
+    let stayed : Stays F.ended.signature.params F.ended.kept = (stay_dropped _ yes, tt) in let W = walk_of 𝓛 F.ended stayed c in
+    proved_at 𝓛 F.ended stayed c 𝓜 𝓡 (Goes-dropped 𝓛 0 (plain (λ _. handle.the_row)) yes (λ κs x f. refl), tt) F.Key.name code.function (code.unfolded 𝓤 𝓛.H 𝓜 𝓡 wired) (λ z are.
+    let at : Option (X E) → W.Ghost = λ s. ((tt, tt, tt, (record { ptr = z.0.3.0.ptr; alloc = z.0.3.0.alloc; session = s }, tt), (z.0.4.0, tt)), tt) in
+    let needs : Option (X E) → Item 𝓤 = λ s. raw (fact 𝓤 (IsSome s)) in
+    elim z.0.3.0.session as (λ s. ent 𝓤 (W.pre (at s)) (WpFn 𝓤 𝓛.H 𝓣.C 𝓣.Λ code.function (z.0.4.0 ++ []) (W.post (at s)))) [
+      | None ↦ qed 𝓛 (raw (on_entry 𝓛 F.signature (at None).0.0 (at None).0.1 (at None).0.3 (at None).0.4) ∷ needs None ∷ []) ∵ drop ! $ heard ! _ (λ some. absurd (true≢false (sym some)))
+      | Some x ↦ (let v : D E = record { ptr = z.0.3.0.ptr; alloc = z.0.3.0.alloc; value = x } in
+          let To = type_at F.signature.result tt in
+          let made : To.Denot = record { ptr = v.ptr; alloc = v.alloc; value = v.value } in
+          qed 𝓛 ((‵ ftrue ⊛ ‵ (fsep ((B E).own_val v z.0.4.0) ftrue)) ∷ needs (Some x) ∷ []) ∵ move ! (1 ∷ []) $ drop ! $ split ! $ drop ! $ fsplit ! $
+          box_out E ! v z.0.4.0 (λ b o hv e us fa. box_in E ! v b o v.value e refl $ use1 𝓛 (‵ (To.own_val made (word E hv b o ∷ []))) (id⊢ 𝓤 _) $ move ! (1 ∷ []) $ drop ! $
+          regoal ! (λ us. prop (WpFn 𝓤 𝓛.H 𝓣.C 𝓣.Λ code.function (us ++ []) (W.post (at (Some x))))) us refl $
+          enter ! _ _ _ _ _ $ alloc_all ! (λ ls. pass_all ! refl (box_typed E hv b o fa, tt) $
+          sets ! (of_opd ! (get_in ! (fld ! refl (stop !)) (sub ! 0 refl (whole !)))) refl (tt, tt) $ sets ! (of_opd ! (get_in ! (fld ! refl (stop !)) (sub ! 1 refl (whole !)))) refl fa $
+          sets ! (of_opd ! (get ! refl)) refl (tt, tt) $ sets ! (agg ! (and_then ! (get ! refl) (and_then ! (get ! refl) (no_more !)))) refl (box_typed E hv b o fa) $ returns ! (look_at ! 0 refl) $ free_all ! refl $
+          suffices ! _ (ends_at 𝓛 F.ended stayed c (at (Some x)) (word E hv b o) made (tt, tt) (tt, tt)) $ says ! refl $
+          nothing ! $ nothing ! $ fjoin ! $ join ! $ nothing ! $ join ! $ done !)))
+    ])
