@@ -211,6 +211,7 @@ impl<F: Decider + Send + Drop> Host<F> {
 
     /// Makes a step of the user. Refused as the manual page of its call says, and with ENOMEM where memory runs out. A
     /// refused step changes nothing.
+    #[inline(always)]
     pub fn step(&mut self, alloc: Global, user: Uid, asked: Step<Handler<F>>) -> Reply
         ensures { Steps user asked self.old self.new result }
     {

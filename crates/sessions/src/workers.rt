@@ -51,13 +51,7 @@ pub(crate) fn run_all<
 }
 
 /// Runs the job in the calling thread.
-fn run_here<
-    F: Decider + Send + Drop,
-    J: CallLog + Send + Drop,
-    T: Report,
-    G: Gate,
-    R: Wait,
->(
+fn run_here<F: Decider + Send + Drop, J: CallLog + Send + Drop, T: Report, G: Gate, R: Wait>(
     rt: &R,
     alloc: Global,
     host: &SharedHost<F, J>,
@@ -76,9 +70,7 @@ fn run_here<
         report,
         draft,
     } = job;
-    done.push_reserved(work(
-        rt, alloc, host, session, steps, report, draft, gate,
-    ));
+    done.push_reserved(work(rt, alloc, host, session, steps, report, draft, gate));
     done
 }
 

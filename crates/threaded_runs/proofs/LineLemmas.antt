@@ -61,8 +61,7 @@ drawn_more d report u left before r number text seen replies counts longer is =
     lines (Some new) l =
         let one = counts (omega (arith, is.4)) in
         let was = rw l.2 at is.5 in
-        let last : ℕ → List ℕ = λ v. shown_line d.options.user (line d.options.style number (answered (v, r))) in
-        (
+        let last : ℕ → List ℕ = λ v. shown_line d.options.user (line d.options.style number (answered (v, r))) in (
           l.3 ∙ ap (λ xs. xs ++ last d.uid) was.0 ∙ ap (λ v. shown d.options.style d.options.user (told_to u before) ++ last v) is.1 ∙ sym (shown_more d.options.style d.options.user u before r number (omega (arith, one, is.3))),
           made_more before r was.1 l.0,
         )
