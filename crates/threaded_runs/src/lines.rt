@@ -3,9 +3,8 @@
 ghost use Rattle.std.specs.Prelude.{◌≡◌, ◌++◌, false, Some, String, string_bytes, IfSome};
 ghost use Rattle.std.specs.Global.{Global};
 ghost use Rattle.requests.specs.Memory.{is_memory};
-ghost use Rattle.scenario.specs.Lines.{line};
+ghost use Rattle.scenario.specs.Lines.{line, shown_line};
 ghost use Rattle.scenario.specs.Runs.{answered};
-ghost use Rattle.scenario.specs.Shown.{shown_line};
 ghost use Rattle.threaded_runs.specs.Scripts.{replies_in, DrawnUp, Shows};
 
 use pid_blocks::Uid;
