@@ -66,9 +66,10 @@ def name_definitions(form: Format) -> str:
         f"use Rattle.scenario_text.specs.declared.names.{name}.TheVariants as {module}\n"
         for name, module in zip(kinds, ["ops", "options", "acts", "calls", "decisions"], strict=True)
     )
-    common = "ℕ, List, [], ◌∷◌, Option, Some, None, codes, if◌then◌else◌, bytes_eq, Disposition, Request"
+    common = "ℕ, List, [], Option, Some, None, codes, bytes_eq, Disposition, Request"
     head = (
         f"-- The meaning of each name of a scenario. {WRITTEN}\n"
+        "use Rattle.std.specs.Prelude.{◌∷◌, if◌then◌else◌}\n"
         f"use Rattle.scenario_text.specs.CommonNames.{{{', '.join([common, *kinds])}}}\n"
         "use Rattle.signals.specs.declared.Disposition.TheVariants as dispositions\n"
         "use Rattle.requests.specs.declared.Request.TheVariants as requests\n" + own

@@ -1,19 +1,8 @@
 -- The answers of open, call and close.
 use Rattle.std.specs.Prelude.{◌≡◌, ℕ, ◌<◌, List, ◌∷◌, ◌++◌, length, false}
-use Rattle.requests.specs.Machine.{Machine}
-use Rattle.requests.specs.Plain.{PlainStep}
-use Rattle.host_lock.specs.declared.host.OpenRefusal.{OpenRefusal}
-use Rattle.host_lock.specs.declared.host.OpenRefusal.TheVariants.{NoSessions, TooMany, Memory}
-use Rattle.host_lock.specs.declared.host.CloseRefusal.{CloseRefusal}
-use Rattle.host_lock.specs.declared.host.CloseRefusal.TheVariants.{Missing}
-use Rattle.host_lock.specs.declared.host.Answer.{Answer}
-use Rattle.host_lock.specs.declared.host.Answer.TheVariants.{Reply, Spent}
-use Rattle.host_lock.specs.Limits.{max_sessions, max_calls}
-use Rattle.requests.specs.declared.Reply.{Reply as AnyReply}
-use Rattle.requests.specs.Memory.{is_memory}
-use Rattle.host_lock.specs.declared.journal.Entry.{Entry}
-use Rattle.host_lock.specs.Journal.{StartsWith, entry}
-use Rattle.host_lock.specs.Sessions.{SessionData, HostData, Replies, IsOpenable, InJournal}
+use Rattle.{requests.specs.{Machine.Machine, Plain.PlainStep, declared.Reply.Reply as AnyReply, Memory.is_memory}, host_lock.specs.declared.host.OpenRefusal.{OpenRefusal, TheVariants.NoSessions}}
+use Rattle.host_lock.specs.declared.host.{OpenRefusal.TheVariants.{TooMany, Memory}, CloseRefusal.{CloseRefusal, TheVariants.Missing}, Answer.{Answer, TheVariants.{Reply, Spent}}}
+use Rattle.host_lock.specs.{declared.journal.Entry.Entry, Limits.{max_sessions, max_calls}, Journal.{StartsWith, entry}, Sessions.{SessionData, HostData, Replies, IsOpenable, InJournal}}
 
 -- the answer to a call of a session, and the session after it
 abbrev pub Calls : SessionData → PlainStep → Answer → SessionData → Type 0

@@ -1,6 +1,5 @@
 -- The answered calls that only contracts see.
-use Rattle.std.specs.Prelude.{List, [], Option, Some, None}
-use Rattle.std.specs.declared.snapshot.Snapshot.{Snapshot}
+use Rattle.std.specs.{Prelude.{List, [], Option, Some, None}, declared.snapshot.Snapshot.Snapshot}
 use Rattle.host_lock.specs.declared.journal.Entry.{Entry}
 
 abbrev pub seen_in : Option (Snapshot (List Entry)) → List Entry

@@ -1,7 +1,6 @@
 -- The state in the slot as plain data: the host at opening, and the journal. The present host is its replay.
 use Rattle.std.specs.Prelude.{List}
-use Rattle.requests.specs.Machine.{Machine}
-use Rattle.host_lock.specs.declared.journal.Entry.{Entry}
+use Rattle.{requests.specs.Machine.Machine, host_lock.specs.declared.journal.Entry.Entry}
 
 pub record History : Type 0 where
   pub start : Machine

@@ -1,23 +1,13 @@
 -- The rule of the table, and the knowledge that each step gives.
 use Rattle.std.specs.Prelude.{◌≡◌, ◌⊎◌, ℕ, zero, suc, ◌+◌, ◌-◌, ◌*◌, ◌<◌, ◌≤◌, ◌==◌, List, [], ◌∷◌, ◌++◌, length, take, drop, leb, Option, Some, None, IfSome, MatchBool, true, if◌then◌else◌}
-use mathlib.Core.Option.{none, some}
-use mathlib.Core.Option as maybe
-use lib.ListN.{get_elem?}
-use Rattle.atomic_table.specs.Table as table
-use Rattle.atomic_table.specs.Table.{State, Me}
-use Rattle.atomic_table.specs.Seated.{TableId}
 use Rattle.std.specs.declared.snapshot.Snapshot.{Snapshot}
-use Rattle.requests.specs.Machine.{Machine, empty}
-use Rattle.requests.specs.Plain.{PlainStep}
-use Rattle.requests.specs.declared.Reply.{Reply}
-use Rattle.requests.specs.Memory.{is_memory}
-use Rattle.host_lock.specs.declared.journal.Entry.{Entry}
-use Rattle.host_lock.specs.Views.{Stage, Idle, Waiting, Holding, Counted, Account, View, spent}
-use Rattle.host_lock.specs.declared.view.Slot.{Slot}
-use Rattle.host_lock.specs.declared.view.Slot.TheVariants.{There, Away}
-use Rattle.host_lock.specs.History.{History, history}
-use Rattle.host_lock.specs.Limits.{max_sessions, max_calls}
-use Rattle.host_lock.specs.Journal.{IsLegal, entries_of, StartsWith, entry, next_entry}
+use Rattle.{atomic_table.specs.{Table.{State, Me}, Seated.TableId}, requests.specs.{Machine.{Machine, empty}, Plain.PlainStep, declared.Reply.Reply, Memory.is_memory}}
+use Rattle.host_lock.specs.{declared.{journal.Entry.Entry, view.Slot.{Slot, TheVariants.{There, Away}}}, Views.{Stage, Idle, Waiting, Holding, Counted, Account, View, spent}, History.History}
+use Rattle.host_lock.specs.{History.history, Limits.{max_sessions, max_calls}, Journal.{IsLegal, entries_of, StartsWith, entry, next_entry}}
+use mathlib.Core.Option.{none, some}
+use lib.ListN.{get_elem?}
+use mathlib.Core.Option as maybe
+use Rattle.atomic_table.specs.Table as table
 
 abbrev pub total : {V : Type 0} → (V → ℕ) → List V → ℕ
 total f [] = 0

@@ -1,15 +1,7 @@
 -- A session and the shared host, as contracts see them.
 use Rattle.std.specs.Prelude.{◌≡◌, ℕ, ◌+◌, ◌<◌, ◌≤◌, length, map, Some, List, [], ◌∷◌, ◌++◌, MatchBool}
-use Rattle.atomic_table.specs.Seated.{TableId}
-use Rattle.requests.specs.Machine.{Machine}
-use Rattle.requests.specs.Plain.{PlainStep}
-use Rattle.requests.specs.declared.Reply.{Reply}
-use Rattle.requests.specs.Memory.{is_memory}
-use Rattle.host_lock.specs.declared.journal.Entry.{Entry}
-use Rattle.host_lock.specs.Journal.{IsLegal, StartsWith, entries_of, entry}
-use Rattle.host_lock.specs.Limits.{max_sessions}
-use Rattle.host_lock.specs.Rule.{account}
-use Rattle.host_lock.specs.Views.{Idle, Account, View}
+use Rattle.{atomic_table.specs.Seated.TableId, requests.specs.{Machine.Machine, Plain.PlainStep, declared.Reply.Reply, Memory.is_memory}, host_lock.specs.declared.journal.Entry.Entry}
+use Rattle.host_lock.specs.{Journal.{IsLegal, StartsWith, entries_of, entry}, Limits.max_sessions, Rule.account, Views.{Idle, Account, View}}
 
 pub record SessionData : Type 0 where
   pub uid : ℕ

@@ -1,7 +1,6 @@
 -- The knowledge of a seat at the table.
 use Rattle.std.specs.Prelude.{ℕ, List, [], Option, None}
-use Rattle.requests.specs.Machine.{Machine}
-use Rattle.host_lock.specs.declared.journal.Entry.{Entry}
+use Rattle.{requests.specs.Machine.Machine, host_lock.specs.declared.journal.Entry.Entry}
 
 -- the stage of a call; the number is its ticket
 pub data Stage : Type 0 where

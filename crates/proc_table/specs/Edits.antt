@@ -1,5 +1,6 @@
 -- Changes of all LWPs of one process.
-use Rattle.proc_table.specs.CommonNames.{◌≡◌, ℕ, List, map, LwpData, ComputesRows}
+use Rattle.std.specs.Prelude.{◌≡◌}
+use Rattle.proc_table.specs.CommonNames.{ℕ, List, map, LwpData, ComputesRows}
 pub use Rattle.lwp_table.specs.Lwps.{own_lwp}
 use Rattle.proc_table.specs.Rows.{Rows}
 

@@ -1,5 +1,6 @@
 -- The rows with the set of their processes' numbers.
-use Rattle.proc_table.specs.CommonNames.{◌≡◌, ℕ, ◌+◌, List, is_some, member, room}
+use Rattle.std.specs.Prelude.{◌≡◌, ◌+◌}
+use Rattle.proc_table.specs.CommonNames.{ℕ, List, is_some, member, room}
 use Rattle.proc_table.specs.Processes.{process_of}
 use Rattle.proc_table.specs.Rows.{Rows}
 use Rattle.proc_table.specs.Kept.{TableInvariant}

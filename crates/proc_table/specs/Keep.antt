@@ -1,5 +1,6 @@
 -- Options under a test.
-use Rattle.proc_table.specs.CommonNames.{Bool, Option, Some, None, if◌then◌else◌}
+use Rattle.std.specs.Prelude.{if◌then◌else◌}
+use Rattle.proc_table.specs.CommonNames.{Bool, Option, Some, None}
 
 -- what passes a test
 abbrev pub keep : {A : Type 0} → (A → Bool) → Option A → Option A

@@ -1,6 +1,7 @@
 -- What contracts see of the tables, the edits of rows, and what the tables always maintain.
-use Rattle.proc_table.specs.CommonNames.{◌≡◌, ◌≢◌, ℕ, ◌<◌, ◌==◌, true, not, List, [], ◌∷◌, Some, IfSome, filter, map, length, get_or, if◌then◌else◌, AllByRecursion, IsUser, slot, pid_block, tid_block}
-use Rattle.proc_table.specs.CommonNames.{InBlock, ProcData, LwpData, with_lwp, without_lwp, Differ}
+use Rattle.std.specs.Prelude.{◌≡◌, ◌≢◌, ◌<◌, ◌==◌, ◌∷◌, if◌then◌else◌}
+use Rattle.proc_table.specs.CommonNames.{ℕ, true, not, List, [], Some, IfSome, filter, map, length, get_or, AllByRecursion, IsUser, slot, pid_block, tid_block, InBlock, ProcData, LwpData, with_lwp}
+use Rattle.proc_table.specs.CommonNames.{without_lwp, Differ}
 use Rattle.proc_table.specs.Processes.{process_of}
 use Rattle.proc_table.specs.Rows.{Rows}
 use Rattle.proc_table.specs.Fresh.{is_process}

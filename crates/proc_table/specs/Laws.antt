@@ -1,5 +1,6 @@
 -- What the walks over processes return, and what a user's queries see of the rows.
-use Rattle.proc_table.specs.CommonNames.{◌≡◌, ℕ, ◌≤◌, ◌<◌, ◌==◌, Bool, true, false, List, Option, Some, None, filter, IsUser, ProcData}
+use Rattle.std.specs.Prelude.{◌≡◌, ◌≤◌, ◌<◌, ◌==◌}
+use Rattle.proc_table.specs.CommonNames.{ℕ, Bool, true, false, List, Option, Some, None, filter, IsUser, ProcData}
 use Rattle.proc_table.specs.Processes.{process_of, of_user, traces}
 use Rattle.proc_table.specs.Rows.{Rows}
 use Rattle.proc_table.specs.Seen.{owns, seen_process, seen_lwp, find_seen}

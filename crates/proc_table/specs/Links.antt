@@ -1,5 +1,6 @@
 -- Doubly linked lists through slots, each in rising order of pid.
-use Rattle.proc_table.specs.CommonNames.{◌≡◌, ℕ, ◌<◌, ◌≤◌, ◌&&◌, Option, Some, None, is_none, nat_eq, if◌then◌else◌, option_map, option_and_then, IsChain, leads_to}
+use Rattle.std.specs.Prelude.{◌≡◌, ◌<◌, ◌≤◌, ◌&&◌, if◌then◌else◌}
+use Rattle.proc_table.specs.CommonNames.{ℕ, Option, Some, None, is_none, nat_eq, option_map, option_and_then, IsChain, leads_to}
 use Rattle.lwp_table.specs.Chain.{Node as Member}
 
 -- what lists see of a slot: the pid of its row, the number whose list contains the row, the slots of the first and the

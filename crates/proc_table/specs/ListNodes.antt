@@ -1,6 +1,6 @@
 -- What the lists of each kind see of a slot, and what the table's rows see of it.
-use Rattle.proc_table.specs.CommonNames.{◌≡◌, ℕ, ◌<◌, Bool, true, false, List, Option, Some, None, nat_eq, ◌==◌, ltb, ◌&&◌, find, if◌then◌else◌, lookup, option_map, IsSomeAnd, ProcData, ListKind}
-use Rattle.proc_table.specs.CommonNames.{Tracees, Children, Links, Slot}
+use Rattle.std.specs.Prelude.{◌≡◌, ◌<◌, ◌==◌, ◌&&◌, if◌then◌else◌}
+use Rattle.proc_table.specs.CommonNames.{ℕ, Bool, true, false, List, Option, Some, None, nat_eq, ltb, find, lookup, option_map, IsSomeAnd, ProcData, ListKind, Tracees, Children, Links, Slot}
 use Rattle.proc_table.specs.Links.{Node, IsLinked, keys}
 use Rattle.proc_table.specs.Slots.{IsSlotted}
 use Rattle.proc_table.specs.Processes.{is_this}

@@ -1,5 +1,6 @@
 -- How slots contain the rows of processes: a slot for each number, and a row in each slot.
-use Rattle.proc_table.specs.CommonNames.{◌≡◌, ℕ, List, ◌==◌, Option, Some, nat_eq, count_by, get_or, option_and_then, lookup, IsUser, slot, listing, ProcData}
+use Rattle.std.specs.Prelude.{◌≡◌, ◌==◌}
+use Rattle.proc_table.specs.CommonNames.{ℕ, List, Option, Some, nat_eq, count_by, get_or, option_and_then, lookup, IsUser, slot, listing, ProcData}
 use Rattle.proc_table.specs.Kept.{InOwnBlock}
 
 -- what contracts see of the processes alone: the rows by rising number, and how many more fit without allocation

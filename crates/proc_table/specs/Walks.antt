@@ -1,5 +1,6 @@
 -- Walks over processes: each step returns the least greater number.
-use Rattle.proc_table.specs.CommonNames.{◌≡◌, ℕ, Bool, ◌==◌, ◌&&◌, ltb, List, Option, Some, find, ProcData}
+use Rattle.std.specs.Prelude.{◌≡◌, ◌==◌, ◌&&◌}
+use Rattle.proc_table.specs.CommonNames.{ℕ, Bool, ltb, List, Option, Some, find, ProcData}
 use Rattle.proc_table.specs.Processes.{process_of, traces}
 
 -- the first process above a number: of a user, traced by a process, or a child of one

@@ -1,5 +1,6 @@
 -- The rows during the end of a process without live tracees, after its LWPs are gone and no LWP waits for it.
-use Rattle.trace_stop.specs.CommonNames.{◌≡◌, ◌≢◌, ℕ, Bool, true, false, ◌==◌, ◌&&◌, not, IfSome, filter, is_none, AllByRecursion, LwpData, ProcData, is_live, traces, Rows, by_owner, owner, edit_lwps}
+use Rattle.std.specs.Prelude.{◌≡◌, ◌≢◌, ◌==◌, ◌&&◌}
+use Rattle.trace_stop.specs.CommonNames.{ℕ, Bool, true, false, not, IfSome, filter, is_none, AllByRecursion, LwpData, ProcData, is_live, traces, Rows, by_owner, owner, edit_lwps}
 use Rattle.trace_stop.specs.End.{waits_where, lwp_after}
 use Rattle.trace_stop.specs.Sound.{is_live_at}
 

@@ -1,5 +1,6 @@
 -- The LWP of a turn, its process, and its mode after a fork.
-use Rattle.requests.specs.CommonNames.{◌≡◌, ℕ, Some, IsSomeAnd, LwpData, lwp_of, ProcData, process_of, IsRow, Rows, Call, Mode, User, VforkWait}
+use Rattle.std.specs.Prelude.{◌≡◌}
+use Rattle.requests.specs.CommonNames.{ℕ, Some, IsSomeAnd, LwpData, lwp_of, ProcData, process_of, IsRow, Rows, Call, Mode, User, VforkWait}
 
 -- an LWP and its process, as the rows have them
 pub record IsActing (p : ProcData) (l : LwpData) (rows : Rows) : Type 0 where

@@ -1,5 +1,6 @@
 -- The caller of a step.
-use Rattle.requests.specs.CommonNames.{◌≡◌, ◌≢◌, ℕ, true, Some, Errno, ProcData, process_of, is_live, is_run, Rows, seen_process, PlainStep, Reply}
+use Rattle.std.specs.Prelude.{◌≡◌, ◌≢◌}
+use Rattle.requests.specs.CommonNames.{ℕ, true, Some, Errno, ProcData, process_of, is_live, is_run, Rows, seen_process, PlainStep, Reply}
 use Rattle.requests.specs.Outcome.{answers}
 use Rattle.requests.specs.Step.{Machine, after, step, caller_of}
 

@@ -1,5 +1,6 @@
 -- The steps that may end a process, by their replies.
-use Rattle.requests.specs.CommonNames.{Bool, true, false, ◌==◌, SIGKILL, PlainStep, Step, Reply}
+use Rattle.std.specs.Prelude.{◌==◌}
+use Rattle.requests.specs.CommonNames.{Bool, true, false, SIGKILL, PlainStep, Step, Reply}
 
 -- whether a step with this reply may have ended a process: a kill by SIGKILL, a stop that a handler decided about, a
 -- request that was done, or a turn that replies with an end

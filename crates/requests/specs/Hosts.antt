@@ -1,5 +1,6 @@
 -- A host, as the machine sees it, and its step.
-use Rattle.requests.specs.CommonNames.{◌≡◌, ◌≢◌, ℕ, true, List, Result, ENOMEM, Table, Settings, Reply, PlainStep}
+use Rattle.std.specs.Prelude.{◌≡◌, ◌≢◌}
+use Rattle.requests.specs.CommonNames.{ℕ, true, List, Result, ENOMEM, Table, Settings, Reply, PlainStep}
 use Rattle.requests.specs.Memory.{is_refusal, may_want, attempted_reply}
 use Rattle.requests.specs.Sound.{sound}
 use Rattle.requests.specs.Step.{Machine, Installed, step}

@@ -1,5 +1,6 @@
 -- The invariant that every step keeps.
-use Rattle.requests.specs.CommonNames.{◌≡◌, ℕ, Bool, true, List, AllByRecursion, IsUser, status_fits, Act, PlainStep, Step, Settings}
+use Rattle.std.specs.Prelude.{◌≡◌}
+use Rattle.requests.specs.CommonNames.{ℕ, Bool, true, List, AllByRecursion, IsUser, status_fits, Act, PlainStep, Step, Settings}
 use Rattle.requests.specs.Run.{Asked, last}
 use Rattle.requests.specs.Sound.{sound}
 use Rattle.requests.specs.Step.{Machine, empty, step}

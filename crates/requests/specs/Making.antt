@@ -1,5 +1,6 @@
 -- A step that may need a handler, where none is given.
-use Rattle.requests.specs.CommonNames.{◌≡◌, ℕ, Option, Some, None, Reply, PlainStep}
+use Rattle.std.specs.Prelude.{◌≡◌}
+use Rattle.requests.specs.CommonNames.{ℕ, Option, Some, None, Reply, PlainStep}
 use Rattle.requests.specs.Hosts.{Steps}
 use Rattle.requests.specs.Machine.{Machine}
 

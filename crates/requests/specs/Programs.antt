@@ -1,5 +1,6 @@
 -- The changes of an exec, in order.
-use Rattle.requests.specs.CommonNames.{ℕ, Bool, ◌==◌, ◌&&◌, not, filter, Option, Some, None, LwpData, ProcData, Rows, map_lwps, released}
+use Rattle.std.specs.Prelude.{◌==◌, ◌&&◌}
+use Rattle.requests.specs.CommonNames.{ℕ, Bool, not, filter, Option, Some, None, LwpData, ProcData, Rows, map_lwps, released}
 
 -- an LWP of the process with another number
 abbrev pub is_other : ℕ → ℕ → LwpData → Bool

@@ -1,5 +1,6 @@
 -- The effect of a refused step, and an answer that the machine never gives.
-use Rattle.requests.specs.CommonNames.{◌≡◌, ◌≢◌, ℕ, Bool, true, false, IsUser, ENOMEM, PlainStep, Reply}
+use Rattle.std.specs.Prelude.{◌≡◌, ◌≢◌}
+use Rattle.requests.specs.CommonNames.{ℕ, Bool, true, false, IsUser, ENOMEM, PlainStep, Reply}
 use Rattle.requests.specs.Memory.{is_refusal}
 use Rattle.requests.specs.Sound.{sound}
 use Rattle.requests.specs.Step.{Machine, step}

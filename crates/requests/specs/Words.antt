@@ -1,6 +1,7 @@
 -- The words of a reply.
-use Rattle.requests.specs.CommonNames.{ℕ, List, [], ◌∷◌, ◌++◌, map, codes, decimal, Option, Some, None, errno_name, errno_number, set_text, StopFlags, event_table, stop_table, flag_text, event_name}
-use Rattle.requests.specs.CommonNames.{word, Decision, Reply, StopView, LwpInfo}
+use Rattle.std.specs.Prelude.{◌∷◌, ◌++◌}
+use Rattle.requests.specs.CommonNames.{ℕ, List, [], map, codes, decimal, Option, Some, None, errno_name, errno_number, set_text, StopFlags, event_table, stop_table, flag_text, event_name, word}
+use Rattle.requests.specs.CommonNames.{Decision, Reply, StopView, LwpInfo}
 
 -- the index of a handler among its debugger's
 abbrev pub index_text : Option ℕ → List ℕ

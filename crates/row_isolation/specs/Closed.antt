@@ -1,6 +1,7 @@
 -- Rows that keep users apart: each row names only numbers of one user.
-use Rattle.trace_stop.specs.CommonNames.{◌≡◌, ◌≢◌, ℕ, false, true, List, Option, None, IfSome, length, get_or, AllByRecursion, IsUser, pid_owner, tid_owner, pid_block, tid_block, slot, InBlock}
-use Rattle.trace_stop.specs.CommonNames.{IsSomeAnd, ProcData, is_live, reporting, process_of, Rows, Rise}
+use Rattle.std.specs.Prelude.{◌≡◌, ◌≢◌}
+use Rattle.trace_stop.specs.CommonNames.{ℕ, false, true, List, Option, None, IfSome, length, get_or, AllByRecursion, IsUser, pid_owner, tid_owner, pid_block, tid_block, slot, InBlock, IsSomeAnd}
+use Rattle.trace_stop.specs.CommonNames.{ProcData, is_live, reporting, process_of, Rows, Rise}
 use Rattle.lwp_table.specs.declared.LwpData.{LwpData}
 use Rattle.trace_stop.specs.Facts.{waited_for}
 

@@ -1,5 +1,6 @@
 -- The end of a process, as one user's rows show it.
-use Rattle.trace_stop.specs.CommonNames.{◌≡◌, ◌≢◌, ℕ, true, Rows, owns, only_of}
+use Rattle.std.specs.Prelude.{◌≡◌, ◌≢◌}
+use Rattle.trace_stop.specs.CommonNames.{ℕ, true, Rows, owns, only_of}
 use Rattle.trace_stop.specs.declared.Settings.{Settings}
 use Rattle.trace_stop.specs.End.{end}
 use Rattle.trace_stop.specs.Facts.{IsSound}

@@ -1,7 +1,8 @@
 -- What a JSON value comes to at a key, and the flaw of a value.
-use Rattle.scenario_text.specs.CommonNames.{◌≡◌, ℕ, ℤ, pos, negsuc, List, [], ◌∷◌, ◌+◌, Option, Some, None, Result, Ok, Err, ok_or, option_and_then, nat_lt, true, if◌then◌else◌, Scalar, integer_in}
-use Rattle.scenario_text.specs.CommonNames.{text_in, Data, Items, no_items, item, as_number, as_i64, as_str, as_array, with, EventMask, StopFlags, no_events, no_flags, mask_with, both, events_named}
-use Rattle.scenario_text.specs.CommonNames.{flag_named, Options, no_options, KeyError, Shape, Name, Number, WaitOption, Nohang, Untraced, Continued}
+use Rattle.std.specs.Prelude.{◌≡◌, ◌∷◌, ◌+◌, if◌then◌else◌}
+use Rattle.scenario_text.specs.CommonNames.{ℕ, ℤ, pos, negsuc, List, [], Option, Some, None, Result, Ok, Err, ok_or, option_and_then, nat_lt, true, Scalar, integer_in, text_in, Data, Items, no_items}
+use Rattle.scenario_text.specs.CommonNames.{item, as_number, as_i64, as_str, as_array, with, EventMask, StopFlags, no_events, no_flags, mask_with, both, events_named, flag_named, Options, no_options}
+use Rattle.scenario_text.specs.CommonNames.{KeyError, Shape, Name, Number, WaitOption, Nohang, Untraced, Continued}
 use Rattle.scenario_text.specs.Names.{option_named}
 
 infixl 10 ◌>>=◌

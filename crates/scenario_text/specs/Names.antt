@@ -1,5 +1,6 @@
 -- The meaning of each name of a scenario. Written by `tools/format` from format/scenario.toml.
-use Rattle.scenario_text.specs.CommonNames.{ℕ, List, [], ◌∷◌, Option, Some, None, codes, if◌then◌else◌, bytes_eq, Disposition, Request, Op, WaitOption, ActKind, CallKind, DecisionKind}
+use Rattle.std.specs.Prelude.{◌∷◌, if◌then◌else◌}
+use Rattle.scenario_text.specs.CommonNames.{ℕ, List, [], Option, Some, None, codes, bytes_eq, Disposition, Request, Op, WaitOption, ActKind, CallKind, DecisionKind}
 use Rattle.signals.specs.declared.Disposition.TheVariants as dispositions
 use Rattle.requests.specs.declared.Request.TheVariants as requests
 use Rattle.scenario_text.specs.declared.names.Op.TheVariants as ops

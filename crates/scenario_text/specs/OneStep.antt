@@ -1,5 +1,6 @@
 -- A text that is one step.
-use Rattle.scenario_text.specs.CommonNames.{◌<◌, ◌≤◌, ℕ, List, length, Result, Err, Data, Asked, Fault, TooLong, BadJson}
+use Rattle.std.specs.Prelude.{◌<◌, ◌≤◌}
+use Rattle.scenario_text.specs.CommonNames.{ℕ, List, length, Result, Err, Data, Asked, Fault, TooLong, BadJson}
 use Rattle.scenario_text.specs.{Scenarios.numbered, Scenarios.HasValue, Scenarios.HasNoValue, Scenarios.Answers, Fields.seen, Steps.step_of}
 
 abbrev pub max_step_bytes : ℕ

@@ -1,6 +1,7 @@
 -- The rules of a policy, from their JSON values.
-use Rattle.scenario_text.specs.CommonNames.{ℕ, List, Option, Some, None, Result, Ok, Err, codes, nat_lt, if◌then◌else◌, Data, Items, Members, object, items_len, get_member, no_flags, Rule, Decision}
-use Rattle.scenario_text.specs.CommonNames.{KeyError, Shape, Keys, SIGNAL, FLAGS, DECISION, PASS, DecisionKind, RuleFields}
+use Rattle.std.specs.Prelude.{if◌then◌else◌}
+use Rattle.scenario_text.specs.CommonNames.{ℕ, List, Option, Some, None, Result, Ok, Err, codes, nat_lt, Data, Items, Members, object, items_len, get_member, no_flags, Rule, Decision, KeyError, Shape}
+use Rattle.scenario_text.specs.CommonNames.{Keys, SIGNAL, FLAGS, DECISION, PASS, DecisionKind, RuleFields}
 use Rattle.scenario_text.specs.Fields.{◌>>=◌, Atom, atom_of, number_within, name_in, items_of, optional, required, each, signal_in, flags_of}
 use Rattle.scenario_text.specs.{declared.fields.KeyError.TheVariants.TooManyRules, Keys.◌∪◌, Keys.keys_in, Keys.with_only, Names.decision_named}
 use Rattle.stop_handlers.specs.declared.Decision.TheVariants as decision

@@ -1,7 +1,8 @@
 -- The scenario or the fault of some bytes.
-use Rattle.scenario_text.specs.CommonNames.{⊤, ◌≡◌, ◌⊎◌, ℕ, ◌+◌, ◌<◌, ◌≤◌, Bool, nat_lt, ◌==◌, ℤ, pos, List, [], ◌∷◌, ◌++◌, length, Option, Some, None, Result, Ok, Err, codes}
-use Rattle.scenario_text.specs.CommonNames.{if◌then◌else◌, IsUtf8, Consumes, members_among, Data, Items, object, items_len, get_member, read, Settings, Asked, Fault, Read}
-use Rattle.scenario_text.specs.CommonNames.{TooLong, BadJson, TooManySteps, BadShape, BadUser, BadName, BadNumber, TooManyRules, Memory, KeyError, Plan, max_steps}
+use Rattle.std.specs.Prelude.{◌≡◌, ◌⊎◌, ◌+◌, ◌<◌, ◌≤◌, ◌==◌, ◌∷◌, ◌++◌, if◌then◌else◌}
+use Rattle.scenario_text.specs.CommonNames.{⊤, ℕ, Bool, nat_lt, ℤ, pos, List, [], length, Option, Some, None, Result, Ok, Err, codes, IsUtf8, Consumes, members_among, Data, Items, object, items_len}
+use Rattle.scenario_text.specs.CommonNames.{get_member, read, Settings, Asked, Fault, Read, TooLong, BadJson, TooManySteps, BadShape, BadUser, BadName, BadNumber, TooManyRules, Memory, KeyError, Plan}
+use Rattle.scenario_text.specs.CommonNames.{max_steps}
 use Rattle.scenario_text.specs.{Fields.◌>>=◌, Fields.atom_of, Fields.integer, Fields.items_of, Fields.required, Fields.optional, Fields.each, Fields.within, Fields.seen, Steps.step_of}
 use Rattle.scenario_text.specs.declared.fields.KeyError.TheVariants as flaws
 

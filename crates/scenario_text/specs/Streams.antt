@@ -1,8 +1,9 @@
 -- What a reader's next tokens come to: values, the steps and the members of a scenario while they are read, and a text
 -- that is one value.
-use Rattle.scenario_text.specs.CommonNames.{◌≡◌, ℕ, List, Option, Some, None, Result, Ok, Err, ⊤, ◌<◌, ◌≤◌, ℤ, pos, [], ◌∷◌, ◌++◌, Bool, false, length, codes, take, option_map, bytes_eq, value, Token}
-use Rattle.scenario_text.specs.CommonNames.{Invalid, read_items, read_members, members_among, Data, Items, Members, of_json, converted, items_len, get_member, Asked, Rule, Fields, Key, RuleFields}
-use Rattle.scenario_text.specs.CommonNames.{Fault, KeyError, Listed, ScenarioKey, RuleList, Stop, max_steps}
+use Rattle.std.specs.Prelude.{◌≡◌, ◌<◌, ◌≤◌, ◌∷◌, ◌++◌}
+use Rattle.scenario_text.specs.CommonNames.{ℕ, List, Option, Some, None, Result, Ok, Err, ⊤, ℤ, pos, [], Bool, false, length, codes, take, option_map, bytes_eq, value, Token, Invalid, read_items}
+use Rattle.scenario_text.specs.CommonNames.{read_members, members_among, Data, Items, Members, of_json, converted, items_len, get_member, Asked, Rule, Fields, Key, RuleFields, Fault, KeyError, Listed}
+use Rattle.scenario_text.specs.CommonNames.{ScenarioKey, RuleList, Stop, max_steps}
 use Rattle.scenario_text.specs.Fields.{Atom, atom_of, integer, word, name_in, items_of, required, optional, options_of, mask_of, set_of, flags_of, ◌>>=◌}
 use Rattle.scenario_text.specs.{Keys.◌∪◌, Keys.key_set, Steps.user_in, Scenarios.at_step, Scenarios.steps_from}
 use Rattle.scenario_text.specs.{Names.op_named, Names.disposition_named, Names.act_named, Names.call_named, Names.request_named, Names.decision_named, Rules.some_signal, Rules.pass_in, Rules.rules_of}

@@ -1,13 +1,7 @@
 -- Scripts whose handlers are on the heap, as the scripts that they stand for.
-use Rattle.std.specs.Prelude.{ℕ, List, map, Vec}
-use Rattle.std.specs.Global.{Box, Global}
-use Rattle.stop_handlers.specs.declared.Rule.{Rule}
-use Rattle.requests.specs.declared.step.Step.{Step}
-use Rattle.requests.specs.Plain.{PlainStep, map_handler}
-use Rattle.sessions.specs.declared.boxing.BoxedScript.{BoxedScript}
-use Rattle.sessions.specs.declared.boxing.AnyScript.{AnyScript}
-use Rattle.sessions.specs.declared.boxing.AnyScript.TheVariants.{InSteps, OnHeap}
-use Rattle.sessions.specs.Runs.{plain_script}
+use Rattle.std.specs.{Prelude.{ℕ, List, map, Vec}, Global.{Box, Global}}
+use Rattle.{stop_handlers.specs.declared.Rule.Rule, requests.specs.{declared.step.Step.Step, Plain.{PlainStep, map_handler}}, sessions.specs.declared.boxing.BoxedScript.BoxedScript}
+use Rattle.sessions.specs.{declared.boxing.AnyScript.{AnyScript, TheVariants.{InSteps, OnHeap}}, Runs.plain_script}
 
 abbrev pub SmallStep : Type 0
 SmallStep = Step (Box (List Rule))

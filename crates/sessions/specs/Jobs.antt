@@ -1,14 +1,7 @@
 -- A script that is ready to run, and its result.
-use Rattle.std.specs.Prelude.{◌≡◌, ℕ, ◌+◌, ◌≤◌, List, [], map, Vec, vec_len, vec_capacity}
-use Rattle.requests.specs.declared.Reply.{Reply}
-use Rattle.host_lock.specs.Limits.{max_calls}
-use Rattle.host_lock.specs.Sessions.{SessionData, HostData, IsOf}
-use Rattle.sessions.specs.Boxed.{SmallStep, own_step}
-use Rattle.std.specs.Global.{Global}
-use Rattle.sessions.specs.declared.job.Job.{Job}
-use Rattle.sessions.specs.declared.job.Done.{Done}
-use Rattle.sessions.specs.declared.script.Transcript.{Transcript}
-use Rattle.sessions.specs.Made.{Did, Pairs}
+use Rattle.std.specs.{Prelude.{◌≡◌, ℕ, ◌+◌, ◌≤◌, List, [], map, Vec, vec_len, vec_capacity}, Global.Global}
+use Rattle.{requests.specs.declared.Reply.Reply, host_lock.specs.{Limits.max_calls, Sessions.{SessionData, HostData, IsOf}}, sessions.specs.{Boxed.{SmallStep, own_step}, declared.job.Job.Job}}
+use Rattle.sessions.specs.{declared.{job.Done.Done, script.Transcript.Transcript}, Made.{Did, Pairs}}
 
 -- the list is empty, and has room for n items
 abbrev pub HasRoomFor : {A : Type 0} → ℕ → Vec A Global → Type 0

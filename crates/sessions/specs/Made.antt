@@ -1,11 +1,6 @@
 -- The journal entries of a script's answered steps.
 use Rattle.std.specs.Prelude.{◌≡◌, ℕ, List, [], ◌∷◌, length, if◌then◌else◌}
-use Rattle.requests.specs.Plain.{PlainStep}
-use Rattle.requests.specs.declared.Reply.{Reply}
-use Rattle.requests.specs.Memory.{is_memory}
-use Rattle.host_lock.specs.declared.journal.Entry.{Entry}
-use Rattle.host_lock.specs.Journal.{entry}
-use Rattle.host_lock.specs.Sessions.{SessionData}
+use Rattle.{requests.specs.{Plain.PlainStep, declared.Reply.Reply, Memory.is_memory}, host_lock.specs.{declared.journal.Entry.Entry, Journal.entry, Sessions.SessionData}}
 
 -- the entries of these steps with these replies, except those with the reply ENOMEM
 abbrev pub made : ℕ → ℕ → List PlainStep → List Reply → List Entry

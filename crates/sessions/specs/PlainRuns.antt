@@ -1,15 +1,7 @@
 -- The result of a run of scripts that are given as users with their steps.
 use Rattle.std.specs.Prelude.{◌≡◌, ℕ, ◌<◌, ◌≤◌, List, length, get_or, All}
-use Rattle.requests.specs.Machine.{Machine}
-use Rattle.requests.specs.Plain.{PlainStep}
-use Rattle.requests.specs.declared.Reply.{Reply}
-use Rattle.host_lock.specs.declared.journal.Entry.{Entry}
-use Rattle.host_lock.specs.Journal.{replay, entries_of, IsLegal}
-use Rattle.host_lock.specs.Limits.{max_calls}
-use Rattle.host_lock.specs.Sessions.{IsBelow}
-use Rattle.sessions.specs.declared.script.Transcript.{Transcript}
-use Rattle.sessions.specs.Made.{made}
-use Rattle.sessions.specs.Runs.{OwnEntries}
+use Rattle.{requests.specs.{Machine.Machine, Plain.PlainStep, declared.Reply.Reply}, host_lock.specs.{declared.journal.Entry.Entry, Journal.{replay, entries_of, IsLegal}, Limits.max_calls}}
+use Rattle.{host_lock.specs.Sessions.IsBelow, sessions.specs.{declared.script.Transcript.Transcript, Made.made, Runs.OwnEntries}}
 
 -- one session can make all the steps
 abbrev pub AreFew : ℕ × List PlainStep → Type 0

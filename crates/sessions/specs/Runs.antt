@@ -1,20 +1,8 @@
 -- The result of a run of scripts.
-use Rattle.std.specs.Prelude.{◌≡◌, ℕ, ◌<◌, ◌≤◌, ◌==◌, List, map, filter, length, Vec, vec_len, slice_index_or}
-use Rattle.std.specs.Global.{Global}
-use Rattle.host_lock.specs.declared.journal.Entry.{Entry}
-use Rattle.pid_blocks.specs.Users.{IsUser}
-use Rattle.requests.specs.Machine.{Machine}
-use Rattle.requests.specs.Plain.{PlainStep}
-use Rattle.requests.specs.declared.Reply.{Reply}
-use Rattle.requests.specs.Run.{replies, last}
-use Rattle.requests.specs.View.{view, alone}
-use Rattle.host_lock.specs.Journal.{asked, replay, entries_of}
-use Rattle.host_lock.specs.Limits.{max_sessions, max_calls}
-use Rattle.sessions.specs.declared.script.Script.{Script}
-use Rattle.sessions.specs.declared.script.Transcript.{Transcript}
-use Rattle.sessions.specs.declared.script.RunRefusal.{RunRefusal}
-use Rattle.sessions.specs.declared.script.RunRefusal.TheVariants.{TooMany, Memory, Start}
-use Rattle.sessions.specs.Made.{made}
+use Rattle.std.specs.{Prelude.{◌≡◌, ℕ, ◌<◌, ◌≤◌, ◌==◌, List, map, filter, length, Vec, vec_len, slice_index_or}, Global.Global}
+use Rattle.{host_lock.specs.{declared.journal.Entry.Entry, Journal.{asked, replay, entries_of}, Limits.{max_sessions, max_calls}}, pid_blocks.specs.Users.IsUser, requests.specs.Machine.Machine}
+use Rattle.{requests.specs.{Plain.PlainStep, declared.Reply.Reply, Run.{replies, last}, View.{view, alone}}, sessions.specs.declared.script.{Script.Script, Transcript.Transcript}}
+use Rattle.sessions.specs.{declared.script.RunRefusal.{RunRefusal, TheVariants.{TooMany, Memory, Start}}, Made.made}
 
 -- one session can make all the steps
 abbrev pub IsShort : {F : Type 0} → Script F → Type 0

@@ -1,20 +1,8 @@
 -- What runs of scripts give a user, for all schedules.
-use Rattle.std.specs.Prelude.{◌≡◌, ℕ, true, false, List, Some, map, Vec, vec_len, slice_get, All}
-use Rattle.std.specs.Global.{Global}
-use Rattle.std.specs.List.{AllByRecursion}
-use Rattle.pid_blocks.specs.Users.{IsUser}
-use Rattle.requests.specs.Machine.{Machine}
-use Rattle.requests.specs.Memory.{is_memory}
-use Rattle.requests.specs.declared.Reply.{Reply}
-use Rattle.requests.specs.Sound.{sound}
-use Rattle.requests.specs.View.{view, alone}
-use Rattle.visibility.specs.ForeignLists.{AlikeLists}
-use Rattle.host_lock.specs.declared.journal.Entry.{Entry}
-use Rattle.host_lock.specs.Journal.{asked, IsLegal, replay}
-use Rattle.host_lock.specs.Sessions.{IsBelow}
-use Rattle.sessions.specs.declared.script.Script.{Script}
-use Rattle.sessions.specs.declared.script.Transcript.{Transcript}
-use Rattle.sessions.specs.Runs.{AllPlay, entries_by, plain_script, whole, OwnEntries}
+use Rattle.std.specs.{Prelude.{◌≡◌, ℕ, true, false, List, Some, map, Vec, vec_len, slice_get, All}, Global.Global, List.AllByRecursion}
+use Rattle.{pid_blocks.specs.Users.IsUser, requests.specs.{Machine.Machine, Memory.is_memory, declared.Reply.Reply, Sound.sound, View.{view, alone}}, visibility.specs.ForeignLists.AlikeLists}
+use Rattle.{host_lock.specs.{declared.journal.Entry.Entry, Journal.{asked, IsLegal, replay}, Sessions.IsBelow}, sessions.specs.{declared.script.{Script.Script, Transcript.Transcript}, Runs.AllPlay}}
+use Rattle.sessions.specs.Runs.{entries_by, plain_script, whole, OwnEntries}
 
 -- what the clauses of `run_sessions` say of the host k, the journal and the transcripts of a run from the host m
 pub record IsRun {F : Type 0} (m : Machine) (scripts : Vec (Script F) Global) (k : Machine) (log : List Entry) (ts : List (Transcript (Vec Reply Global))) : Type 0 where

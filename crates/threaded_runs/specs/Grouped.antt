@@ -1,10 +1,6 @@
 -- The text of a run, grouped by user.
-use Rattle.std.specs.Prelude.{ℕ, ◌==◌, List, map, filter, Option, Some, None}
-use Rattle.std.specs.List.{concat}
-use Rattle.pid_blocks.specs.Blocks.{users}
-use Rattle.scenario.specs.Lines.{Answered, lines, lines_of, text_of}
-use Rattle.scenario.specs.Runs.{shown}
-use Rattle.scenario.specs.declared.style.Style.{Style}
+use Rattle.std.specs.{Prelude.{ℕ, ◌==◌, List, map, filter, Option, Some, None}, List.concat}
+use Rattle.{pid_blocks.specs.Blocks.users, scenario.specs.{Lines.{Answered, lines, lines_of, text_of}, Runs.shown, declared.style.Style.Style}}
 
 -- the text, grouped by rising user; the numbers of the lines stay
 abbrev pub grouped : Style → List Answered → List ℕ

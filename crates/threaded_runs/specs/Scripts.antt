@@ -1,22 +1,8 @@
 -- A script for each user with steps, and the answers of its transcript.
-use Rattle.std.specs.Prelude.{◌≡◌, ℕ, ◌+◌, ◌<◌, ◌^◌, Bool, true, false, List, [], ◌∷◌, length, map, filter, Option, IfSome, String, string_bytes}
-use Rattle.std.specs.Global.{Global}
-use Rattle.std.specs.List.{AllByRecursion}
-use Rattle.pid_blocks.specs.Blocks.{users}
-use Rattle.requests.specs.declared.Reply.{Reply}
-use Rattle.requests.specs.Memory.{is_memory}
-use Rattle.requests.specs.Plain.{PlainStep}
-use Rattle.requests.specs.Run.{Asked, asked_by}
-use Rattle.sessions.specs.declared.script.Transcript.{Transcript}
-use Rattle.scenario_text.specs.Plan.{Plan}
-use Rattle.scenario.specs.Lines.{Answered}
-use Rattle.scenario.specs.Runs.{answers_of, shown}
-use Rattle.scenario.specs.declared.running.RunOptions.{RunOptions}
-use Rattle.threaded_runs.specs.Grouped.{answers_by}
-use Rattle.threaded_runs.specs.Unseen.{unseen_in}
-use Rattle.threaded_runs.specs.declared.lines.LineReport.{LineReport}
-use Rattle.threaded_runs.specs.declared.lines.LineDraft.{LineDraft}
-use Rattle.threaded_runs.specs.declared.lines.UserLines.{UserLines}
+use Rattle.std.specs.{Prelude.{◌≡◌, ℕ, ◌+◌, ◌<◌, ◌^◌, Bool, true, false, List, [], ◌∷◌, length, map, filter, Option, IfSome, String, string_bytes}, Global.Global, List.AllByRecursion}
+use Rattle.{pid_blocks.specs.Blocks.users, requests.specs.{declared.Reply.Reply, Memory.is_memory, Plain.PlainStep, Run.{Asked, asked_by}}, sessions.specs.declared.script.Transcript.Transcript}
+use Rattle.{scenario_text.specs.Plan.Plan, scenario.specs.{Lines.Answered, Runs.{answers_of, shown}, declared.running.RunOptions.RunOptions}, threaded_runs.specs.Grouped.answers_by}
+use Rattle.threaded_runs.specs.{Unseen.unseen_in, declared.lines.{LineReport.LineReport, LineDraft.LineDraft, UserLines.UserLines}}
 
 -- a user's steps, in order
 abbrev pub steps_of : ℕ → List Asked → List PlainStep

@@ -1,6 +1,6 @@
 -- What rows must satisfy before a change that makes them sound.
-use Rattle.trace_stop.specs.CommonNames.{◌≡◌, ◌≢◌, ◌≤◌, ℕ, true, false, None, is_some, AllByRecursion, IsSomeAnd, shows, PL_FLAG_EXITED, LwpData, lwp_of, ProcData, is_live, reporting, Rows, lwp_count}
-use Rattle.trace_stop.specs.CommonNames.{Shown}
+use Rattle.std.specs.Prelude.{◌≡◌, ◌≢◌, ◌≤◌}
+use Rattle.trace_stop.specs.CommonNames.{ℕ, true, false, None, is_some, AllByRecursion, IsSomeAnd, shows, PL_FLAG_EXITED, LwpData, lwp_of, ProcData, is_live, reporting, Rows, lwp_count, Shown}
 use Rattle.trace_stop.specs.Facts.{FitProcess, FitLwp, WithOwner, MidStepInvariant}
 use Rattle.trace_stop.specs.Sound.{is_live_at}
 

@@ -10,8 +10,10 @@ pub use Rattle.lwp_table.specs.declared.Mode.{Mode}
 pub use Rattle.lwp_table.specs.declared.Mode.TheVariants.{InCall, User, VforkWait}
 pub use Rattle.pid_blocks.specs.Blocks.{in_block, pid_owner, tid_owner}
 pub use Rattle.proc_table.specs.CommonNames.{AllByRecursion, Bool, Differ, IfSome, InBlock, IsSomeAnd, IsUser, List, LwpData, None, Option, Some, [], count_by, false, filter, filter_map, find, get_or}
-pub use Rattle.proc_table.specs.CommonNames.{if◌then◌else◌, is_none, is_some, leb, length, list_any, ltb, map, no_events, not, option_and_then, option_map, option_map_or, pid_block, slot, tid_block}
-pub use Rattle.proc_table.specs.CommonNames.{true, users, ℕ, ◌&&◌, ◌<◌, ◌==◌, ◌∷◌, ◌≡◌, ◌≢◌, ◌≤◌}
+pub use Rattle.std.specs.Prelude.{if◌then◌else◌}
+pub use Rattle.proc_table.specs.CommonNames.{is_none, is_some, leb, length, list_any, ltb, map, no_events, not, option_and_then, option_map, option_map_or, pid_block, slot, tid_block}
+pub use Rattle.std.specs.Prelude.{◌&&◌, ◌<◌, ◌==◌, ◌∷◌, ◌≡◌, ◌≢◌, ◌≤◌}
+pub use Rattle.proc_table.specs.CommonNames.{true, users, ℕ}
 pub use Rattle.proc_table.specs.Edits.{map_lwps}
 pub use Rattle.proc_table.specs.Fresh.{is_process, lwp_count, lwp_count_of, process_count}
 pub use Rattle.proc_table.specs.Keep.{keep}

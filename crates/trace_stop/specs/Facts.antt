@@ -1,7 +1,8 @@
 -- What the rows of a host always satisfy, as a fact of each row.
-use Rattle.trace_stop.specs.CommonNames.{◌≡◌, ◌≢◌, ◌≤◌, ℕ, true, false, Some, None, IfSome, is_some, length, get_or, bit_and, AllByRecursion, IsUser, slot, pid_block, tid_block, InBlock}
-use Rattle.trace_stop.specs.CommonNames.{unblockable_set, shows, PL_FLAG_EXITED, LwpData, Differ, ProcData, State, Zombie, is_live, is_run, is_job, reporting, is_this, process_of, Rows, process_count}
-use Rattle.trace_stop.specs.CommonNames.{lwp_count_of, lwp_count, Rise, InOwnBlock, InOwnersBlock}
+use Rattle.std.specs.Prelude.{◌≡◌, ◌≢◌, ◌≤◌}
+use Rattle.trace_stop.specs.CommonNames.{ℕ, true, false, Some, None, IfSome, is_some, length, get_or, bit_and, AllByRecursion, IsUser, slot, pid_block, tid_block, InBlock, unblockable_set, shows}
+use Rattle.trace_stop.specs.CommonNames.{PL_FLAG_EXITED, LwpData, Differ, ProcData, State, Zombie, is_live, is_run, is_job, reporting, is_this, process_of, Rows, process_count, lwp_count_of}
+use Rattle.trace_stop.specs.CommonNames.{lwp_count, Rise, InOwnBlock, InOwnersBlock}
 use Rattle.trace_stop.specs.Post.{unwanted}
 pub use Rattle.trace_stop.specs.End.{meets, waited_for}
 use Rattle.trace_stop.specs.Sound.{is_live_of, is_live_child, is_end, names_own, is_due, mode_fits}

@@ -1,5 +1,6 @@
 -- Chains of tracers, and rows after processes were detached.
-use Rattle.trace_stop.specs.CommonNames.{◌≡◌, ◌≤◌, ℕ, zero, suc, Bool, true, List, [], ◌∷◌, Some, length, option_map_or, ProcData, process_of, is_live, Rows}
+use Rattle.std.specs.Prelude.{◌≡◌, ◌≤◌, ◌∷◌}
+use Rattle.trace_stop.specs.CommonNames.{ℕ, zero, suc, Bool, true, List, [], Some, length, option_map_or, ProcData, process_of, is_live, Rows}
 use Rattle.trace_stop.specs.Detach.{detached}
 use Rattle.trace_stop.specs.End.{tracer_of, meets}
 use Rattle.trace_stop.specs.Facts.{MidStepInvariant, IsSound}

@@ -1,6 +1,6 @@
 -- What the LWP of a trace stop reports, and how it is dropped.
-use Rattle.trace_stop.specs.CommonNames.{◌≡◌, ℕ, List, Option, Some, None, option_and_then, if◌then◌else◌, no_flags, shows, PL_FLAG_EXITED, LwpData, lwp_of, ProcData, process_of, reporting, Rows}
-use Rattle.trace_stop.specs.CommonNames.{set_lwp, drop_lwp}
+use Rattle.std.specs.Prelude.{◌≡◌, if◌then◌else◌}
+use Rattle.trace_stop.specs.CommonNames.{ℕ, List, Option, Some, None, option_and_then, no_flags, shows, PL_FLAG_EXITED, LwpData, lwp_of, ProcData, process_of, reporting, Rows, set_lwp, drop_lwp}
 
 -- an LWP of the process has stopped it for its tracer
 pub record IsStopped (pid : ℕ) (rows : Rows) : Type 0 where

@@ -1,6 +1,6 @@
 -- The equality of views decides whether they are identical.
-use Rattle.requests.specs.CommonNames.{◌≡◌, Bool, true, ◌&&◌, List, Option, ℕ, LwpData, Mode, Due, ProcData, State, Rule}
-use Rattle.std.specs.Prelude.{nat_eq}
+use Rattle.requests.specs.CommonNames.{Bool, true, List, Option, ℕ, LwpData, Mode, Due, ProcData, State, Rule}
+use Rattle.std.specs.Prelude.{◌≡◌, ◌&&◌, nat_eq}
 use Rattle.std.specs.Option.{option_eq}
 use Rattle.std.specs.Cmp.{IsEquivalence, decided, unsigned_Decides, booleans_Decides, first_so, second_so}
 use Rattle.std.specs.Cmp.Lexicographic.{pointwise, pointwise_decides}

@@ -1,5 +1,6 @@
 -- Lists of all users' steps that differ in numbers that a user doesn't see.
-use Rattle.requests.specs.CommonNames.{◌≡◌, ℕ, List, [], ◌∷◌, Option, IsUser, seen_process, seen_lwp}
+use Rattle.std.specs.Prelude.{◌≡◌, ◌∷◌}
+use Rattle.requests.specs.CommonNames.{ℕ, List, [], Option, IsUser, seen_process, seen_lwp}
 use Rattle.requests.specs.declared.Reply.{Reply}
 use Rattle.requests.specs.Machine.{Machine}
 use Rattle.requests.specs.Run.{Asked, last, replies, asked_by}

@@ -1,5 +1,6 @@
 -- Steps of a host, as the machine sees them, and their answers.
-use Rattle.requests.specs.CommonNames.{◌≡◌, ℕ, true, List, [], ◌∷◌, Option, Some, None, if◌then◌else◌, PlainStep}
+use Rattle.std.specs.Prelude.{◌≡◌, ◌∷◌, if◌then◌else◌}
+use Rattle.requests.specs.CommonNames.{ℕ, true, List, [], Option, Some, None, PlainStep}
 use Rattle.requests.specs.declared.Reply.{Reply}
 use Rattle.requests.specs.Machine.{Machine}
 use Rattle.requests.specs.Memory.{is_memory, may_want}

@@ -1,5 +1,6 @@
 -- The equality of views.
-use Rattle.requests.specs.CommonNames.{Bool, ◌&&◌, ◌==◌, LwpData, ProcData, Rule, Settings}
+use Rattle.std.specs.Prelude.{◌&&◌, ◌==◌}
+use Rattle.requests.specs.CommonNames.{Bool, LwpData, ProcData, Rule, Settings}
 use Rattle.std.specs.Cmp.Lexicographic.{pointwise}
 use Rattle.lwp_table.specs.contracts.LwpDataPartialEq.TheImpl as lwps
 use Rattle.proc_table.specs.contracts.ProcDataPartialEq.TheImpl as processes

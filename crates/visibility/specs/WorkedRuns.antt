@@ -1,5 +1,6 @@
 -- A run checked by computation: its replies. Further runs are row files, tests/rows/runs.
-use Rattle.requests.specs.CommonNames.{◌≡◌, ℕ, negsuc, true, List, [], ◌∷◌, EventMask, StopFlags, Call, StatusKind, PlainStep}
+use Rattle.std.specs.Prelude.{◌≡◌, ◌∷◌}
+use Rattle.requests.specs.CommonNames.{ℕ, negsuc, true, List, [], EventMask, StopFlags, Call, StatusKind, PlainStep}
 use Rattle.requests.specs.declared.step.Step.{Step}
 use Rattle.requests.specs.declared.Request.{Request}
 use Rattle.requests.specs.declared.Act.{Act}
