@@ -173,7 +173,7 @@ def faults_told_in_pieces(program: str) -> Iterator[Run]:
 
 
 def refused_threads(program: str, file: str) -> Iterator[Run]:
-    """Of 64 workers each can't be started, alone and with all after it."""
+    """Of 63 workers, all but the first user's, each can't be started, alone and with all after it."""
     users = range(1001, 1065)
     steps = [{'user': user, 'op': 'spawn'} for user in users for _ in range(2)]
     with open(file, 'w') as scenario:
@@ -184,10 +184,10 @@ def refused_threads(program: str, file: str) -> Iterator[Run]:
         for n in range(2)
     ).encode()
     command = (program, '--threads', file)
-    for n in range(1, 65):
+    for n in range(1, 64):
         yield Run(command, b'', {'THREAD': n}, (START,))
         yield Run(command, b'', {'THREAD': f'{n}-'}, (START,))
-    yield Run(command, b'', {'THREAD': '65-'}, (whole(text),))
+    yield Run(command, b'', {'THREAD': '64-'}, (whole(text),))
 
 
 # ---- lines, each answered before the next is read
