@@ -1,6 +1,7 @@
 pub mod CommonNames
 pub mod Logs
 pub mod Memories
+pub mod Boxed
 pub mod Totals
 pub mod Turns
 pub mod Journey

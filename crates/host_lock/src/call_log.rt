@@ -1,9 +1,13 @@
 //! What a shared host keeps of its answered calls.
 
-ghost use Rattle.std.specs.Prelude.{⊤, ◌≡◌, ◌<◌, [], ◌∷◌, ◌++◌, List, IfOk, OnOk, vec_len, vec_capacity};
+ghost use Rattle.std.specs.Prelude.{⊤, ◌≡◌, ◌<◌, [], ◌∷◌, ◌++◌, List, true, IfOk, OnOk, OnErr, vec_len, vec_capacity};
+ghost use Rattle.requests.specs.Refusals.{is_listing};
+ghost use Rattle.host_lock.specs.Journal.{entry};
 ghost use Rattle.host_lock.specs.declared.journal.Entry.{Entry};
 
 use crate::journal::Entry;
+use pid_blocks::Uid;
+use requests::{PlainStep, Reply};
 use std::alloc::{AllocError, Global};
 use std::marker::Model;
 use std::snapshot::Snapshot;
@@ -29,10 +33,20 @@ pub trait CallLog: Sized {
         ensures same { entries self.new ≡ entries self.old }
         ensures room { OnOk result (has_room self.new) };
 
-    /// Adds a call.
-    fn add(&mut self, entry: Entry)
+    /// Adds a call with a copy of its reply. An error means out of memory, which only the copy of a list takes, and adds
+    /// nothing.
+    fn add(
+        &mut self,
+        alloc: Global,
+        user: Uid,
+        session: usize,
+        step: &PlainStep,
+        reply: &Reply,
+    ) -> Result<(), AllocError>
         requires { has_room self.old }
-        ensures { entries self.new ≡ entries self.old ++ entry ∷ [] };
+        ensures added { OnOk result (entries self.new ≡ entries self.old ++ entry user session step.now reply.now ∷ []) }
+        ensures same { OnErr result (entries self.new ≡ entries self.old) }
+        ensures refused { OnErr result (is_listing reply.now ≡ true) };
 }
 
 /// Keeps all calls.
@@ -54,8 +68,23 @@ impl CallLog for Vec<Entry> {
         Ok(())
     }
 
-    fn add(&mut self, entry: Entry) {
+    fn add(
+        &mut self,
+        alloc: Global,
+        user: Uid,
+        session: usize,
+        step: &PlainStep,
+        reply: &Reply,
+    ) -> Result<(), AllocError> {
+        let reply = reply.copy(alloc)?;
+        let entry = Entry {
+            uid: user,
+            session,
+            step: *step,
+            reply,
+        };
         self.push_reserved(entry);
+        Ok(())
     }
 }
 
@@ -63,17 +92,21 @@ impl CallLog for Vec<Entry> {
 #[derive(Drop)]
 struct Calls {
     before: Option<Snapshot<Calls>>,
-    last: Entry,
+    uid: Uid,
+    session: usize,
+    step: Snapshot<PlainStep>,
+    reply: Snapshot<Reply>,
 }
 
 impl Model for Calls {
     ghost use Rattle.std.specs.Prelude.{List, ◌++◌, ◌∷◌, [], length};
     ghost use Rattle.host_lock.specs.declared.journal.Entry.{Entry};
     ghost use Rattle.host_lock.specs.CallLog.{seen_in};
+    ghost use Rattle.host_lock.specs.Journal.{entry};
 
     ghost Value = { List Entry };
 
-    ghost view = { λ c. seen_in c.before ++ c.last ∷ [] };
+    ghost view = { λ c. seen_in c.before ++ entry c.uid c.session c.step.value c.reply.value ∷ [] };
 
     ghost size = { length };
 }
@@ -111,11 +144,22 @@ impl CallLog for Unkept {
         Ok(())
     }
 
-    fn add(&mut self, entry: Entry) {
+    fn add(
+        &mut self,
+        _alloc: Global,
+        user: Uid,
+        session: usize,
+        step: &PlainStep,
+        reply: &Reply,
+    ) -> Result<(), AllocError> {
         let calls = Calls {
             before: self.calls.take(),
-            last: entry,
+            uid: user,
+            session,
+            step: Snapshot::of(step),
+            reply: Snapshot::of(reply),
         };
         self.calls = Some(Snapshot::of(&calls));
+        Ok(())
     }
 }

@@ -18,6 +18,7 @@ use crate::moment::{Moment, learn, show};
 use crate::rule::{HostSeat, HostTable, JoinTwo, SplitOne, TableKey};
 use crate::session::{Session, budget_left};
 use crate::shared_state::SharedState;
+use crate::step::{OwnHandler, plain};
 use crate::turn::turn;
 use crate::view::Slot;
 use atomic_table::{Badge, Table};
@@ -28,7 +29,7 @@ use std::marker::Model;
 use std::mem;
 use std::snapshot::Snapshot;
 use std::sync::Wait;
-use stop_handlers::{Decider, Handler};
+use stop_handlers::Decider;
 
 /// A host that sessions share. Each may be in a thread of its own. Contracts see which shared host it is, the host at
 /// opening, and the number of sessions that were opened. `J` is what the host keeps of its answered calls.
@@ -191,16 +192,17 @@ impl<F: Decider + Send + Drop, J: CallLog + Send + Drop> SharedHost<F, J> {
 
     /// Makes one step of the session's user. It may wait for the calls of other sessions. The step takes effect at its
     /// place in the journal. Where the session has already made `MAX_CALLS` calls, the answer is `Spent`, and nothing
-    /// changes. A call with the reply ENOMEM has no place in the journal, and changes only the count of calls.
-    pub fn call<R: Wait>(
+    /// changes. A call with the reply ENOMEM has no place in the journal, and changes only the count of calls. The step
+    /// is a `Step<Handler<F>>`, or a `BoxedStep<F>` with its handler on the heap.
+    pub fn call<R: Wait, H: OwnHandler<F>>(
         &self,
         rt: &R,
         alloc: Global,
         session: &mut Session,
-        step: Step<Handler<F>>,
+        step: Step<H>,
     ) -> Answer
         requires { IsOf self.now session.old }
-        ensures call { Calls session.old step result session.new }
+        ensures call { Calls session.old (H.plain step) result session.new }
         ensures same { IsSame session.old session.new }
         ensures told { IsTrue session.new }
     {
@@ -210,7 +212,7 @@ impl<F: Decider + Send + Drop, J: CallLog + Send + Drop> SharedHost<F, J> {
         }
         let badge = mem::replace(&mut session.badge, Badge::blank());
         let mut seat = badge.into_seat();
-        let plain = step.plain();
+        let plain = plain(&step);
         self.door.enter(rt, &session.announced);
         let reply = turn(
             rt,

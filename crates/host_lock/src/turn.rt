@@ -9,6 +9,7 @@ ghost use Rattle.host_lock.specs.Rule.{session_view, snapshot_of, start_of, seen
 use crate::call_log::CallLog;
 use crate::rule::{Count, Draw, HostSeat, Release, SharedTable, Turn};
 use crate::shared_state::SharedState;
+use crate::step::OwnHandler;
 use crate::view::Slot;
 use pid_blocks::Uid;
 use requests::{PlainStep, Reply, Step};
@@ -16,7 +17,7 @@ use std::alloc::Global;
 use std::hint::spin_loop;
 use std::snapshot::Snapshot;
 use std::sync::Wait;
-use stop_handlers::{Decider, Handler};
+use stop_handlers::Decider;
 
 /// Waits until the ticket is served. A call that is inside the door finds its ticket served at the first look, since
 /// the call before served it before it left. Contracts don't see the door, so the loop would also wait without it.
@@ -76,22 +77,22 @@ pub(crate) fn give_back<F: Decider + Send + Drop, J: CallLog + Send + Drop>(
 }
 
 /// Draws a ticket, waits until it is served, makes the step, and serves the next ticket. `plain` is the same step.
-pub(crate) fn turn<F: Decider + Send + Drop, J: CallLog + Send + Drop, R: Wait>(
+pub(crate) fn turn<F: Decider + Send + Drop, J: CallLog + Send + Drop, H: OwnHandler<F>, R: Wait>(
     rt: &R,
     alloc: Global,
     table: &SharedTable<F, J>,
     seat: &mut HostSeat<F, J>,
     user: Uid,
     number: usize,
-    step: Step<Handler<F>>,
+    step: Step<H>,
     plain: &PlainStep,
 ) -> Reply
     requires table { IsHostTable table.now.table_id × (seat.old.table_id ≡ table.now.table_id) }
     requires rests { seat.old.me ≡ (session_view (start_of seat.old.me.0) Idle seat.old.me.0.budget (seen_of seat.old.me.0) number (mine_of seat.old.me.0), []) }
     requires room { 0 < seat.old.me.0.budget }
-    requires plain { plain.now ≡ step }
+    requires plain { plain.now ≡ H.plain step }
     ensures table { seat.new.table_id ≡ seat.old.table_id }
-    ensures turned { HasTurned seat.old.me.0 user number step result seat.new.me }
+    ensures turned { HasTurned seat.old.me.0 user number (H.plain step) result seat.new.me }
 {
     let ticket = table.fetch_add::<Draw>(seat, 1, 1);
     take_turn(rt, table, seat, number, ticket);

@@ -1,6 +1,7 @@
 -- The words of scripts, jobs and runs, from one place.
 pub use Rattle.host_lock.proofs.Totals.{all_of, each_of}
 pub use Rattle.host_lock.specs.Answers.{Calls, GivesBack}
+pub use Rattle.host_lock.specs.Boxed.{SmallStep, own_step}
 pub use Rattle.host_lock.specs.Journal.{IsLegal, StartsWith, asked, entries_of, entry, replay}
 pub use Rattle.host_lock.specs.Limits.{max_calls, max_sessions}
 pub use Rattle.host_lock.specs.Rule.{Each}
@@ -12,7 +13,7 @@ pub use Rattle.requests.specs.Memory.{is_memory}
 pub use Rattle.requests.specs.Plain.{PlainStep}
 pub use Rattle.requests.specs.Run.{Asked, asked_by, last, replies}
 pub use Rattle.requests.specs.View.{View, alone, view, with_view}
-pub use Rattle.sessions.specs.Boxed.{SmallStep, boxed_script, own_step, report_of, steps_of, uid_of}
+pub use Rattle.sessions.specs.Boxed.{boxed_script, report_of, steps_of, uid_of}
 pub use Rattle.sessions.specs.Jobs.{AllDone, Drafted, IsBegun, IsDone, IsReady, done_session, done_transcript, job_report, job_session, job_steps}
 pub use Rattle.sessions.specs.Made.{Did, Pairs, made}
 pub use Rattle.sessions.specs.PlainRuns.{AllAnswer, Answers, AreFew, RanBy}

@@ -1,14 +1,7 @@
 -- Scripts whose handlers are on the heap, as the scripts that they stand for.
-use Rattle.std.specs.{Prelude.{ℕ, List, map, Vec}, Global.{Box, Global}}
-use Rattle.{stop_handlers.specs.declared.Rule.Rule, requests.specs.{declared.step.Step.Step, Plain.{PlainStep, map_handler}}, sessions.specs.declared.boxing.BoxedScript.BoxedScript}
+use Rattle.std.specs.{Prelude.{ℕ, List, map, Vec}, Global.Global}
+use Rattle.{requests.specs.Plain.PlainStep, host_lock.specs.Boxed.{SmallStep, own_step}, sessions.specs.declared.boxing.BoxedScript.BoxedScript}
 use Rattle.sessions.specs.{declared.boxing.AnyScript.{AnyScript, TheVariants.{InSteps, OnHeap}}, Runs.plain_script}
-
-abbrev pub SmallStep : Type 0
-SmallStep = Step (Box (List Rule))
-
--- the step with its handler's policy in it
-abbrev pub own_step : SmallStep → PlainStep
-own_step s = map_handler (λ handler. handler.value) s
 
 abbrev pub boxed_script : {F T : Type 0} → BoxedScript F T → ℕ × List PlainStep
 boxed_script s = (s.uid, map own_step s.steps.items)

@@ -4,18 +4,17 @@ ghost use Rattle.std.specs.Prelude.{◌≡◌, ℕ, List, length, map, vec_len, 
 ghost use Rattle.std.proofs.Common.{sym, ◌∙◌};
 ghost use Rattle.std.proofs.lemmas.List.{length-map};
 ghost use Rattle.requests.specs.Plain.{PlainStep};
-ghost use Rattle.sessions.specs.Boxed.{any_report, any_script, boxed_script, own_step, report_of};
+ghost use Rattle.host_lock.specs.Boxed.{own_step};
+ghost use Rattle.sessions.specs.Boxed.{any_report, any_script, boxed_script, report_of};
 ghost use Rattle.sessions.specs.Runs.{plain_script};
 
 use crate::report::{Report, Whole};
 use crate::script::Script;
+use host_lock::BoxedStep;
 use pid_blocks::Uid;
 use requests::Step;
 use std::alloc::{AllocError, Global};
 use stop_handlers::{Decider, Handler};
-
-/// A step with its handler on the heap. It takes about a fifth of the memory.
-pub type BoxedStep<F> = Step<Box<Handler<F>>>;
 
 /// The steps of one user, in order, with their handlers on the heap, and what is made of the replies.
 #[derive(Drop)]
@@ -101,19 +100,6 @@ pub fn boxed<F: Decider + Send + Drop>(
             handler: Box::new(alloc, handler)?,
         }),
         other => Ok(other.with_handler(None).unwrap()),
-    }
-}
-
-/// Returns the step with its handler in it, as a host makes it.
-pub(crate) fn unboxed<F: Decider + Send + Drop>(boxed: BoxedStep<F>) -> Step<Handler<F>>
-    ensures { result ≡ own_step boxed }
-{
-    match boxed {
-        Step::Install { caller, handler } => Step::Install {
-            caller,
-            handler: Box::into_inner(handler),
-        },
-        other => other.with_handler(None).unwrap(),
     }
 }
 

@@ -1,12 +1,11 @@
 //! A worker's job and its promise.
 
 ghost use Rattle.std.specs.Prelude.{◌≡◌, map};
-ghost use Rattle.sessions.specs.Boxed.{own_step};
+ghost use Rattle.host_lock.specs.Boxed.{own_step};
 ghost use Rattle.sessions.specs.Made.{Did};
 
-use crate::boxing::BoxedStep;
 use crate::report::Report;
-use host_lock::Session;
+use host_lock::{BoxedStep, Session};
 use std::snapshot::Snapshot;
 use std::thread::Promise;
 use stop_handlers::Decider;

@@ -12,7 +12,8 @@ mod script;
 mod worker;
 mod workers;
 
-pub use boxing::{AnyScript, BoxedScript, BoxedStep, Scripted, boxed};
+pub use boxing::{AnyScript, BoxedScript, Scripted, boxed};
+pub use host_lock::BoxedStep;
 pub use kept::Kept;
 pub use report::{Report, Whole};
 pub use run::run_sessions;

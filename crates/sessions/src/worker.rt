@@ -1,16 +1,15 @@
 //! One worker.
 
 ghost use Rattle.std.specs.Prelude.{◌≡◌, ◌≤◌, [], length, map, reverse, vec_len};
+ghost use Rattle.host_lock.specs.Boxed.{own_step};
 ghost use Rattle.host_lock.specs.Limits.{max_calls};
 ghost use Rattle.host_lock.specs.Sessions.{IsOf};
-ghost use Rattle.sessions.specs.Boxed.{own_step};
 ghost use Rattle.sessions.specs.Made.{Did};
 
-use crate::boxing::{BoxedStep, unboxed};
 use crate::job::Done;
 use crate::report::Report;
 use crate::script::Gate;
-use host_lock::{Answer, CallLog, Session, SharedHost};
+use host_lock::{Answer, BoxedStep, CallLog, Session, SharedHost};
 use std::alloc::Global;
 use std::snapshot::Snapshot;
 use std::sync::Wait;
@@ -53,7 +52,6 @@ pub(crate) fn work<F: Decider + Send + Drop, J: CallLog + Send + Drop, T: Report
     for step in steps {
         let index = session.calls_made() + 1;
         gate.before(uid, index);
-        let step = unboxed(step);
         let Answer::Reply(reply) = host.call(rt, alloc, &mut session, step) else {
             unreachable!()
         };

@@ -1,10 +1,10 @@
 //! One worker for each script.
 ghost use Rattle.std.specs.Prelude.{◌≡◌, ◌+◌, ◌≤◌, [], ◌∷◌, ◌++◌, map, vec_len, vec_capacity, IfSome};
 ghost use Rattle.std.specs.Thread.{IsSend, IsSync};
+ghost use Rattle.host_lock.specs.Boxed.{own_step};
 ghost use Rattle.host_lock.specs.Limits.{max_calls};
 ghost use Rattle.host_lock.specs.Rule.{Each};
 ghost use Rattle.host_lock.specs.Sessions.{IsOf};
-ghost use Rattle.sessions.specs.Boxed.{own_step};
 ghost use Rattle.sessions.specs.Made.{Did};
 ghost use Rattle.sessions.specs.Jobs.{AllDone, IsReady, HasRoomFor};
 

@@ -1,4 +1,5 @@
 -- The words of runs, scripts and answers, from one place.
+pub use Rattle.host_lock.specs.Boxed.{own_step}
 pub use Rattle.host_lock.specs.declared.journal.Entry.{Entry}
 pub use Rattle.pid_blocks.specs.Blocks.{rising, slot, users}
 pub use Rattle.pid_blocks.specs.Users.{IsUser}
@@ -14,7 +15,7 @@ pub use Rattle.scenario.specs.Lines.{Answered, lines, lines_after, lines_of, tex
 pub use Rattle.scenario.specs.Runs.{Writes, answered, paired, shown}
 pub use Rattle.scenario.specs.declared.style.Style.{Style}
 pub use Rattle.scenario_text.specs.Plan.{Plan, filled, first_policy, max_steps, policies_in, step_with}
-pub use Rattle.sessions.specs.Boxed.{boxed_script, own_step}
+pub use Rattle.sessions.specs.Boxed.{boxed_script}
 pub use Rattle.sessions.specs.PlainRuns.{AllAnswer, AreFew, Ran}
 pub use Rattle.sessions.specs.Runs.{AllPlay, AllTell, OwnEntries, RefusesFor, entries_by}
 pub use Rattle.sessions.specs.declared.boxing.BoxedScript.{BoxedScript}

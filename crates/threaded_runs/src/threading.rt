@@ -8,7 +8,8 @@ ghost use Rattle.requests.specs.Isolation.{Users};
 ghost use Rattle.scenario_text.specs.Plan.{max_steps, policies_in};
 ghost use Rattle.scenario.specs.Runs.{answers_of, IsBound, Writes};
 ghost use Rattle.threaded_runs.specs.Grouped.{shown_grouped};
-ghost use Rattle.sessions.specs.Boxed.{boxed_script, own_step};
+ghost use Rattle.host_lock.specs.Boxed.{own_step};
+ghost use Rattle.sessions.specs.Boxed.{boxed_script};
 ghost use Rattle.threaded_runs.specs.Scripts.{answers_by_scripts, has_steps, scripts_in, text_in, told_by, IsMade, Shows};
 ghost use Rattle.scenario.specs.declared.running.RunFault.TheVariants.{Mismatch, Memory, Start, Write as WriteFault};
 

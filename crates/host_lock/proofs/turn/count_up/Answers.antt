@@ -1,4 +1,4 @@
-use Rattle.host_lock.proofs.CommonNames.{ℕ, arith, step, start_of, seen_of, mine_of}
+use Rattle.host_lock.proofs.CommonNames.{ℕ, arith, start_of, seen_of, mine_of}
 use Rattle.host_lock.proofs.Turns.{counts_up}
 use Rattle.host_lock.proofs.turn.count_up.Goals as goal
 

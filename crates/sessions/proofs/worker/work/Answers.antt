@@ -28,9 +28,8 @@ loop-step-preserved g c =
     let less = ap length steps in
     let more = length-append at.yielded (s ∷ []) in
     let few = inv.few in
-    let step = c.unboxed-step.result in
-    let longer : map own_step at.yielded ++ step ∷ [] ≡ map own_step (at.yielded ++ s ∷ []) =
-    ap (λ (x : PlainStep). map own_step at.yielded ++ x ∷ []) c.unboxed-step.ensures ∙ sym (map-append own_step at.yielded (s ∷ [])) in
+    let step = own_step s in
+    let longer : map own_step at.yielded ++ step ∷ [] ≡ map own_step (at.yielded ++ s ∷ []) = sym (map-append own_step at.yielded (s ∷ [])) in
     let room : length (into_iter_items at.step-iterator) ≡ length (into_iter_items c.next.new.self) + 1 = omega arith in
     let report = c.args.report.value in
     let was = subst (λ n. g.T.Report.drafted at.draft report c.args.session.uid n before) room inv.drafted in
