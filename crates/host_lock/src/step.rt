@@ -79,8 +79,9 @@ pub(crate) fn plain<F: Decider + Send + Drop, H: OwnHandler<F>>(step: &Step<H>) 
     step.with_handler(policy).unwrap()
 }
 
-/// Makes the step on the host, as `Host::step` does.
-#[inline(always)]
+/// Makes the step on the host, as `Host::step` does. It isn't inlined, so that its reply is handed on in registers: the
+/// copies of a reply cost more than a call.
+#[inline(never)]
 pub(crate) fn make<F: Decider + Send + Drop, H: OwnHandler<F>>(
     alloc: Global,
     user: Uid,

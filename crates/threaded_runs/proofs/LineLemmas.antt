@@ -1,5 +1,5 @@
 -- The lines of a user's replies, and one more.
-use Rattle.std.proofs.Common.{◌≡◌, ℕ, ◌+◌, ◌<◌, ◌^◌, true, false, List, [], ◌∷◌, ◌++◌, length, Option, Some, None, IfSome, String, string_bytes, refl, sym, ap, ◌∙◌, subst, arith, append_assoc, append-nil, length-append}
+use Rattle.std.proofs.Common.{◌≡◌, ℕ, ◌+◌, ◌<◌, ◌^◌, true, false, List, [], ◌∷◌, ◌++◌, length, Option, Some, None, IfSome, String, string_bytes, refl, sym, ap, ◌∙◌, arith, append_assoc, append-nil, length-append}
 use Rattle.threaded_runs.proofs.CommonNames.{eq-eqb, Global, Reply, Answered, Style, answered, shown, told_to, AreMade}
 use Rattle.requests.specs.Memory.{is_memory}
 use Rattle.scenario.specs.Lines.{line, shown_line}

@@ -99,12 +99,11 @@ impl Report for LineReport {
 
     fn add(draft: &mut LineDraft, alloc: Global, reply: Reply) {
         draft.number = draft.number.saturating_add(1);
-        let text = draft.text.take();
-        draft.text = longer(
+        add_line(
             alloc,
             &draft.options,
             &mut draft.objects,
-            text,
+            &mut draft.text,
             draft.uid,
             draft.number,
             &reply,
@@ -137,24 +136,28 @@ fn usual_bytes(options: &RunOptions, uid: Uid, replies: usize) -> usize {
     }
 }
 
-/// Returns the text with the line of a reply, if the options show it. Returns `None` where memory ran out, here, before
+/// Adds the line of a reply to the text, if the options show it. There is no text any more where memory runs out, here
 /// or for the step.
-fn longer(
+fn add_line(
     alloc: Global,
     options: &RunOptions,
     objects: &mut ObjectWriter,
-    text: Option<String>,
+    text: &mut Option<String>,
     uid: Uid,
     number: u64,
     reply: &Reply,
-) -> Option<String>
-    ensures { IfSome result (λ new. (is_memory reply.now ≡ false) × (old : String Global) × (text ≡ Some old)
+)
+    ensures { IfSome text.new (λ new. (is_memory reply.now ≡ false) × (old : String Global) × (text.old ≡ Some old)
         × (string_bytes new ≡ string_bytes old ++ shown_line options.now.user (line options.now.style number (answered (uid, reply.now))))) }
 {
-    let mut text = text?;
     if reply.is_memory() {
-        return None;
+        *text = None;
+        return;
     }
-    push_shown(alloc, options, objects, &mut text, uid, number, reply).ok()?;
-    Some(text)
+    let Some(lines) = text else {
+        return;
+    };
+    if push_shown(alloc, options, objects, lines, uid, number, reply).is_err() {
+        *text = None;
+    }
 }

@@ -1,5 +1,5 @@
-use Rattle.std.proofs.Common.{◌≡◌, ◌+◌, ◌<◌, ◌^◌, ◌++◌, ◌∷◌, [], List, Option, IfSome, String, ap, ◌∙◌, subst, arith}
-use Rattle.threaded_runs.proofs.CommonNames.{Global, Reply}
+use Rattle.std.proofs.Common.{◌≡◌, ◌+◌, ◌<◌, ◌^◌, ◌++◌, ◌∷◌, [], IfSome, ap, ◌∙◌, arith}
+use Rattle.threaded_runs.proofs.CommonNames.{Reply}
 use Rattle.threaded_runs.proofs.LineLemmas.{drawn_more, IsLonger}
 use Rattle.threaded_runs.specs.Unseen.{unseen_in}
 use Rattle.threaded_runs.proofs.lines.LineReportReport.add.Goals as goal
@@ -10,5 +10,5 @@ returns c = λ report user room before was.
     let r : Reply = c.args.reply in
     let seen : c.of.result.value ≡ unseen_in d.replies ++ r ∷ [] = c.of.ensures ∙ ap (λ x. unseen_in x ++ r ∷ []) c.take.ensures.value in
     let one : d.number + 1 < 2 ^ 64 → c.saturating_add-draft.result ≡ d.number + 1 = λ small. grind (arith, small, c.saturating_add-draft.ensures) in
-    let text : IfSome c.longer.result (IsLonger d r c.saturating_add-draft.result) = rw (← c.take-text.ensures.value) c.longer.ensures in
-    drawn_more d report user room before r c.saturating_add-draft.result c.longer.result c.of.result.value seen one text was
+    let text : IfSome c.add_line.new.text (IsLonger d r c.saturating_add-draft.result) = c.add_line.ensures in
+    drawn_more d report user room before r c.saturating_add-draft.result c.add_line.new.text c.of.result.value seen one text was
