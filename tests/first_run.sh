@@ -16,7 +16,7 @@ git ls-files -z | xargs -0 cp --parents -t "$room/copy"
 cat >"$room/bin/rt" <<'STAND_IN'
 #!/usr/bin/env bash
 crate=$(basename "$PWD")
-echo "$1 $crate" >>"$CALLS"
+printf '%s\n' "$1 $crate" "jobs $3 $crate" >>"$CALLS"
 for it in $(sed -n "s/^$crate: *//p" ../../crates.txt) "$crate"; do
   [ -d "../$it" ] || continue
   [ "$it" = "$crate" ] || [ -f "../$it/out/rlib/stamp" ] || { echo "error: $it is not built"; exit 1; }
@@ -81,6 +81,9 @@ rm -rf crates/*/out
 : >"$CALLS"
 PAUSE=0.2 python3 tools/first_run.py 2>"$room/err"
 check "a run from nothing ends with status 0" test $? -eq 0
+twice=$(sed -n 's/^jobs 2 //p' "$CALLS")
+check "no crate but requests is proved by two processes" test -z "${twice#requests}"
+[ "$(nproc)" -lt 4 ] || check "requests is proved by two processes" test "$twice" = requests
 running=()
 together=0
 while read -r what name; do

@@ -26,8 +26,9 @@ PROGRAM = "tracehost"
 MEMORY_OF_A_CHECK = 3_500_000_000
 # how long an interrupted run waits for its lanes to go, in seconds
 LANES_GO_WITHIN = 60
-# by how many processes a crate is proved: each more reads all that the crate stands on once more
-JOBS = ["--jobs", "1"]
+# from so many processor seconds on, a crate gets a second process where a processor is idle; each process reads all that
+# the crate stands on once more, so that less work is slower with two
+LARGE = 250
 
 
 def crates_below(program):
@@ -97,6 +98,8 @@ class Builder:
         self.is_interrupted = self.is_stopping = False
         # when each crate began, and the seconds of each that was proved now
         self.started, self.took = {}, {}
+        # by how many processes each crate is proved
+        self.jobs = {}
         self.shown = 0.0
         # the processes that prove crates, and the lanes of those crates
         self.children, self.lane_of = set(), {}
@@ -188,7 +191,7 @@ class Builder:
             return True
         self.lane_of[name] = Lane(TOP, name, self.all_below(name))
         with self.lane_of[name] as lane:
-            well = self.call(name, lane.folder, ["lib", *JOBS])
+            well = self.call(name, lane.folder, ["lib", "--jobs", str(self.jobs[name])])
             if well:
                 lane.date()
         return well
@@ -200,7 +203,7 @@ class Builder:
             os.remove(log)
         if name == PROGRAM:
             # a scenario of no steps prints nothing, so that this run proves and builds, and does no more
-            return self.call(name, f"{TOP}/crates/{name}", ["run", *JOBS], b'{"steps":[]}')
+            return self.call(name, f"{TOP}/crates/{name}", ["run", "--jobs", str(self.jobs[name])], b'{"steps":[]}')
         return self.prove_library(name)
 
     def prove(self, name):
@@ -241,11 +244,17 @@ class Builder:
         above = [it for it, uses in self.below.items() if name in uses]
         return self.weight[name] + max((self.chain(it) for it in above), default=0)
 
+    def jobs_for(self, name, at_once):
+        """Returns by how many processes a crate is proved that is one of so many at once."""
+        return 2 if self.weight[name] >= LARGE and at_once < self.lanes else 1
+
     def run(self):
         with self.lock:
             while len(self.done) < len(self.below) and not self.failed and not self.is_interrupted:
                 ready = sorted(self.ready(), key=self.chain, reverse=True)
+                at_once = len(self.running) + len(ready)
                 for name in ready[: self.lanes - len(self.running)]:
+                    self.jobs[name] = self.jobs_for(name, at_once)
                     self.running[name], self.started[name] = 0, time.monotonic()
                     threading.Thread(target=self.prove, args=(name,), daemon=True).start()
                 self.show()
