@@ -82,8 +82,9 @@ rm -rf crates/*/out
 PAUSE=0.2 python3 tools/first_run.py 2>"$room/err"
 check "a run from nothing ends with status 0" test $? -eq 0
 twice=$(sed -n 's/^jobs 2 //p' "$CALLS")
-check "no crate but requests is proved by two processes" test -z "${twice#requests}"
-[ "$(nproc)" -lt 4 ] || check "requests is proved by two processes" test "$twice" = requests
+small=$(comm -12 <(sort <<<"$twice") <(awk -F '\t' '$3 + 0 < 150 {print $1}' bench/proof_seconds.tsv | sort))
+check "no small crate is proved by two processes: $small" test -z "$small"
+[ "$(nproc)" -lt 4 ] || check "requests is proved by two processes" grep -qx requests <<<"$twice"
 running=()
 together=0
 while read -r what name; do

@@ -28,7 +28,7 @@ MEMORY_OF_A_CHECK = 3_500_000_000
 LANES_GO_WITHIN = 60
 # from so many processor seconds on, a crate gets a second process where a processor is idle; each process reads all that
 # the crate stands on once more, so that less work is slower with two
-LARGE = 250
+LARGE = 150
 
 
 def crates_below(program):
