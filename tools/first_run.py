@@ -26,8 +26,8 @@ PROGRAM = "tracehost"
 MEMORY_OF_A_CHECK = 3_500_000_000
 # how long an interrupted run waits for its lanes to go, in seconds
 LANES_GO_WITHIN = 60
-# from so many processor seconds on, a crate gets a second process where a processor is idle; each process reads all that
-# the crate stands on once more, so that less work is slower with two
+# from so many processor seconds on, a library gets a second process where a processor is idle for it; each process reads
+# all that the crate stands on once more, so that a smaller one is slower with two
 LARGE = 150
 
 
@@ -245,8 +245,12 @@ class Builder:
         return self.weight[name] + max((self.chain(it) for it in above), default=0)
 
     def jobs_for(self, name, at_once):
-        """Returns by how many processes a crate is proved that is one of so many at once."""
-        return 2 if self.weight[name] >= LARGE and at_once < self.lanes else 1
+        """Returns by how many processes a crate is proved that is one of so many at once.
+
+        The program gets one: to read all that it stands on, and to compile it, takes most of its time.
+        """
+        is_large = name != PROGRAM and self.weight[name] >= LARGE
+        return 2 if is_large and 2 * at_once <= self.lanes else 1
 
     def run(self):
         with self.lock:
