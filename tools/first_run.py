@@ -1,57 +1,61 @@
 #!/usr/bin/env python3
 """Proves and builds the program, and says on standard error how far it is.
 
-Each crate is proved once all below it are, as many side by side as there are processors and memory for, each in a lane
-of its own (lane.py). On a terminal one line is rewritten; else a line is printed for each crate. The share of the work
-that is done comes from the processor seconds in bench/proof_seconds.tsv. What is proved stays in the crates' out/
-folders, so that after an interrupt the next call goes on from there.
+The gate of the kit (`rt ci`) does the work, on a copy of the crates that the program stands on, without must-fail edits.
+It proves as many crates side by side as there are processors and memory for. What has passed is kept beside the kit, so
+that after an interrupt the next call goes on from there, and the gate does too.
+
+On a terminal one line is rewritten; else a line is printed for each crate. The share of the work that is done comes from
+the processor seconds in bench/proof_seconds.tsv.
 """
 
+from __future__ import annotations
+
+import contextlib
 import csv
+import fcntl
 import os
 import re
+import selectors
 import shutil
 import signal
 import subprocess
 import sys
-import threading
+import tempfile
 import time
-import traceback
-
-from lane import Lane
+from collections.abc import Iterator
 
 TOP = os.path.dirname(os.path.dirname(os.path.realpath(__file__)))
 PROGRAM = "tracehost"
-# what one check is likely to take at most, in bytes
-MEMORY_OF_A_CHECK = 3_500_000_000
-# how long an interrupted run waits for its lanes to go, in seconds
-LANES_GO_WITHIN = 60
-# from so many processor seconds on, a library gets a second process where a processor is idle for it; each process reads
-# all that the crate stands on once more, so that a smaller one is slower with two
-LARGE = 150
+# what a crate is made of, with the files of a program's run
+PARTS = ("src", "specs", "proofs", "data", "args", "status", "stdin", "stdout")
+# what ends a run before its time
+SIGNALS = (signal.SIGINT, signal.SIGTERM)
+# how often the line on a terminal is rewritten, in seconds
+PACE = 1.0
 
 
-def crates_below(program):
-    """Returns the crates that the program stands on, and itself, lowest first, each with those right below it."""
-    lines = {}
+def crates_below(program: str) -> dict[str, str]:
+    """Returns the lines of crates.txt of the program and of the crates that it stands on, lowest first."""
+    lines: dict[str, str] = {}
     with open(f"{TOP}/crates.txt", encoding="utf-8") as listed:
         for line in listed:
-            name, colon, uses = line.partition("#")[0].partition(":")
+            name, colon, _ = line.partition("#")[0].partition(":")
             if colon:
-                lines[name.split()[0]] = uses.split()
-    ordered = {}
+                lines[name.split()[0]] = line
+    ordered: dict[str, str] = {}
 
-    def add(name):
+    def add(name: str) -> None:
         if name in lines and name not in ordered:
-            for use in lines[name]:
+            for use in lines[name].partition(":")[2].split():
                 add(use)
-            ordered[name] = [use for use in lines[name] if use in lines]
+            ordered[name] = lines[name]
 
     add(program)
     return ordered
 
 
-def weights(names):
+def weights(names: dict[str, str]) -> dict[str, float]:
     """Returns the processor seconds of each crate in bench/proof_seconds.tsv, and for one that it lacks the mean."""
     with open(f"{TOP}/bench/proof_seconds.tsv", encoding="utf-8", newline="") as table:
         rows = csv.DictReader((line for line in table if not line.startswith("#")), delimiter="\t")
@@ -61,263 +65,167 @@ def weights(names):
     return {name: found.get(name, mean) for name in names}
 
 
-def newest_below(folder):
-    """Returns the time of the newest source file of a crate."""
-    times = [
-        os.path.getmtime(f"{at}/{name}")
-        for part in ("src", "specs", "proofs")
-        for at, _, names in os.walk(f"{folder}/{part}")
-        for name in names
-        if name.endswith((".rt", ".antt")) and not name.startswith(".")
-    ]
-    return max(times, default=0.0)
-
-
-def digest_of_sources():
+def digest_of_sources() -> str:
     """Returns the digest of all that the program is built from."""
     return subprocess.run([f"{TOP}/tools/sources"], stdout=subprocess.PIPE, text=True, check=True).stdout.strip()
 
 
-def lanes():
-    """Returns how many checks may run side by side."""
-    with open("/proc/meminfo", encoding="utf-8") as lines:
-        free = next(int(line.split()[1]) * 1024 for line in lines if line.startswith("MemAvailable"))
-    return max(1, min(len(os.sched_getaffinity(0)), free // MEMORY_OF_A_CHECK))
+def copy_crates(names: dict[str, str], folder: str) -> None:
+    """Copies these crates to the folder, with their lines of crates.txt and with HANDLES, as `rt ci` wants them."""
+    for name in names:
+        os.makedirs(f"{folder}/crates/{name}")
+        for part in PARTS:
+            path, to = f"{TOP}/crates/{name}/{part}", f"{folder}/crates/{name}/{part}"
+            if os.path.isdir(path):
+                shutil.copytree(path, to)
+            elif os.path.isfile(path):
+                shutil.copy2(path, to)
+    shutil.copy2(f"{TOP}/HANDLES", folder)
+    with open(f"{folder}/crates.txt", "w", encoding="utf-8") as listed:
+        listed.writelines(names.values())
 
 
-class Builder:
-    def __init__(self):
-        self.below = crates_below(PROGRAM)
-        self.weight = weights(self.below)
-        self.lanes = lanes()
+@contextlib.contextmanager
+def alone() -> Iterator[None]:
+    """Waits until no other first run of this checkout is under way, and keeps others waiting."""
+    os.makedirs(f"{TOP}/out", exist_ok=True)
+    with open(f"{TOP}/out/first_run.lock", "w", encoding="utf-8") as held:
+        with contextlib.suppress(OSError):
+            # some file systems have no locks
+            fcntl.flock(held, fcntl.LOCK_EX)
+        yield
+
+
+class Progress:
+    """What the gate has printed so far, and what is said of it."""
+
+    def __init__(self, names: dict[str, str]) -> None:
+        self.weight = weights(names)
         self.began = time.monotonic()
-        self.lock = threading.Condition()
-        self.running, self.done, self.failed = {}, [], None
-        # the traceback of what ended the failed crate's thread, if its proof didn't
-        self.fault = ""
-        self.is_interrupted = self.is_stopping = False
-        # when each crate began, and the seconds of each that was proved now
-        self.started, self.took = {}, {}
-        # by how many processes each crate is proved
-        self.jobs = {}
-        self.shown = 0.0
-        # the processes that prove crates, and the lanes of those crates
-        self.children, self.lane_of = set(), {}
+        self.done: list[str] = []
+        # the first crate that wasn't proved, and how many functions the crate has whose report is being read
+        self.failed, self.functions = "", ""
         self.is_terminal = sys.stderr.isatty()
 
-    def share(self):
-        """Returns how much of the work is done, from 0 to 1.
+    def share(self) -> float:
+        """Returns how much of the work is done, from 0 to 1."""
+        return sum(self.weight[name] for name in self.done) / sum(self.weight.values())
 
-        What runs is judged by its time, since one process counts the functions of a crate only at its end.
-        """
-        pace = sum(self.took.values()) / sum(self.weight[name] for name in self.took) if self.took else 1.0
-        part = sum(self.weight[name] for name in self.done)
-        for name in self.running:
-            spent = (time.monotonic() - self.started[name]) / pace
-            part += min(spent, 0.9 * self.weight[name])
-        self.shown = max(self.shown, part / sum(self.weight.values()))
-        return self.shown
-
-    def elapsed(self):
+    def elapsed(self) -> str:
         seconds = int(time.monotonic() - self.began)
         return f"{seconds // 60}:{seconds % 60:02d}"
 
-    def say(self, text):
-        with self.lock:
-            if self.is_terminal:
-                sys.stderr.write("\r\033[K")
-            sys.stderr.write(f"tracehost: {text}\n")
-            sys.stderr.flush()
-
-    def show(self):
-        """Rewrites the line on a terminal."""
-        if not self.is_terminal or self.failed:
-            return
-        place = list(self.below)
-        parts = [
-            f"{name} ({place.index(name) + 1} of {len(place)}, {functions or '?'} functions)"
-            for name, functions in self.running.items()
-        ]
-        text = f"tracehost: {self.elapsed()}, {self.share():.0%} done; proving {', '.join(parts)}"
-        width = shutil.get_terminal_size((80, 24)).columns - 1
-        sys.stderr.write(f"\r\033[K{text[:width]}")
+    def say(self, text: str) -> None:
+        start = "\r\033[K" if self.is_terminal else ""
+        sys.stderr.write(f"{start}tracehost: {text}\n")
         sys.stderr.flush()
 
-    def is_proved(self, name):
-        """Whether an earlier call has built the crate, and nothing that it stands on changed since."""
-        stamp = f"{TOP}/crates/{name}/out/rlib/stamp"
-        if name == PROGRAM or not os.path.isfile(stamp):
-            return False
-        built = os.path.getmtime(stamp)
-        whole = [name, *self.all_below(name)]
-        listed = os.path.getmtime(f"{TOP}/crates.txt")
-        return listed < built and all(newest_below(f"{TOP}/crates/{it}") < built for it in whole)
-
-    def all_below(self, name):
-        found = set()
-        for use in self.below[name]:
-            found |= {use} | self.all_below(use)
-        return found
-
-    def call(self, name, folder, words, given=b""):
-        """Runs rt in the folder, notes the functions of the crate that it counts, and returns whether all went well."""
-        os.makedirs(f"{TOP}/crates/{name}/out", exist_ok=True)
-        with open(f"{TOP}/crates/{name}/out/build.log", "ab") as log:
-            with self.lock:
-                if self.is_stopping:
-                    return False
-                child = subprocess.Popen(
-                    ["rt", *words], cwd=folder, stdin=subprocess.PIPE, stdout=subprocess.PIPE,
-                    stderr=subprocess.STDOUT, start_new_session=True,
-                )
-                self.children.add(child)
-            child.stdin.write(given)
-            child.stdin.close()
-            for line in child.stdout:
-                log.write(line)
-                count = re.match(rb"so far: \d+ of (\d+)|logic=proved functions=(\d+)", line)
-                if count:
-                    with self.lock:
-                        self.running[name] = int(count[1] or count[2])
-                        self.show()
-            status = child.wait()
-            with self.lock:
-                self.children.discard(child)
-        return status == 0
-
-    def prove_library(self, name):
-        """Builds a library, which rt does only where it is proved."""
-        if self.is_proved(name):
-            return True
-        self.lane_of[name] = Lane(TOP, name, self.all_below(name))
-        with self.lane_of[name] as lane:
-            well = self.call(name, lane.folder, ["lib", "--jobs", str(self.jobs[name])])
-            if well:
-                lane.date()
-        return well
-
-    def prove_crate(self, name):
-        """Proves the crate, and returns whether all went well."""
-        log = f"{TOP}/crates/{name}/out/build.log"
-        if os.path.exists(log):
-            os.remove(log)
-        if name == PROGRAM:
-            # a scenario of no steps prints nothing, so that this run proves and builds, and does no more
-            return self.call(name, f"{TOP}/crates/{name}", ["run", "--jobs", str(self.jobs[name])], b'{"steps":[]}')
-        return self.prove_library(name)
-
-    def prove(self, name):
-        """Proves the crate in a thread of its own, and notes how it went."""
-        well, fault = False, ""
-        try:
-            well = self.prove_crate(name)
-        except Exception:
-            # no one else sees it, and the run would wait for this crate for ever
-            fault = traceback.format_exc()
-        with self.lock:
-            functions = self.running.pop(name)
-            if functions:
-                self.took[name] = time.monotonic() - self.started[name]
-            if well:
-                self.done.append(name)
-                self.tell(name, functions)
-            elif not self.failed:
-                self.failed, self.fault = name, fault
-            self.lock.notify_all()
-
-    def tell(self, name, functions):
-        """Says that a crate is proved, with the lock held, so that no crate above it is told before."""
+    def show(self) -> None:
+        """Rewrites the line on a terminal."""
         if self.is_terminal:
+            last = f"; {self.done[-1]} is proved" if self.done else ""
+            text = f"tracehost: {self.elapsed()}, {self.share():.0%} done, {len(self.done)} of {len(self.weight)} crates{last}"
+            width = shutil.get_terminal_size((80, 24)).columns - 1
+            sys.stderr.write(f"\r\033[K{text[:width]}")
+            sys.stderr.flush()
+
+    def read(self, line: str) -> None:
+        """Takes a line of the gate's."""
+        if counted := re.match(r"logic=proved functions=(\d+)", line):
+            self.functions = f"{counted[1]} functions"
+        elif line.startswith("== "):
+            self.functions = ""
+        elif proved := re.match(r"rt: (\w+) (proved|is kept: .*)$", line):
+            self.prove(proved[1], "as before" if proved[2] != "proved" else self.functions or "no functions")
+        elif failed := re.match(r"rt: (\w+)(: its tests are)? NOT PROVED", line):
+            self.failed = self.failed or failed[1]
+
+    def prove(self, name: str, counted: str) -> None:
+        if name not in self.weight or name in self.done:
             return
-        counted = f"{functions} functions" if functions else "as before"
-        self.say(
-            f"{name} is proved ({counted}): {len(self.done)} of {len(self.below)} crates, "
-            f"{self.share():.0%} of the work, {self.elapsed()}"
-        )
-
-    def ready(self):
-        started = {*self.done, *self.running}
-        return [name for name, uses in self.below.items() if name not in started and set(uses) <= set(self.done)]
-
-    def chain(self, name):
-        """Returns the weight of the longest chain of crates from this one up."""
-        above = [it for it, uses in self.below.items() if name in uses]
-        return self.weight[name] + max((self.chain(it) for it in above), default=0)
-
-    def jobs_for(self, name, at_once):
-        """Returns by how many processes a crate is proved that is one of so many at once.
-
-        The program gets one: to read all that it stands on, and to compile it, takes most of its time.
-        """
-        is_large = name != PROGRAM and self.weight[name] >= LARGE
-        return 2 if is_large and 2 * at_once <= self.lanes else 1
-
-    def run(self):
-        with self.lock:
-            while len(self.done) < len(self.below) and not self.failed and not self.is_interrupted:
-                ready = sorted(self.ready(), key=self.chain, reverse=True)
-                at_once = len(self.running) + len(ready)
-                for name in ready[: self.lanes - len(self.running)]:
-                    self.jobs[name] = self.jobs_for(name, at_once)
-                    self.running[name], self.started[name] = 0, time.monotonic()
-                    threading.Thread(target=self.prove, args=(name,), daemon=True).start()
-                self.show()
-                self.lock.wait(1.0)
-        return self.failed
-
-    def interrupt(self, *_):
-        """Ends the run at a signal, within a second. Those that come while it ends change nothing."""
-        self.is_interrupted = True
-
-    def has_lanes(self):
-        """Whether there are lanes. A thread that still waits for its crate's lock has none."""
-        return any(name in self.lane_of and self.lane_of[name].held is not None for name in self.running)
-
-    def stop(self):
-        """Ends what runs, and waits until the lanes are gone."""
-        with self.lock:
-            self.is_stopping = True
-            for child in self.children:
-                try:
-                    os.killpg(child.pid, signal.SIGTERM)
-                except ProcessLookupError:
-                    pass
-            self.lock.wait_for(lambda: not self.has_lanes(), LANES_GO_WITHIN)
-
-    def report_failure(self):
-        """Shows why the failed crate is not proved."""
-        if self.fault:
-            sys.stderr.write(self.fault)
-            self.say(f"{self.failed} is not proved: the error above")
-            return
-        log = f"{TOP}/crates/{self.failed}/out/build.log"
-        with open(log, encoding="utf-8", errors="replace") as text:
-            sys.stderr.write("".join(text.readlines()[-20:]))
-        self.say(f"{self.failed} is not proved: the whole log is {log}")
+        self.done.append(name)
+        if not self.is_terminal:
+            self.say(
+                f"{name} is proved ({counted}): {len(self.done)} of {len(self.weight)} crates, "
+                f"{self.share():.0%} of the work, {self.elapsed()}"
+            )
 
 
-def main():
-    builder = Builder()
-    # also where the caller ignores interrupts, as a shell does for what it runs in the background
-    for number in (signal.SIGINT, signal.SIGTERM):
-        signal.signal(number, builder.interrupt)
-    digest = digest_of_sources()
-    builder.say(
-        f"proving and building {len(builder.below)} crates, once, on {builder.lanes} processors; "
-        "what is proved is kept, so an interrupt loses little"
+class Interrupted(Exception):
+    """A signal asks for the end of the run."""
+
+
+def interrupt(*_: object) -> None:
+    """Ends the run. Signals that come while it ends change nothing."""
+    for number in SIGNALS:
+        signal.signal(number, signal.SIG_IGN)
+    raise Interrupted
+
+
+def gate(folder: str, progress: Progress, log_path: str) -> int:
+    """Runs the gate in the folder, and returns its status. All that it prints is in the log."""
+    child = subprocess.Popen(
+        ["rt", "ci"], cwd=folder, stdin=subprocess.DEVNULL, stdout=subprocess.PIPE, stderr=subprocess.STDOUT,
+        start_new_session=True,
     )
-    failed = builder.run()
-    if builder.is_interrupted:
-        builder.stop()
-        builder.say("interrupted; the next call goes on from here")
-        return 130
-    if failed:
-        builder.stop()
-        builder.report_failure()
-        return 1
+    assert child.stdout is not None
+    try:
+        with open(log_path, "wb") as log, selectors.DefaultSelector() as ready:
+            ready.register(child.stdout, selectors.EVENT_READ)
+            rest = b""
+            while True:
+                progress.show()
+                if not ready.select(PACE):
+                    continue
+                text = os.read(child.stdout.fileno(), 65536)
+                log.write(text)
+                log.flush()
+                *lines, rest = (rest + text).split(b"\n")
+                for line in lines:
+                    progress.read(line.decode(errors="replace"))
+                if not text:
+                    return child.wait()
+    finally:
+        with contextlib.suppress(ProcessLookupError):
+            os.killpg(child.pid, signal.SIGTERM)
+        child.wait()
+
+
+def prove() -> int:
+    names = crates_below(PROGRAM)
+    progress = Progress(names)
+    log_path, built = f"{TOP}/out/first_run.log", f"{TOP}/crates/{PROGRAM}/out/{PROGRAM}"
+    digest = digest_of_sources()
+    progress.say(f"proving and building {len(names)} crates, once; what is proved is kept, so an interrupt loses little")
+    with tempfile.TemporaryDirectory(prefix="tracehost-proof-") as folder:
+        copy_crates(names, folder)
+        try:
+            status = gate(folder, progress, log_path)
+        except Interrupted:
+            progress.say("interrupted; the next call goes on from what is proved")
+            return 130
+        if status:
+            with open(log_path, encoding="utf-8", errors="replace") as text:
+                sys.stderr.write("".join(text.readlines()[-20:]))
+            progress.say(f"{progress.failed or 'the program'} is not proved: the whole log is {log_path}")
+            return 1
+        os.makedirs(os.path.dirname(built), exist_ok=True)
+        shutil.copy2(f"{folder}/crates/{PROGRAM}/out/{PROGRAM}", f"{built}.new")
+        os.replace(f"{built}.new", built)
     subprocess.run([f"{TOP}/tools/program", "--built", digest], check=True)
-    builder.say(f"built in {builder.elapsed()}")
+    progress.say(f"built in {progress.elapsed()}")
     return 0
+
+
+def main() -> int:
+    # also where the caller ignores interrupts, as a shell does for what it runs in the background
+    for number in SIGNALS:
+        signal.signal(number, interrupt)
+    try:
+        with alone():
+            return prove()
+    except Interrupted:
+        return 130
 
 
 if __name__ == "__main__":

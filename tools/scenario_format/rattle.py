@@ -29,7 +29,7 @@ def parser_names(form: Format) -> str:
             f"//! The names of a scenario. {WRITTEN}\n",
             "ghost use Rattle.std.specs.Prelude.{◌≡◌};\n",
             f"ghost use Rattle.scenario_text.specs.Names.{{{specs}}};\n\n",
-            "use requests::Request;\nuse signals::Disposition;\n\n",
+            "use signals::Disposition;\nuse step_types::Request;\n\n",
             enum("Op", form.ops, "The op of a step."),
             named("op_named", "Op", form.ops, "op_named") + "\n",
             "/// Returns the request with this name in ptrace(2).\n",
@@ -72,7 +72,7 @@ def name_definitions(form: Format) -> str:
         "use Rattle.std.specs.Prelude.{◌∷◌, if◌then◌else◌}\n"
         f"use Rattle.scenario_text.specs.CommonNames.{{{', '.join([common, *kinds])}}}\n"
         "use Rattle.signals.specs.declared.Disposition.TheVariants as dispositions\n"
-        "use Rattle.requests.specs.declared.Request.TheVariants as requests\n" + own
+        "use Rattle.step_types.specs.declared.Request.TheVariants as requests\n" + own
     )
     lookup = (
         "\n-- the value of the text in a table\n"
@@ -110,7 +110,7 @@ def trace_names(form: Format) -> str:
     )
     return (
         f"//! The names of a scenario, as docs/FORMAT.md has them. {WRITTEN}\n"
-        "use event_masks::Call;\nuse requests::{Act, Request, Step};\nuse scenario::StepShape;\nuse signals::Disposition;\n"
+        "use event_masks::Call;\nuse scenario::StepShape;\nuse signals::Disposition;\nuse step_types::{Act, Request, Step};\n"
         "use stop_handlers::Decision;\n\n"
         f"pub(crate) fn op_of(step: &StepShape) -> &'static str {{\n    match step {{\n{ops}    }}\n}}\n\n"
     ) + "\n".join(

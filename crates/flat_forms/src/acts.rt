@@ -3,8 +3,8 @@ ghost use Rattle.std.specs.Prelude.{◌≡◌, ◌<◌, ◌+◌, ◌^◌};
 ghost use Rattle.flat_forms.specs.Numbers.{call_numbered, exit_numbered, set_numbered, act_numbered};
 
 use event_masks::Call;
-use requests::Act;
 use signals::{SigSet, Signal};
+use step_types::Act;
 
 /// Returns the system call with this number: 0 fork, 1 vfork, 2 exec, 3 thr_new, 4 thr_exit, 5 exit with `argument` as
 /// its status, 6 the call whose number `argument` is.

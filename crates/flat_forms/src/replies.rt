@@ -3,11 +3,9 @@ ghost use Rattle.std.specs.Prelude.{◌≡◌, ◌%◌, ◌^◌, length};
 ghost use Rattle.flat_forms.specs.Replies.{blank, flat, flat_info, flat_handled, has_index, event_number, decision_number, passed};
 ghost use Rattle.flat_forms.specs.FlatRows.{number_or_0};
 
-use lwpinfo::{Event, LwpInfo, NumList};
 use pid_blocks::Pid;
-use requests::Reply;
+use step_types::{Event, LwpInfo, NumList, Reply, Status};
 use stop_handlers::{Decision, StopView};
-use wait4::Status;
 
 /// A reply: its kind, and the numbers that this kind has. All others are 0.
 #[repr(C)]

@@ -2,9 +2,8 @@
 ghost use Rattle.std.specs.Prelude.{◌≡◌};
 ghost use Rattle.flat_forms.specs.Numbers.{request_numbered, disposition_numbered, options_numbered};
 
-use requests::Request;
 use signals::Disposition;
-use wait4::Options;
+use step_types::{Options, Request};
 
 // tools/format requests
 /// Returns the request of ptrace(2) with this number in <sys/ptrace.h> of FreeBSD.

@@ -3,8 +3,7 @@ use Rattle.host_lock.proofs.CommonNames.{ℕ, List, Some, Machine, Reply}
 use Rattle.std.specs.Prelude.{None}
 use Rattle.requests.specs.Hosts.{Steps}
 use Rattle.requests.specs.Making.{Makes}
-use Rattle.requests.specs.Plain.{with_handler, map_handler}
-use Rattle.requests.specs.declared.step.Step.{Step}
+use Rattle.step_types.specs.{Plain.map_handler, Plain.with_handler, declared.step.Step.Step}
 use Rattle.stop_handlers.specs.declared.Rule.{Rule}
 
 -- a step that a host made without a handler installs none

@@ -14,9 +14,7 @@ pub use Rattle.host_lock.specs.declared.view.Slot.{Slot}
 pub use Rattle.host_lock.specs.declared.view.Slot.TheVariants.{Away, There}
 pub use Rattle.requests.specs.Isolation.{Users, host_after, reply_of}
 pub use Rattle.requests.specs.Machine.{Machine}
-pub use Rattle.requests.specs.Memory.{is_memory}
-pub use Rattle.requests.specs.Plain.{PlainStep}
-pub use Rattle.requests.specs.declared.Reply.{Reply}
+pub use Rattle.step_types.specs.{Plain.PlainStep, Replies.is_memory, declared.Reply.Reply}
 pub use Rattle.std.proofs.Common.{Bool, List, MatchBool, Some, [], add-one, ap, append-nil, append_assoc, ap₂, arith, cond, drop, drop-cons, eq-eqb, eqb, eqb-true, false, get_or, if◌then◌else◌, inl, inr, leb, length}
 pub use Rattle.std.proofs.Common.{length-append, map, ne_eqb, refl, reverse, rules, set, subst, suc, sym, true, true≢false, vec_capacity, vec_len, zero, ℕ, ⊎_elim, ◌%◌, ◌*◌, ◌++◌, ◌+◌, ◌-◌, ◌<◌, ◌==◌, ◌^◌, ◌∙◌, ◌∷◌, ◌≡◌, ◌≢◌, ◌≤◌}
 pub use Rattle.std.proofs.lemmas.List.{get_or_default, map-append, nil_from_length, reverse-append}

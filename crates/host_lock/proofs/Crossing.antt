@@ -13,8 +13,8 @@ use Rattle.proc_table.specs.contracts.processes.Processes as Processes
 use Rattle.lwp_table.specs.contracts.table.LwpTable as LwpTable
 use Rattle.stop_handlers.specs.declared.handlers.Decider.{Ghosts}
 use Rattle.stop_handlers.specs.contracts.handlers.Handler as Handler
-use Rattle.requests.specs.contracts.Reply as Reply
-use Rattle.requests.specs.contracts.step.Step as Step
+use Rattle.step_types.specs.contracts.Reply as Reply
+use Rattle.step_types.specs.contracts.step.Step as Step
 use Rattle.host_lock.specs.declared.call_log.CallLog.{Ghosts as LogGhosts}
 use Rattle.host_lock.specs.contracts.call_log.Unkept as Unkept
 use Rattle.host_lock.specs.contracts.journal.Entry as Entry

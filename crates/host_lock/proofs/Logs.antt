@@ -1,7 +1,8 @@
 -- A journal that is one entry longer.
 use Rattle.host_lock.proofs.CommonNames.{◌≡◌, ℕ, true, false, eqb, List, [], ◌∷◌, ◌++◌, sym, refl, ap, ◌∙◌, append_assoc, append-nil, filter-append, map-append, Machine, Reply, host_after, reply_of, Users, Entry, asked, replay}
 use Rattle.host_lock.proofs.CommonNames.{IsLegal, entries_of, StartsWith}
-use Rattle.requests.specs.Run.{Asked, replies, last}
+use Rattle.requests.specs.Run.{replies, last}
+use Rattle.step_types.specs.Plain.{Asked}
 use Rattle.pid_blocks.specs.Users.{IsUser}
 
 last_more : (m : Machine) (xs : List Asked) (x : Asked) → last (xs ++ x ∷ []) m ≡ host_after x.uid x.step (last xs m)

@@ -1,11 +1,11 @@
 -- What is known of a step that found memory, and of a list that found none.
 use Rattle.host_lock.proofs.CommonNames.{⊎_elim, ◌≡◌, ◌≢◌, ℕ, true, false, sym, ap, ◌∙◌, true≢false, PlainStep, Reply, reply_of, host_after, Machine, is_memory}
 use Rattle.pid_blocks.specs.declared.Errno.TheVariants as errno
-use Rattle.requests.specs.declared.Reply.TheVariants as reply
-use Rattle.requests.specs.Refusals.{is_listing}
+use Rattle.step_types.specs.declared.Reply.TheVariants as reply
+use Rattle.step_types.specs.Replies.{is_listing}
 use Rattle.requests.specs.Sound.{sound}
 use Rattle.requests.proofs.RefusalsChangeNothing.{listing_same}
-use Rattle.requests.proofs.Replies.{other, cases_memory}
+use Rattle.step_types.proofs.Replies.{other, cases_memory}
 
 -- what a step that found memory did
 pub steps : (u : ℕ) (s : PlainStep) (m after : Machine) (r : Reply) → is_memory r ≡ false → (r ≢ reply.Errno errno.ENOMEM → (after ≡ host_after u s m) × (r ≡ reply_of u s m))

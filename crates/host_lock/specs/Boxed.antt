@@ -1,6 +1,7 @@
 -- Steps whose handlers are on the heap, as the steps that they stand for.
 use Rattle.std.specs.{Prelude.{◌≡◌, List, refl}, Global.Box}
-use Rattle.{stop_handlers.specs.declared.Rule.Rule, requests.specs.{declared.step.Step.Step, Plain.{PlainStep, map_handler}}}
+use Rattle.{stop_handlers.specs.declared.Rule.Rule}
+use Rattle.step_types.specs.{Plain.PlainStep, Plain.map_handler, declared.step.Step.Step}
 
 abbrev pub SmallStep : Type 0
 SmallStep = Step (Box (List Rule))

@@ -1,7 +1,8 @@
 -- The rule of the table, and the knowledge that each step gives.
 use Rattle.std.specs.Prelude.{◌≡◌, ◌⊎◌, ℕ, zero, suc, ◌+◌, ◌-◌, ◌*◌, ◌<◌, ◌≤◌, ◌==◌, List, [], ◌∷◌, ◌++◌, length, take, drop, leb, Option, Some, None, IfSome, MatchBool, true, if◌then◌else◌}
 use Rattle.std.specs.declared.snapshot.Snapshot.{Snapshot}
-use Rattle.{atomic_table.specs.{Table.{State, Me}, Seated.TableId}, requests.specs.{Machine.{Machine, empty}, Plain.PlainStep, declared.Reply.Reply, Memory.is_memory}}
+use Rattle.{atomic_table.specs.{Table.{State, Me}, Seated.TableId}, requests.specs.{Machine.{Machine, empty}}}
+use Rattle.step_types.specs.{Plain.PlainStep, Replies.is_memory, declared.Reply.Reply}
 use Rattle.host_lock.specs.{declared.{journal.Entry.Entry, view.Slot.{Slot, TheVariants.{There, Away}}}, Views.{Stage, Idle, Waiting, Holding, Counted, Account, View, spent}, History.History}
 use Rattle.host_lock.specs.{History.history, Limits.{max_sessions, max_calls}, Journal.{IsLegal, entries_of, StartsWith, entry, next_entry}}
 use mathlib.Core.Option.{none, some}

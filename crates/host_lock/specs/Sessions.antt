@@ -1,6 +1,7 @@
 -- A session and the shared host, as contracts see them.
 use Rattle.std.specs.Prelude.{◌≡◌, ℕ, ◌+◌, ◌<◌, ◌≤◌, length, map, Some, List, [], ◌∷◌, ◌++◌, MatchBool}
-use Rattle.{atomic_table.specs.Seated.TableId, requests.specs.{Machine.Machine, Plain.PlainStep, declared.Reply.Reply, Memory.is_memory}, host_lock.specs.declared.journal.Entry.Entry}
+use Rattle.{atomic_table.specs.Seated.TableId, requests.specs.{Machine.Machine}, host_lock.specs.declared.journal.Entry.Entry}
+use Rattle.step_types.specs.{Plain.PlainStep, Replies.is_memory, declared.Reply.Reply}
 use Rattle.host_lock.specs.{Journal.{IsLegal, StartsWith, entries_of, entry}, Limits.max_sessions, Rule.account, Views.{Idle, Account, View}}
 
 pub record SessionData : Type 0 where

@@ -1,7 +1,7 @@
 //! What a shared host keeps of its answered calls.
 
 ghost use Rattle.std.specs.Prelude.{⊤, ◌≡◌, ◌<◌, [], ◌∷◌, ◌++◌, List, true, IfOk, OnOk, OnErr, vec_len, vec_capacity};
-ghost use Rattle.requests.specs.Refusals.{is_listing};
+ghost use Rattle.step_types.specs.Replies.{is_listing};
 ghost use Rattle.host_lock.specs.Journal.{entry};
 ghost use Rattle.host_lock.specs.declared.journal.Entry.{Entry};
 

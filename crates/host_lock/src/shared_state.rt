@@ -2,8 +2,8 @@
 
 ghost use Rattle.std.specs.Prelude.{◌≡◌, ℕ, [], ◌∷◌, ◌++◌, List, true, false};
 ghost use Rattle.requests.specs.Isolation.{reply_of, host_after};
-ghost use Rattle.requests.specs.Memory.{is_memory};
-ghost use Rattle.requests.specs.Refusals.{is_listing};
+ghost use Rattle.step_types.specs.Replies.{is_memory};
+ghost use Rattle.step_types.specs.Replies.{is_listing};
 ghost use Rattle.host_lock.specs.Journal.{replay, entry, IsLegal};
 ghost use Rattle.host_lock.specs.History.{history};
 

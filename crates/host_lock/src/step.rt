@@ -2,9 +2,9 @@
 
 ghost use Rattle.std.specs.Prelude.{◌≡◌, List};
 ghost use Rattle.stop_handlers.specs.declared.Rule.{Rule};
-ghost use Rattle.requests.specs.declared.step.Step.{Step};
+ghost use Rattle.step_types.specs.declared.step.Step.{Step};
 ghost use Rattle.requests.specs.Hosts.{Steps};
-ghost use Rattle.requests.specs.Plain.{PlainStep, map_handler};
+ghost use Rattle.step_types.specs.Plain.{PlainStep, map_handler};
 ghost use Rattle.host_lock.specs.Boxed.{map_same, own_step};
 ghost use Rattle.std.proofs.Common.{refl, sym};
 

@@ -1,8 +1,8 @@
 //! The names of a scenario, as docs/FORMAT.md has them. Written by `tools/format` from format/scenario.toml.
 use event_masks::Call;
-use requests::{Act, Request, Step};
 use scenario::StepShape;
 use signals::Disposition;
+use step_types::{Act, Request, Step};
 use stop_handlers::Decision;
 
 pub(crate) fn op_of(step: &StepShape) -> &'static str {

@@ -1,8 +1,8 @@
 //! The steps of each user.
 use pid_blocks::Uid;
-use requests::Step;
 use scenario::{Scenario, StepShape, USERS};
 use std::alloc::{AllocError, Global};
+use step_types::Step;
 use stop_handlers::Policy;
 
 /// The index of no step. A scenario has fewer steps.

@@ -4,12 +4,11 @@ use crate::members::{push_flags, push_name, push_nonzero, push_number, push_sign
 use crate::names::{act_name, action_name, call_name, decision_name, op_of, request_name};
 use event_masks::{Call, EventMask};
 use json::Writer;
-use requests::{Act, Request, Step};
 use scenario::StepShape;
 use signals::Disposition;
 use std::alloc::AllocError;
+use step_types::{Act, Options, Request, Step};
 use stop_handlers::{Decision, Policy, Rule};
-use wait4::Options;
 
 fn push_ptrace(
     out: &mut Writer,

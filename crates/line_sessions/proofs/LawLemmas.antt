@@ -1,8 +1,9 @@
 -- Sessions compared with scenarios.
 use Rattle.std.{proofs.Common.{◌≡◌, ℕ, ◌+◌, ◌==◌, count_by, List, [], ◌∷◌, ◌++◌, map, Option, Some, None, refl, ap, subst, arith}, specs.Prelude.{Ok, Err}}
 use Rattle.open_sessions.proofs.LineLemmas.{one_result}
-use Rattle.{std.specs.{Prelude.if◌then◌else◌, List.AllByRecursion}, requests.specs.{declared.Reply.Reply, Isolation.{Ran, Users, host_after, reply_of}, Machine.{Machine}}}
-use Rattle.{requests.specs.Run.{Asked, replies}, visibility.{specs.Runs.{told, Did}}}
+use Rattle.{std.specs.{Prelude.if◌then◌else◌, List.AllByRecursion}, requests.specs.{Isolation.{Ran, Users, host_after, reply_of}, Machine.{Machine}}}
+use Rattle.step_types.specs.{Plain.Asked, declared.Reply.Reply}
+use Rattle.{requests.specs.Run.{replies}, visibility.{specs.Runs.{told, Did}}}
 use Rattle.{scenario_text.specs.{OneStep.{IsStep}}, scenario.specs.declared.style.Style.Style}
 use Rattle.{scenario.specs.{Lines.{Answered, line, lines_after, text_of}, Runs.paired}, open_sessions.specs.Answers.{LineReply, AnswersLine, step, refused}, line_sessions.specs.Sessions.AnswersLines}
 use Rattle.line_sessions.specs.{Sessions.text_after, Laws.{AreSteps, IsMade, StepsIn, replies_in, none as no_step, step as a_step, refused as no_step_here}}

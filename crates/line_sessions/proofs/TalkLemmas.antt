@@ -2,7 +2,8 @@
 use Rattle.std.proofs.{Common.{◌≡◌, ◌≤◌, ◌<◌, ◌+◌, ℕ, List, [], ◌∷◌, ◌++◌, length, take, Option, refl, sym, ap, ◌∙◌, inl, inr, arith, take_all, ◌⊎◌}, Math.Seq.take-append-add}
 use Rattle.std.{proofs.lemmas.{Bool.cases_lt, List.{append_assoc, append-nil, length-take}}, specs.{Prelude.{Result, Ok, Err, IfOk, IfSome}, Io.KnownBytes.{Appends, Consumes, Keeps, IsAtEnd}}}
 use Rattle.byte_io.{specs.{declared.reading.LineEnd.{LineEnd, TheVariants.{Feed, Input}}, Lines.{lines_in, NoFeed, Loses, end_bytes}}, proofs.LineLemmas.{Whole, whole_start, whole_line, whole_more}}
-use Rattle.{byte_io.proofs.{LineLemmas.{lines_last, lines_one}, ReadLemmas.consumes_more}, pid_blocks.specs.Users.IsUser, requests.specs.{Machine.Machine, Run.Asked}}
+use Rattle.{byte_io.proofs.{LineLemmas.{lines_last, lines_one}, ReadLemmas.consumes_more}, pid_blocks.specs.Users.IsUser, requests.specs.{Machine.Machine}}
+use Rattle.step_types.specs.Plain.{Asked}
 use Rattle.scenario.{proofs.{LineLemmas.{Counted, counted_more, counted_number}, WriteLemmas.{appends_more, appends_kept}}, specs.{declared.style.Style.Style, Lines.line}}
 use Rattle.{scenario_text.specs.{declared.fault.Fault.Fault, OneStep.{IsStep, too_long, no_value, value, max_step_bytes}}, line_sessions.specs.declared.fault.ServeError.{ServeError, TheVariants.Read}}
 use Rattle.line_sessions.specs.{declared.fault.ServeError.TheVariants.{Write, Memory, TooManyLines}, Sessions.{AnswersLines, text_after, text_of, Talk, Serves}, Turns.{kept, Told}}

@@ -1,6 +1,7 @@
 -- The answers of a session, compared with those of scenarios and of hosts that users share.
 use Rattle.std.specs.{Prelude.{◌≡◌, false, List, [], ◌∷◌, ℕ, map, filter_map, option_map, Ok, Err, IfOk}, List.{AllByRecursion, AllZip}, Result.result_ok}
-use Rattle.{requests.specs.{declared.Reply.Reply, Isolation.Private, Machine.{Machine, empty}, Memory.is_memory, Run.Asked}, trace_stop.specs.declared.Settings.Settings, visibility.specs.Runs.told}
+use Rattle.{requests.specs.{Isolation.Private, Machine.{Machine, empty}}, visibility.specs.Runs.told}
+use Rattle.step_types.specs.{Plain.Asked, Replies.is_memory, declared.Reply.Reply, declared.Settings.Settings}
 use Rattle.{scenario_text.specs.{declared.fault.Fault.Fault, OneStep.IsStep}, scenario.specs.{declared.style.Style.Style, Lines.text, Runs.answers_of}, open_sessions.specs.Answers.LineReply}
 use Rattle.line_sessions.specs.Sessions.{AnswersLines, text_of}
 

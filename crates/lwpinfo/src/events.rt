@@ -1,33 +1,9 @@
 ghost use Rattle.std.specs.Prelude.{◌≡◌};
-ghost use Rattle.lwpinfo.specs.Info.{lwp_info, event_name};
+ghost use Rattle.lwpinfo.specs.Info.{lwp_info};
 
 use crate::{Event, LwpInfo};
 use event_masks::StopFlags;
 use lwp_table::LwpData;
-use std::fmt;
-
-impl Event {
-    /// Returns the event's name, NONE or SIGNAL.
-    pub fn name(&self) -> &'static str
-        ensures { result.now ≡ event_name self.now }
-    {
-        match self {
-            Event::Nothing => "NONE",
-            Event::Signal => "SIGNAL",
-        }
-    }
-}
-
-/// Prints the event's name.
-impl fmt::Display for Event {
-    ghost use Rattle.std.specs.Prelude.{Some};
-
-    ghost output = { λ e. Some (event_name e) };
-
-    fn fmt<W: fmt::Write>(&self, f: &mut fmt::Formatter<W>) -> fmt::Result {
-        f.write_str(self.name())
-    }
-}
 
 /// Returns what PT_LWPINFO of ptrace(2) shows of an LWP, which reports its process's stop or doesn't.
 pub fn lwp_info(reports: bool, lwp: &LwpData) -> LwpInfo

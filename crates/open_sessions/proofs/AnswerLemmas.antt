@@ -1,6 +1,7 @@
 -- The answers of a session, from its steps.
 use Rattle.std.{proofs.{Common.{arith, ◌≡◌, ◌≢◌, ◌<◌, ℕ, ◌-◌, ◌+◌, List, Option, Some, refl, ap, ◌∙◌, length, slice_set, slice_index}, lemmas.List.get_or-set_same}, specs.Prelude.{Result, Ok}}
-use Rattle.{std.specs.Prelude.{Err, OnOk}, pid_blocks.specs.Users.IsUser, requests.specs.{Hosts.Steps as HostSteps, declared.Reply.Reply, Machine.Machine, Plain.PlainStep, Run.Asked}}
+use Rattle.{std.specs.Prelude.{Err, OnOk}, pid_blocks.specs.Users.IsUser, requests.specs.{Hosts.Steps as HostSteps, Machine.Machine}}
+use Rattle.step_types.specs.{Plain.Asked, Plain.PlainStep, declared.Reply.Reply}
 use Rattle.{visibility.proofs.Steps.did, scenario_text.specs.{declared.fault.Fault.{Fault, TheVariants.Memory}, OneStep.{IsStep, AnswersBy}}, scenario.specs.declared.style.Style.Style}
 use Rattle.{scenario.specs.Lines.{Answered, line}, open_sessions.specs.{Answers.{LineReply, step, refused, answer_text}, Calls.{OpenSession, Steps, Answers}}}
 

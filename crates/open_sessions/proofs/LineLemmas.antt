@@ -1,5 +1,6 @@
 -- A line is one step, or has one fault; and so it is a step of one user.
-use Rattle.{std.proofs.Common.{◌+◌, ◌-◌, ◌^◌, slice_index, ◌≡◌, List, ℕ, Result, Ok, Err, ap, refl, arith}, requests.specs.Run.Asked, scenario_text.specs.declared.fault.Fault.Fault}
+use Rattle.{std.proofs.Common.{◌+◌, ◌-◌, ◌^◌, slice_index, ◌≡◌, List, ℕ, Result, Ok, Err, ap, refl, arith}, scenario_text.specs.declared.fault.Fault.Fault}
+use Rattle.step_types.specs.Plain.{Asked}
 use Rattle.{scenario_text.specs.{OneStep.{IsStep, too_long, no_value, value}, Scenarios.numbered, Steps.step_of}}
 
 pub one_result : (bytes : List ℕ) (r q : Result Asked Fault) → IsStep bytes r → IsStep bytes q → r ≡ q

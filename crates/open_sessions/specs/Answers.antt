@@ -1,6 +1,7 @@
 -- The answer to a line, and its text.
 use Rattle.std.specs.Prelude.{unwrap_or, option_map, ℕ, ◌-◌, ◌+◌, List, [], ◌∷◌, ◌++◌, Option, Some, None, Result, Ok, Err, codes, take, drop, length, slice_index, slice_set}
-use Rattle.{pid_blocks.specs.Users.IsUser, requests.specs.{declared.Reply.{Reply, TheVariants.{Lwps, Pids}}, Machine.Machine, Run.Asked}, visibility.specs.Runs.{told, Did}}
+use Rattle.{pid_blocks.specs.Users.IsUser, requests.specs.{Machine.Machine}, visibility.specs.Runs.{told, Did}}
+use Rattle.step_types.specs.{Plain.Asked, declared.Reply.Reply, declared.Reply.TheVariants.Lwps, declared.Reply.TheVariants.Pids}
 use Rattle.{reply_json.specs.{Objects.json_text, Replies.refusal_value}, scenario_text.specs.{declared.fault.Fault.Fault, Faults.fault_name, OneStep.IsStep}, scenario.specs.declared.style.Style.Style}
 use Rattle.scenario.specs.{declared.style.Style.TheVariants.{Words, Json}, Lines.{Answered, line}}
 

@@ -1,6 +1,7 @@
 -- What an open session is, and what its calls do.
 use Rattle.std.specs.Prelude.{◌≡◌, ℕ, ◌-◌, ◌+◌, ◌^◌, List, Option, Some, Ok, slice_index}
-use Rattle.{pid_blocks.specs.Users.IsUser, requests.specs.{Hosts.Steps as HostSteps, declared.Reply.Reply, Machine.Machine, Plain.PlainStep, Run.Asked}, scenario.specs.declared.style.Style.Style}
+use Rattle.{pid_blocks.specs.Users.IsUser, requests.specs.{Hosts.Steps as HostSteps, Machine.Machine}, scenario.specs.declared.style.Style.Style}
+use Rattle.step_types.specs.{Plain.Asked, Plain.PlainStep, declared.Reply.Reply}
 use Rattle.{scenario_text.specs.OneStep.IsStep, open_sessions.specs.{Answers.{LineReply, AnswersLine, answer_text, reply_text, made_after}}}
 
 -- a host, how many answers each of the 64 users has had, and the last answer

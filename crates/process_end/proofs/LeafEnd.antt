@@ -4,7 +4,7 @@ use Rattle.process_end.proofs.CommonNames.{subst, ◌<◌, count_by, true≢fals
 use Rattle.process_end.proofs.CommonNames.{lost_signals, end, end_each, end_of, is_live_of, Linked, MidStepInvariant, meets, is_doomed, dooms, notifies_of, traces_live, end_alone, LeafEnd, DetachedEnd, LeafEndsNoOther}
 use Rattle.process_end.proofs.CommonNames.{LeafEndLeavesFewer, kills, spares, and_left, All-imply, All-both, All-any, any_holds, any_more, none_of, find_some, count-cons, count_more, live_named, live_found, any_by_number}
 use Rattle.process_end.proofs.CommonNames.{listed, meets-suc, meets-zero, exists, filter_map_same, any_same, any_edited, count_edited, each_same, own_rows, If_more}
-use Rattle.trace_stop.specs.declared.Settings.{Settings}
+use Rattle.step_types.specs.declared.Settings.{Settings}
 use Rattle.trace_stop.specs.End.{process_after, lwp_after, left_alone}
 use Rattle.process_end.proofs.Told.{any_but, heard, notified_row, fallen, turned, turned_lwp, told, told_by, tells, told-is, end_turned, turned_keeps}
 use Rattle.process_end.proofs.EndsTwice.{alone}

@@ -1,7 +1,7 @@
 -- From a process that ends down to its tracees, where a debugger's end kills and where it detaches.
 use Rattle.std.specs.Prelude.{◌≡◌, ◌==◌, ◌&&◌, ◌||◌}
 use Rattle.trace_stop.specs.CommonNames.{ℕ, Bool, true, false, ltb, Option, Some, option_map_or, list_any, ProcData, is_live, traces, Rows}
-use Rattle.trace_stop.specs.declared.Settings.{Settings}
+use Rattle.step_types.specs.declared.Settings.{Settings}
 use Rattle.trace_stop.specs.End.{tracer_of, dooms, lost_signals}
 use Rattle.trace_stop.specs.Sound.{is_live_at}
 

@@ -1,7 +1,7 @@
 -- The end of a process as a sequence of ends of processes without live tracees.
 use Rattle.std.specs.Prelude.{◌≡◌, ◌<◌, ◌==◌, ◌&&◌, ◌||◌}
 use Rattle.trace_stop.specs.CommonNames.{ℕ, Bool, true, false, Some, not, count_by, list_any, SIGKILL, ProcData, process_of, is_live, traces, Rows, is_process}
-use Rattle.trace_stop.specs.declared.Settings.{Settings}
+use Rattle.step_types.specs.declared.Settings.{Settings}
 use Rattle.trace_stop.specs.End.{dooms, left_alone, end_each, end}
 use Rattle.trace_stop.specs.Sound.{is_live_at, is_end}
 use Rattle.trace_stop.specs.Facts.{MidStepInvariant, IsSound}

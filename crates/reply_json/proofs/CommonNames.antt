@@ -7,7 +7,7 @@ pub use Rattle.event_masks.specs.Names.{names_of}
 pub use Rattle.json.proofs.Printed.Trees.{value-json_tokens}
 pub use Rattle.json.specs.{Json.Json, Json.document, Json.if_last, Json.max_depth, Json.string, Json.value, Tree.depth, Tree.items_tokens, Tree.json_tokens, Tree.members_depth, Tree.members_tokens}
 pub use Rattle.json.specs.{Lex.tokens, Print.print, Token.Token, Token.boolean, Token.end_object, Token.key, Value.items_of}
-pub use Rattle.requests.specs.declared.Reply.{Reply}
+pub use Rattle.step_types.specs.declared.Reply.{Reply}
 pub use Rattle.signals.specs.{Names.Row, Names.signal_name, Sets.members, Table.is_signal}
 unfoldable pub use Rattle.signals.specs.Names.{table}
 pub use Rattle.reply_json.specs.Objects.{Member, json_text, member_tokens, members_of, natural, numbers_of, strings_of}

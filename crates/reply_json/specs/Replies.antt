@@ -3,14 +3,13 @@ use Rattle.std.specs.Prelude.{ℕ, true, ◌==◌, List, [], ◌∷◌, ◌++◌
 use Rattle.pid_blocks.specs.Blocks.{errno_name, errno_number}
 use Rattle.signals.specs.{Names.signal_name, Sets.members}
 use Rattle.event_masks.specs.{declared.StopFlags.StopFlags, Names.event_table, Names.stop_table, Names.names_of}
-use Rattle.lwpinfo.specs.{declared.LwpInfo.LwpInfo, Info.event_name}
-use Rattle.wait4.specs.{declared.StatusKind.StatusKind, Status.word, Status.ended}
-use Rattle.wait4.specs.declared.StatusKind.TheVariants.{Exited, Signaled, Stopped, Continued}
+use Rattle.step_types.specs.{Events.event_name, Status.ended, Status.word, declared.LwpInfo.LwpInfo, declared.Reply.Reply, declared.StatusKind.StatusKind}
+use Rattle.step_types.specs.{declared.StatusKind.TheVariants.Continued, declared.StatusKind.TheVariants.Exited, declared.StatusKind.TheVariants.Signaled}
+use Rattle.step_types.specs.{declared.StatusKind.TheVariants.Stopped}
 use Rattle.stop_handlers.specs.{declared.Decision.Decision, declared.StopView.StopView}
-use Rattle.requests.specs.declared.Reply.{Reply}
 use Rattle.reply_json.specs.Objects.{Json, null, boolean, string, Token, json_tokens, Member, object_of, natural, numbers_of, strings_of, json_text}
 use Rattle.stop_handlers.specs.declared.Decision.TheVariants as decision
-use Rattle.requests.specs.declared.Reply.TheVariants as reply
+use Rattle.step_types.specs.declared.Reply.TheVariants as reply
 
 -- a signal: its name as a member with the given name, and its number
 abbrev pub named_signal : List ℕ → ℕ → List Member

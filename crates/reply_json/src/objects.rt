@@ -3,7 +3,7 @@ ghost use Rattle.std.specs.Prelude.{◌≡◌, ◌∷◌, ◌++◌, [], codes, S
 ghost use Rattle.json.specs.Json.{document};
 ghost use Rattle.json.specs.Lex.{tokens};
 ghost use Rattle.json.specs.Print.{print};
-ghost use Rattle.requests.specs.declared.Reply.TheVariants as reply;
+ghost use Rattle.step_types.specs.declared.Reply.TheVariants as reply;
 ghost use Rattle.reply_json.specs.Objects.{json_text, member_tokens, natural, object_of, Puts};
 ghost use Rattle.reply_json.specs.Replies.{view_members, index_of, decision_members, head_members, reply_word, reply_members, reply_value, reply_tokens, reply_json, refusal_value};
 
@@ -14,12 +14,11 @@ use crate::stops::{push_at, push_decision, push_index, push_info, push_stop_flag
 use event_masks::StopFlags;
 use json::Writer;
 use pid_blocks::{Errno, Pid, Tid, Uid};
-use requests::Reply;
 use signals::Signal;
 use std::alloc::{AllocError, Global};
 use std::mem;
+use step_types::{Reply, Status};
 use stop_handlers::{Decision, StopView};
-use wait4::Status;
 
 /// The initial capacity for the text of a refusal, in bytes.
 const ROOM: usize = 256;

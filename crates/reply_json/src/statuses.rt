@@ -1,8 +1,8 @@
 //! Signals and wait statuses.
 ghost use Rattle.std.specs.Prelude.{◌≡◌};
 ghost use Rattle.signals.specs.Names.{signal_name};
-ghost use Rattle.wait4.specs.declared.StatusKind.TheVariants.{Continued};
-ghost use Rattle.wait4.specs.Status.{word, ended};
+ghost use Rattle.step_types.specs.declared.StatusKind.TheVariants.{Continued};
+ghost use Rattle.step_types.specs.Status.{word, ended};
 ghost use Rattle.reply_json.specs.Objects.{member_tokens, Puts};
 ghost use Rattle.reply_json.specs.Replies.{named_signal, status_members, word_members};
 
@@ -10,7 +10,7 @@ use crate::members::{push_number, push_string};
 use json::Writer;
 use signals::Signal;
 use std::alloc::AllocError;
-use wait4::{Status, StatusKind};
+use step_types::{Status, StatusKind};
 
 /// Writes a signal: its name as the member `name`, and its number.
 pub(crate) fn push_signal(out: &mut Writer, name: &str, signal: Signal) -> Result<(), AllocError>

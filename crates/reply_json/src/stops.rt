@@ -9,9 +9,9 @@ use crate::members::{push_number, push_string};
 use crate::statuses::push_signal;
 use event_masks::StopFlags;
 use json::Writer;
-use lwpinfo::LwpInfo;
 use signals::Pass;
 use std::alloc::AllocError;
+use step_types::LwpInfo;
 use stop_handlers::{Decision, StopView};
 
 /// Writes the flags of a stop.

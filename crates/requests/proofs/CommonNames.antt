@@ -49,19 +49,20 @@ pub use Rattle.row_isolation.proofs.IsolationRelation.{Kept, Sim, at_number, eac
 pub use Rattle.wait4.proofs.SoundAfterCollect.{by_kept, collect_sound}
 pub use Rattle.requests.specs.Actors.{HasLwp, IsActing}
 pub use Rattle.requests.specs.Calls.{collect_reply, is_refused, list, sigaction, spawn, spawn_with, wait}
-pub use Rattle.requests.specs.Handle.{decided, done, handled_by, handles, handles_status, handles_stop, install, no_options, policies_in, policies_of, view_of, handle}
+pub use Rattle.requests.specs.Handle.{decided, done, handled_by, handles, handles_status, handles_stop, install, policies_in, policies_of, view_of, handle}
+pub use Rattle.step_types.specs.{Plain.caller_of, Plain.installs, Replies.is_memory, Replies.is_refusal, Status.no_options}
 pub use Rattle.requests.specs.Hosts.{Steps, Tries, machine_of}
 pub use Rattle.requests.specs.Isolation.{Alone, Apart, Debugger, KeepsApart, OneStep, OtherStep, OwnRun, ApartInASoundHost, TwoLists, Users, host_after, own_replies, own_view, replies_to, reply_of}
 pub use Rattle.requests.specs.Laws.{SoundKept, SoundRuns, act_fits, step_fits}
 pub use Rattle.requests.specs.Leave.{Numbers, child_stop, due_at_birth, exec_rows, exit_stop, exits_lwp, forked, forks, in_mode, leaves, makes_lwp, room_for_lwp, room_for_process, with_child}
 pub use Rattle.requests.specs.Machine.{After, Installed, Machine, after, empty, installed_by, outcome_of}
-pub use Rattle.requests.specs.Memory.{Attempts, attempted_reply, is_memory, is_refusal, may_want, takes_memory}
+pub use Rattle.requests.specs.Memory.{Attempts, attempted_reply, may_want, takes_memory}
 pub use Rattle.requests.specs.Outcome.{Gives, Outcome, answers, refuses, stops_or, stops_with, trap}
 pub use Rattle.requests.specs.Ptrace.{about, attach, bad_argument, closes_chain, command, commands, commands_stopped, continues_with, does, is_attach, is_trace_me, not_stepping, ptrace, set_mask}
 pub use Rattle.requests.specs.Ptrace.{shows_info, stepping, stop_first, suspend, switched, target_of, told_stop, trace_me, traced_by, with_signal}
 pub use Rattle.requests.specs.Reach.{is_which, kill, next_other, post_all, post_if_live, reach, reached}
 pub use Rattle.requests.specs.Sound.{sound, sound_installed}
-pub use Rattle.requests.specs.Step.{caller_of, calls, checked, installs, step, step_of, uncalled}
+pub use Rattle.requests.specs.Step.{calls, checked, step, step_of, uncalled}
 pub use Rattle.requests.specs.Turn.{acts, computes, due_or_more, due_stop, in_user_mode, job_stops, next_signal, plain, raises, signal_or_act, takes, takes_by_default, takes_untraced, turn, turn_by}
 pub use Rattle.requests.specs.Turn.{turn_of, turn_seen, waits, without_signal}
 pub use Rattle.requests.specs.Callers.{IsCaller, Calls, Barred}

@@ -10,7 +10,7 @@ use Rattle.requests.proofs.IsolationLaws.{other_step}
 use Rattle.requests.proofs.SoundHostIsApart.{users_are_apart_in_a_sound_host}
 use Rattle.requests.proofs.Outcomes.{Lives}
 use Rattle.requests.proofs.SoundAfterCall.{called, is_caller}
-use Rattle.requests.proofs.Replies.{cases_memory, other}
+use Rattle.step_types.proofs.Replies.{cases_memory, other}
 use Rattle.requests.proofs.RefusalsChangeNothing.{no_step_runs_out_of_memory, a_refusal_changes_nothing, step_fair}
 use Rattle.requests.proofs.StaysSound.{sound_kept}
 use Rattle.requests.proofs.PerStep.{uncalled_after, calls_after}

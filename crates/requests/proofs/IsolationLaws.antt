@@ -4,7 +4,8 @@ use Rattle.requests.proofs.CommonNames.{pid_block, tid_block, slot, ProcData, Lw
 use Rattle.requests.proofs.CommonNames.{is_live_at, after, turn, checked, step, GoodProc, LiveOwner, Closed, Debugger, Apart, reply_of, host_after, replies_to, Users, KeepsApart, Alone, OneStep}
 use Rattle.requests.proofs.CommonNames.{OtherStep, TwoLists, OwnRun, own_replies, own_view, filter_only, filter-all, All-where, every, Kept, Sim, own, own_lwp, not_own, either, owns_block, lwps_seen}
 use Rattle.requests.proofs.CommonNames.{find_passes, AllByRecursion, choose_both, All-imply, step_of}
-use Rattle.requests.specs.Run.{Asked, last, replies, asked_by}
+use Rattle.requests.specs.Run.{last, replies, asked_by}
+use Rattle.step_types.specs.Plain.{Asked}
 use Rattle.requests.specs.View.{View, view, with_view, alone}
 use Rattle.requests.proofs.IsolationOfNewRows.{answered, owns_same}
 use Rattle.requests.proofs.IsolationOfTurns.{turn_same}

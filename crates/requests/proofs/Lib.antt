@@ -3,7 +3,6 @@ pub mod Room
 pub mod SoundWithoutEnded
 pub mod Born
 pub mod Walk
-pub mod Replies
 pub mod SoundAfterCall
 pub mod SoundAfterKill
 pub mod Disposing
@@ -32,4 +31,3 @@ pub mod SoundAfterTurn
 pub mod SoundAfterHandle
 pub mod StaysSound
 pub mod PerStep
-pub mod Joins

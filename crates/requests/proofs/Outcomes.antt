@@ -11,7 +11,7 @@ use Rattle.requests.proofs.CommonNames.{PTRACE_FORK, EAGAIN, EINVAL, ESRCH, All-
 use Rattle.requests.proofs.CommonNames.{entry_flags, child_stop, change_lwp, is_refusal, is_memory, told, handled_by, no_options, rows_after, collect, negsuc, sound, install, installed_by, length, ap}
 use Rattle.requests.proofs.CommonNames.{may_end, any_forward, or_true, list_any-append}
 use Rattle.wait4.specs.Collect.{collected}
-use Rattle.requests.specs.Refusals.{is_listing}
+use Rattle.step_types.specs.Replies.{is_listing}
 use Rattle.requests.proofs.SoundWithoutEnded.{answers_same}
 use Rattle.requests.proofs.SoundAfterCall.{choose}
 

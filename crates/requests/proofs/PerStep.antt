@@ -5,7 +5,7 @@ use Rattle.requests.proofs.CommonNames.{step_fits, sound, Steps, Rule, bare, wit
 use Rattle.requests.proofs.CommonNames.{policies_of, handles, no_options, kill, ptrace, collect, reported, rows_after, negsuc, sigaction, list, wait, room_for_process, spawn, IsCaller, handle}
 use Rattle.requests.specs.Making.{Makes}
 use Rattle.requests.proofs.SoundWithoutEnded.{rows_sound, after_sound}
-use Rattle.requests.proofs.Replies.{other}
+use Rattle.step_types.proofs.Replies.{other}
 use Rattle.requests.proofs.IsolationOfTurns.{turn_same}
 use Rattle.requests.proofs.IsolationOfSteps.{spawn_same, list_same, sigaction_same, wait_same, kill_same, ptrace_same, handle_same}
 use Rattle.requests.proofs.Born.{spawn_sound}

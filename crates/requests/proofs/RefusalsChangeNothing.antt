@@ -1,7 +1,8 @@
 -- A refused step changes nothing, none is out of memory, and each ends only processes that it may end.
 use Rattle.requests.proofs.CommonNames.{ℕ, ◌||◌, Option, Some, None, refl, sym, ap, ◌∙◌, true≢false, ESRCH, ProcData, seen_process, PlainStep, Reply, answers, refuses, arith, nat_tests}
 use Rattle.requests.proofs.CommonNames.{room_for_process, turn, spawn, Machine, is_refusal, is_memory, checked, step, step_of, subst, Step, may_end, or_true}
-use Rattle.requests.specs.Refusals.{RefusalChangesNothing, NoReportChangesNothing, NoStepRunsOutOfMemory, ListingSame, is_listing}
+use Rattle.requests.specs.Refusals.{RefusalChangesNothing, NoReportChangesNothing, NoStepRunsOutOfMemory, ListingSame}
+use Rattle.step_types.specs.Replies.{is_listing}
 use Rattle.requests.proofs.SoundAfterCall.{choose}
 use Rattle.requests.proofs.PerStep.{by_step, calls_fair}
 use Rattle.requests.proofs.Outcomes.{is_nothing, keeps, left, turn_fair, spawn_fair, hosted, FairStep}

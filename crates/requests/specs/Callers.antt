@@ -2,7 +2,8 @@
 use Rattle.std.specs.Prelude.{◌≡◌, ◌≢◌}
 use Rattle.requests.specs.CommonNames.{ℕ, true, Some, Errno, ProcData, process_of, is_live, is_run, Rows, seen_process, PlainStep, Reply}
 use Rattle.requests.specs.Outcome.{answers}
-use Rattle.requests.specs.Step.{Machine, after, step, caller_of}
+use Rattle.requests.specs.Step.{Machine, after, step}
+use Rattle.step_types.specs.Plain.{caller_of}
 
 -- a process of the user that runs
 pub record IsCaller (user : ℕ) (p : ProcData) (rows : Rows) : Type 0 where

@@ -36,23 +36,17 @@ pub use Rattle.trace_stop.specs.End.{end, end_each, left_alone, lwp_after, meets
 pub use Rattle.trace_stop.specs.Post.{continues, notified, notifies, posted, posted_lwp, posted_process, settle, settled_lwp, settled_process, unwanted}
 pub use Rattle.trace_stop.specs.Sound.{is_due, is_end, is_live_at, is_live_of, mode_fits, names_own, sound_rows, status_fits}
 pub use Rattle.trace_stop.specs.Stop.{detach, post, resume, stop, tracers}
-pub use Rattle.trace_stop.specs.declared.Settings.{Settings}
+pub use Rattle.step_types.specs.{Plain.Asked, Plain.caller_of, Plain.installs, Replies.is_listing, Replies.is_memory, Replies.is_refusal, Status.no_options}
+pub use Rattle.step_types.specs.{Events.event_name, Plain.PlainStep, Plain.bare, Plain.with_handler, Status.word, declared.Act.Act, declared.LwpInfo.LwpInfo}
+pub use Rattle.step_types.specs.{declared.Options.Options, declared.Reply.Reply, declared.Request.Request, declared.Settings.Settings, declared.StatusKind.StatusKind}
+pub use Rattle.step_types.specs.{declared.step.Step.Step}
 pub use Rattle.trace_stop.specs.declared.Shown.{Shown}
 pub use Rattle.row_isolation.specs.Closed.{Closed, GoodLwp, GoodProc, LiveOwner, LiveRow}
-pub use Rattle.lwpinfo.specs.Info.{event_name, info, lwp_info, lwp_list}
-pub use Rattle.lwpinfo.specs.declared.LwpInfo.{LwpInfo}
+pub use Rattle.lwpinfo.specs.Info.{info, lwp_info, lwp_list}
 pub use Rattle.wait4.specs.Collect.{answer, candidates, collect, fits, is_child, reportable, reported, rows_after, told, without_report}
-pub use Rattle.wait4.specs.Status.{word}
 pub use Rattle.wait4.specs.declared.Collected.{Collected}
-pub use Rattle.wait4.specs.declared.Options.{Options}
-pub use Rattle.wait4.specs.declared.StatusKind.{StatusKind}
 pub use Rattle.stop_handlers.specs.Decide.{decide}
 pub use Rattle.stop_handlers.specs.declared.Decision.{Decision}
 pub use Rattle.stop_handlers.specs.declared.Rule.{Rule}
 pub use Rattle.stop_handlers.specs.declared.StopView.{StopView}
-pub use Rattle.requests.specs.Plain.{PlainStep, bare, with_handler}
-pub use Rattle.requests.specs.declared.Act.{Act}
-pub use Rattle.requests.specs.declared.Reply.{Reply}
-pub use Rattle.requests.specs.declared.Request.{Request}
 pub use Rattle.requests.specs.declared.handlers.Decided.{Decided}
-pub use Rattle.requests.specs.declared.step.Step.{Step}

@@ -1,7 +1,8 @@
 -- A host, as the machine sees it, and its step.
 use Rattle.std.specs.Prelude.{◌≡◌, ◌≢◌}
 use Rattle.requests.specs.CommonNames.{ℕ, true, List, Result, ENOMEM, Table, Settings, Reply, PlainStep}
-use Rattle.requests.specs.Memory.{is_refusal, may_want, attempted_reply}
+use Rattle.requests.specs.Memory.{may_want, attempted_reply}
+use Rattle.step_types.specs.Replies.{is_refusal}
 use Rattle.requests.specs.Sound.{sound}
 use Rattle.requests.specs.Step.{Machine, Installed, step}
 

@@ -1,7 +1,8 @@
 -- The invariant that every step keeps.
 use Rattle.std.specs.Prelude.{◌≡◌}
 use Rattle.requests.specs.CommonNames.{ℕ, Bool, true, List, AllByRecursion, IsUser, status_fits, Act, PlainStep, Step, Settings}
-use Rattle.requests.specs.Run.{Asked, last}
+use Rattle.requests.specs.Run.{last}
+use Rattle.step_types.specs.Plain.{Asked}
 use Rattle.requests.specs.Sound.{sound}
 use Rattle.requests.specs.Step.{Machine, empty, step}
 

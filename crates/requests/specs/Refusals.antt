@@ -1,7 +1,7 @@
 -- The effect of a refused step, and an answer that the machine never gives.
 use Rattle.std.specs.Prelude.{◌≡◌, ◌≢◌}
-use Rattle.requests.specs.CommonNames.{ℕ, Bool, true, false, IsUser, ENOMEM, PlainStep, Reply}
-use Rattle.requests.specs.Memory.{is_refusal}
+use Rattle.requests.specs.CommonNames.{ℕ, true, IsUser, ENOMEM, PlainStep, Reply}
+use Rattle.step_types.specs.Replies.{is_listing, is_refusal}
 use Rattle.requests.specs.Sound.{sound}
 use Rattle.requests.specs.Step.{Machine, step}
 
@@ -16,12 +16,6 @@ NoReportChangesNothing = (u : ℕ) (s : PlainStep) (m : Machine) → sound m ≡
 -- the machine never runs out of memory: only a host answers ENOMEM
 abbrev pub NoStepRunsOutOfMemory : Type 0
 NoStepRunsOutOfMemory = (u : ℕ) (s : PlainStep) (m : Machine) → (step u s m).reply ≢ Reply.Errno ENOMEM
-
--- whether an answer is a list of numbers
-abbrev pub is_listing : Reply → Bool
-is_listing (Reply.Lwps tids) = true
-is_listing (Reply.Pids pids) = true
-is_listing r = false
 
 -- a step that answers a list changes nothing
 abbrev pub ListingSame : Type 0

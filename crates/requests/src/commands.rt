@@ -11,7 +11,7 @@ ghost use Rattle.proc_table.specs.Rows.{change_lwp};
 ghost use Rattle.trace_stop.specs.Stop.{resume, detach};
 ghost use Rattle.trace_stop.specs.Facts.{IsSound};
 ghost use Rattle.lwpinfo.specs.Info.{info, lwp_list};
-ghost use Rattle.requests.specs.declared.Reply.TheVariants as reply;
+ghost use Rattle.step_types.specs.declared.Reply.TheVariants as reply;
 ghost use Rattle.requests.specs.Outcome.{Gives, answers, refuses};
 ghost use Rattle.requests.specs.Ptrace.{ptrace, is_trace_me, is_attach, target_of, told_stop, stepping, suspend, set_mask, continues_with, switched, shows_info, command, with_signal};
 ghost use Rattle.requests.specs.Callers.{IsCaller};

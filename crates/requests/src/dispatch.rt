@@ -7,8 +7,9 @@ ghost use Rattle.requests.specs.Callers.{IsCaller};
 ghost use Rattle.requests.specs.Hosts.{machine_of};
 ghost use Rattle.requests.specs.Machine.{outcome_of};
 ghost use Rattle.requests.specs.Memory.{Attempts, takes_memory};
-ghost use Rattle.requests.specs.Plain.{bare};
-ghost use Rattle.requests.specs.Step.{calls, caller_of, installs, uncalled};
+ghost use Rattle.step_types.specs.Plain.{bare};
+ghost use Rattle.requests.specs.Step.{calls, uncalled};
+ghost use Rattle.step_types.specs.Plain.{caller_of, installs};
 
 use crate::calls::{sigaction, wait};
 use crate::commands::ptrace;

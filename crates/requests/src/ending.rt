@@ -5,7 +5,7 @@ ghost use Rattle.pid_blocks.specs.Blocks.{slot};
 ghost use Rattle.trace_stop.specs.Sound.{is_live_at};
 ghost use Rattle.requests.specs.Ending.{may_end};
 ghost use Rattle.requests.specs.Memory.{attempted_reply};
-ghost use Rattle.requests.specs.Plain.{bare};
+ghost use Rattle.step_types.specs.Plain.{bare};
 
 use crate::handlers::HandlerTable;
 use crate::{Reply, Step};

@@ -7,7 +7,7 @@ ghost use Rattle.proc_table.specs.Kept.{TableInvariant, IsRow};
 ghost use Rattle.proc_table.specs.Processes.{process_of};
 ghost use Rattle.proc_table.specs.Rows.{change_process};
 ghost use Rattle.trace_stop.specs.Facts.{IsSound};
-ghost use Rattle.requests.specs.declared.Reply.TheVariants as reply;
+ghost use Rattle.step_types.specs.declared.Reply.TheVariants as reply;
 ghost use Rattle.requests.specs.Actors.{IsActing, HasLwp};
 ghost use Rattle.requests.specs.Programs.{is_other, only_lwp, parent_freed};
 ghost use Rattle.requests.specs.Outcome.{Gives, stops_or};

@@ -2,13 +2,13 @@
 
 ghost use Rattle.std.specs.Prelude.{◌≡◌, None, true, false, IfOk, IfErr, option_map, slice_get};
 ghost use Rattle.pid_blocks.specs.Users.{IsUser};
-ghost use Rattle.requests.specs.declared.step.Step.TheVariants as op;
+ghost use Rattle.step_types.specs.declared.step.Step.TheVariants as op;
 ghost use Rattle.requests.specs.Callers.{Calls, Barred};
 ghost use Rattle.requests.specs.Hosts.{Steps, Tries};
 ghost use Rattle.requests.specs.Memory.{attempted_reply};
-ghost use Rattle.requests.specs.Step.{installs};
+ghost use Rattle.step_types.specs.Plain.{installs};
 ghost use Rattle.requests.specs.Making.{Makes};
-ghost use Rattle.requests.specs.Plain.{bare, with_handler};
+ghost use Rattle.step_types.specs.Plain.{bare, with_handler};
 ghost use Rattle.requests.specs.Laws.{step_fits};
 ghost use Rattle.requests.specs.Machine.{empty, installed_by};
 ghost use Rattle.requests.specs.Sound.{sound};

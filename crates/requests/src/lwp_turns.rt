@@ -9,7 +9,7 @@ ghost use Rattle.proc_table.specs.Kept.{IsRow};
 ghost use Rattle.proc_table.specs.Rows.{change_lwp};
 ghost use Rattle.proc_table.specs.Processes.{is_run};
 ghost use Rattle.trace_stop.specs.Facts.{IsSound};
-ghost use Rattle.requests.specs.declared.Reply.TheVariants as reply;
+ghost use Rattle.step_types.specs.declared.Reply.TheVariants as reply;
 ghost use Rattle.requests.specs.Actors.{IsActing, HasLwp};
 ghost use Rattle.requests.specs.Turn.{without_signal, job_stops, takes, takes_untraced, next_signal, due_stop, waits, acts, turn_of, turn};
 ghost use Rattle.requests.specs.Outcome.{Gives, stops_with};

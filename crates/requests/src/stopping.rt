@@ -2,7 +2,7 @@
 
 ghost use Rattle.std.specs.Prelude.{◌≡◌, ◌&&◌, is_some};
 ghost use Rattle.event_masks.specs.Exits.{asks};
-ghost use Rattle.requests.specs.declared.Reply.TheVariants as reply;
+ghost use Rattle.step_types.specs.declared.Reply.TheVariants as reply;
 ghost use Rattle.requests.specs.Actors.{HasLwp};
 ghost use Rattle.requests.specs.Outcome.{Gives, stops_with, stops_or, trap};
 ghost use Rattle.requests.specs.Leave.{in_mode, exit_stop};

@@ -4,7 +4,7 @@ use Rattle.std.proofs.Math.Path.{fun_ext}
 use Rattle.trace_stop.proofs.CommonNames.{nat_tests, AllByRecursion, list_any, IsUser, SIGKILL, SIGTRAP, bit, ProcData, Trace, LwpData, is_live, traces, reporting, Rows, each}
 use Rattle.trace_stop.proofs.CommonNames.{tracer_in, is_numbered, change_process, change_lwp, notified, post, tracers, stop, ends_process, resume, detach}
 use Rattle.pid_blocks.specs.Blocks.{pid_owner, tid_owner}
-use Rattle.trace_stop.specs.declared.Settings.{Settings}
+use Rattle.step_types.specs.declared.Settings.{Settings}
 use Rattle.trace_stop.specs.declared.Shown.{Shown}
 use Rattle.trace_stop.specs.End.{tracer_of, meets, is_doomed, dooms, process_after, released, lwp_after, notifies_of, end_each, end_of, end}
 use Rattle.trace_stop.proofs.Every.{not_same, by_bool, choose, choose_both, none_passes, All-edit, All-filter}

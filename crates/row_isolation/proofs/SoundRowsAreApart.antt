@@ -4,7 +4,7 @@ use Rattle.trace_stop.proofs.CommonNames.{FitProcess, waited_for, Standing, With
 use Rattle.std.proofs.Common.{◌≡◌, ◌≢◌, ℕ, List, filter, true, ◌==◌, ◌&&◌, sym, ◌∙◌, arith, eqb-true, eq-eqb, rules}
 use Rattle.pid_blocks.specs.Blocks.{pid_owner, tid_owner, pid_block, tid_block, InBlock}
 use Rattle.proc_table.specs.Kept as kept
-use Rattle.trace_stop.specs.declared.Settings.{Settings}
+use Rattle.step_types.specs.declared.Settings.{Settings}
 use Rattle.row_isolation.specs.Closed.{GoodProc, GoodLwp, LiveRow, LiveOwner, Closed}
 use Rattle.trace_stop.proofs.Every.{All-imply, All-both, any_holds, find_some}
 use Rattle.trace_stop.proofs.Edited.{If_more}

@@ -1,7 +1,7 @@
 -- The end of a process, as one user's rows show it.
 use Rattle.std.specs.Prelude.{◌≡◌, ◌≢◌}
 use Rattle.trace_stop.specs.CommonNames.{ℕ, true, Rows, owns, only_of}
-use Rattle.trace_stop.specs.declared.Settings.{Settings}
+use Rattle.step_types.specs.declared.Settings.{Settings}
 use Rattle.trace_stop.specs.End.{end}
 use Rattle.trace_stop.specs.Facts.{IsSound}
 

@@ -6,7 +6,8 @@ pub use Rattle.std.proofs.lemmas.List.{take-append-drop}
 pub use Rattle.std.proofs.{Math.ListN.set, Math.Seq.take-append_seam, Math.Seq.take-length, lemmas.Bool.Decides.nat_tests, lemmas.List.Sums.count_by-le-length, lemmas.List.Sums.sum_by-cons}
 pub use Rattle.std.specs.{Io.KnownBytes.Appends, Io.KnownBytes.Keeps, Io.KnownBytes.WriteAppends, Prelude.⊤, Vec.Iter.into_iter_items}
 pub use Rattle.requests.specs.{Hosts.Steps, Making.Makes}
-pub use Rattle.requests.specs.{Machine.Machine, Machine.empty, Memory.is_memory, Plain.PlainStep, Plain.with_handler, Run.Asked, Run.replies, declared.Reply.Reply, declared.step.Step.Step}
+pub use Rattle.requests.specs.{Machine.Machine, Machine.empty, Run.replies}
+pub use Rattle.step_types.specs.{Plain.Asked, Plain.PlainStep, Plain.with_handler, Replies.is_memory, declared.Reply.Reply, declared.step.Step.Step}
 pub use Rattle.scenario_text.proofs.FilledLemmas.{left_after}
 pub use Rattle.scenario_text.specs.Plan.{asked, filled, first_policy, policies_after, policies_in, policy_before, step_with}
 pub use Rattle.stop_handlers.specs.declared.Rule.{Rule}

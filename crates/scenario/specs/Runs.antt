@@ -2,7 +2,8 @@
 use Rattle.std.specs.Prelude.{⊤, ◌≡◌, ℕ, List, take, map, zip, Option, Some, None, MatchOption, Result, Ok, Err}
 use Rattle.std.specs.Io.KnownBytes.{Appends, Keeps}
 use Rattle.stop_handlers.specs.declared.Rule.{Rule}
-use Rattle.requests.specs.{declared.step.Step.Step, declared.Reply.Reply, Hosts.Steps, Machine.Machine, Machine.empty, Plain.PlainStep, Run.Asked, Run.replies}
+use Rattle.requests.specs.{Hosts.Steps, Machine.Machine, Machine.empty, Run.replies}
+use Rattle.step_types.specs.{Plain.Asked, Plain.PlainStep, declared.Reply.Reply, declared.step.Step.Step}
 use Rattle.scenario.specs.{declared.running.RunFault.RunFault, declared.running.RunFault.TheVariants.Write, Lines.Answered, Lines.text, Lines.text_of, Lines.lines, Lines.lines_of}
 use Rattle.scenario.specs.declared.style.Style.{Style}
 use Rattle.scenario_text.specs.Plan.{Plan, first_policy, policies_after, policy_before, step_with}

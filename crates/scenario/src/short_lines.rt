@@ -4,7 +4,7 @@ ghost use Rattle.std.specs.Prelude.{◌≡◌, ◌≤◌, ◌+◌, ◌∷◌, []
 ghost use Rattle.std.specs.List.{join_with_byte};
 ghost use Rattle.arrayvec.specs.ArrayString.{array_string_len};
 ghost use Rattle.pid_blocks.specs.Blocks.{errno_name, errno_number};
-ghost use Rattle.requests.specs.Words.{reply_words};
+ghost use Rattle.step_types.specs.Words.{reply_words};
 
 use arrayvec::ArrayString;
 use itoa::Buffer;

@@ -6,13 +6,12 @@ pub use Rattle.event_masks.specs.{Exits.both, Exits.mask_with, Exits.no_events, 
 pub use Rattle.event_masks.specs.declared.Call.{Call}
 pub use Rattle.json.specs.{Json.value, Token.Token, declared.reader.Invalid.Invalid}
 pub use Rattle.json_values.specs.{Reading.integer_in, Reading.members_among, Reading.read_items, Reading.read_members, Reading.text_in, declared.scalars.Scalar.Scalar}
-pub use Rattle.requests.specs.{Handle.no_options, Plain.PlainStep, Run.Asked, declared.Act.Act, declared.Request.Request}
+pub use Rattle.step_types.specs.{Plain.Asked, Plain.PlainStep, Status.no_options, declared.Act.Act, declared.Options.Options, declared.Request.Request}
+pub use Rattle.step_types.specs.{declared.Settings.Settings}
 pub use Rattle.serde_json.specs.{Data.Data, Data.Items, Data.Members, Data.item, Data.member, Data.no_items, Data.no_members, Data.object, Events.items_len, Read.converted, Read.of_json, Read.read}
 pub use Rattle.serde_json.specs.Find.{as_array, as_i64, as_number, as_str, get_member}
 pub use Rattle.signals.specs.{Sets.with, declared.Disposition.Disposition}
 pub use Rattle.stop_handlers.specs.{declared.Decision.Decision, declared.Rule.Rule}
-pub use Rattle.trace_stop.specs.declared.Settings.{Settings}
-pub use Rattle.wait4.specs.declared.Options.{Options}
 pub use Rattle.scenario_text.specs.Plan.{Plan, max_steps}
 pub use Rattle.scenario_text.specs.declared.{fault.Fault.Fault, fields.Fields.Fields, fields.KeyError.KeyError, keys.Key.Key, keys.Keys.Keys, listing.Listed.Listed, names.ActKind.ActKind}
 pub use Rattle.scenario_text.specs.declared.{names.CallKind.CallKind, names.DecisionKind.DecisionKind, names.Op.Op, names.WaitOption.WaitOption, parsing.ScenarioKey.ScenarioKey}

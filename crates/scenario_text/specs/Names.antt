@@ -2,7 +2,7 @@
 use Rattle.std.specs.Prelude.{◌∷◌, if◌then◌else◌}
 use Rattle.scenario_text.specs.CommonNames.{ℕ, List, [], Option, Some, None, codes, bytes_eq, Disposition, Request, Op, WaitOption, ActKind, CallKind, DecisionKind}
 use Rattle.signals.specs.declared.Disposition.TheVariants as dispositions
-use Rattle.requests.specs.declared.Request.TheVariants as requests
+use Rattle.step_types.specs.declared.Request.TheVariants as requests
 use Rattle.scenario_text.specs.declared.names.Op.TheVariants as ops
 use Rattle.scenario_text.specs.declared.names.WaitOption.TheVariants as options
 use Rattle.scenario_text.specs.declared.names.ActKind.TheVariants as acts

@@ -1,8 +1,7 @@
 -- A scenario.
 use Rattle.std.specs.Prelude.{⊤, ℕ, List, [], ◌∷◌, Option, Some, None}
 use Rattle.stop_handlers.specs.declared.Rule.{Rule}
-use Rattle.trace_stop.specs.declared.Settings.{Settings}
-use Rattle.requests.specs.{Plain.PlainStep, Plain.map_handler, declared.step.Step.Step, declared.step.Step.TheVariants.Install, Run.Asked}
+use Rattle.step_types.specs.{Plain.Asked, Plain.PlainStep, Plain.map_handler, declared.Settings.Settings, declared.step.Step.Step, declared.step.Step.TheVariants.Install}
 
 -- the settings of the host, and the steps in order
 pub record Plan : Type 0 where

@@ -3,10 +3,10 @@ use Rattle.scenario_text.specs.CommonNames.{ℕ, List, Option, Result, Ok, Err, 
 use Rattle.scenario_text.specs.CommonNames.{Number, Keys, ActKind, CallKind, Op}
 use Rattle.scenario_text.specs.Fields.{◌>>=◌, Atom, atom_of, integer, within, word, name_in, required, optional, options_of, mask_of, set_of}
 use Rattle.scenario_text.specs.{Keys.◌∪◌, Keys.keys_in, Keys.with_only, Names.op_named, Names.disposition_named, Names.act_named, Names.call_named, Names.request_named, Rules.rules_of}
-use Rattle.requests.specs.declared.step.Step.TheVariants as plain
+use Rattle.step_types.specs.declared.step.Step.TheVariants as plain
 use Rattle.event_masks.specs.declared.Call.TheVariants as call
-use Rattle.requests.specs.declared.Act.TheVariants as act
-use Rattle.requests.specs.declared.Request.TheVariants as request
+use Rattle.step_types.specs.declared.Act.TheVariants as act
+use Rattle.step_types.specs.declared.Request.TheVariants as request
 use Rattle.scenario_text.specs.declared.keys.TheConstants.Keys as key
 use Rattle.scenario_text.specs.declared.names.ActKind.TheVariants as acts
 use Rattle.scenario_text.specs.declared.names.CallKind.TheVariants as calls

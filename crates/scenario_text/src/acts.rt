@@ -8,7 +8,7 @@ use crate::fields::{Fields, KeyError, only};
 use crate::keys::Keys;
 use crate::names::{ActKind, CallKind};
 use event_masks::Call;
-use requests::Act;
+use step_types::Act;
 
 /// Returns the call, with the exit code of an exit and the number of another call.
 fn call_of(step: &Fields, kind: CallKind) -> Result<Call, KeyError>

@@ -15,7 +15,7 @@ use event_masks::{EventMask, StopFlags};
 use json::Invalid;
 use json_values::{Opening, Scalar, Tokens, next_scalar, open_value, pass_members};
 use signals::SigSet;
-use wait4::Options;
+use step_types::Options;
 
 /// A set that the items of an array make.
 pub(crate) trait Gathered: Copy + Drop {

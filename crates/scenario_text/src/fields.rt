@@ -7,10 +7,9 @@ use crate::keys::Keys;
 use crate::names::{ActKind, CallKind, Op};
 use event_masks::EventMask;
 use pid_blocks::Uid;
-use requests::Request;
 use signals::{Disposition, SigSet};
+use step_types::{Options, Request};
 use stop_handlers::Policy;
-use wait4::Options;
 
 /// The flaw of a step.
 #[derive(Clone, Copy, Drop)]

@@ -16,8 +16,8 @@ use crate::step_list::StepList;
 use crate::stop::Stop;
 use json_values::{Opening, Tokens, open_value, pass_members, pass_value};
 use pid_blocks::Uid;
-use requests::PlainStep;
 use std::alloc::{AllocError, Global};
+use step_types::PlainStep;
 
 /// The steps of an array so far, or the flaw of the first that has one.
 #[derive(Drop)]

@@ -20,9 +20,8 @@ use event_masks::EventMask;
 use json::Invalid;
 use json_values::{Opening, Scalar, Tokens, next_scalar, open_value, pass_items, pass_value};
 use pid_blocks::Uid;
-use requests::{PlainStep, Request};
 use signals::{Disposition, SigSet};
-use wait4::Options;
+use step_types::{Options, PlainStep, Request};
 
 fn op_in(atom: &Scalar<'_>) -> Result<Op, KeyError>
     ensures { result ≡ name_in op_named (atom_in atom.now) }

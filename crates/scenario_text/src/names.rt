@@ -2,8 +2,8 @@
 ghost use Rattle.std.specs.Prelude.{◌≡◌};
 ghost use Rattle.scenario_text.specs.Names.{op_named, request_named, option_named, disposition_named, act_named, call_named, decision_named};
 
-use requests::Request;
 use signals::Disposition;
+use step_types::Request;
 
 /// The op of a step.
 #[derive(Clone, Copy)]

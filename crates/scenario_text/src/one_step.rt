@@ -16,8 +16,8 @@ use crate::stop::Stop;
 use json::Scratch;
 use json_values::Tokens;
 use pid_blocks::Uid;
-use requests::PlainStep;
 use std::alloc::Global;
+use step_types::PlainStep;
 
 /// The most bytes of a step's text.
 pub const MAX_STEP_BYTES: usize = 65536;

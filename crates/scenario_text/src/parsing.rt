@@ -20,7 +20,7 @@ use crate::stop::Stop;
 use json::Scratch;
 use json_values::{Opening, Tokens, next_scalar, open_value, pass_items, pass_value};
 use std::alloc::Global;
-use trace_stop::Settings;
+use step_types::Settings;
 
 /// The most bytes of a scenario's text.
 pub(crate) const MAX_BYTES: usize = 4194304;

@@ -1,8 +1,8 @@
 use crate::step_list::{StepList, StepShape, Steps};
 use pid_blocks::Uid;
 use std::marker::Model;
+use step_types::Settings;
 use stop_handlers::Policy;
-use trace_stop::Settings;
 
 /// The number of users.
 pub const USERS: usize = 64;

@@ -1,12 +1,12 @@
 //! Lists of users' steps. They keep the installed policies separate.
 ghost use Rattle.std.specs.Prelude.{◌≡◌, ◌++◌, [], OnOk, OnErr};
-ghost use Rattle.requests.specs.Plain.{with_handler};
+ghost use Rattle.step_types.specs.Plain.{with_handler};
 ghost use Rattle.scenario_text.specs.Plan.{first, policies_after, policy_before, step_with};
 
 use pid_blocks::Uid;
-use requests::{PlainStep, Step};
 use std::alloc::{AllocError, Global};
 use std::marker::Model;
+use step_types::{PlainStep, Step};
 use stop_handlers::Policy;
 
 /// A step without the policy that it installs, if it installs one.
@@ -22,7 +22,7 @@ pub struct StepList {
 
 impl Model for StepList {
     ghost use Rattle.std.specs.Prelude.{◌≡◌, List};
-    ghost use Rattle.requests.specs.Run.{Asked};
+    ghost use Rattle.step_types.specs.Plain.{Asked};
     ghost use Rattle.scenario_text.specs.Plan.{filled, policies_in};
 
     ghost Value = { List Asked };
@@ -41,7 +41,7 @@ pub struct Steps<'a> {
 
 impl<'a> Model for Steps<'a> {
     ghost use Rattle.std.specs.Prelude.{◌≡◌, ℕ, List, map};
-    ghost use Rattle.requests.specs.Plain.{PlainStep};
+    ghost use Rattle.step_types.specs.Plain.{PlainStep};
     ghost use Rattle.scenario_text.specs.Plan.{filled, policies_in, user_and_step};
 
     ghost Value = { List (ℕ × PlainStep) };

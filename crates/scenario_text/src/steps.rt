@@ -11,7 +11,7 @@ use crate::keys::Keys;
 use crate::names::Op;
 use crate::tracing::ptrace_of;
 use pid_blocks::Uid;
-use requests::PlainStep;
+use step_types::PlainStep;
 
 #[tactic(auto, unfolding(crate::specs::Steps::rest_of))]
 fn spawn_of(step: &Fields) -> Result<PlainStep, KeyError>

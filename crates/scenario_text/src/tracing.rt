@@ -1,12 +1,12 @@
 //! The requests of ptrace(2).
 ghost use Rattle.std.specs.Prelude.{◌≡◌};
-ghost use Rattle.requests.specs.declared.Request.TheVariants as ptrace;
+ghost use Rattle.step_types.specs.declared.Request.TheVariants as ptrace;
 ghost use Rattle.scenario_text.specs.Steps.{ptrace_keys, request_of, asked_of, rest_of};
 ghost use Rattle.scenario_text.specs.declared.names.Op.TheVariants as ops;
 
 use crate::fields::{Fields, KeyError, only};
 use crate::keys::Keys;
-use requests::{PlainStep, Request};
+use step_types::{PlainStep, Request};
 
 /// Returns the keys that every ptrace step has.
 fn ptrace_keys() -> Keys

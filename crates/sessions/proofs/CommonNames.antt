@@ -9,9 +9,8 @@ pub use Rattle.host_lock.specs.Sessions.{HostData, InJournal, IsBelow, IsOf, Mak
 pub use Rattle.host_lock.specs.declared.journal.Entry.{Entry}
 pub use Rattle.requests.proofs.SoundHostIsApart.{users_are_apart_in_a_sound_host}
 pub use Rattle.requests.specs.Machine.{Machine}
-pub use Rattle.requests.specs.Memory.{is_memory}
-pub use Rattle.requests.specs.Plain.{PlainStep}
-pub use Rattle.requests.specs.Run.{Asked, asked_by, last, replies}
+pub use Rattle.step_types.specs.{Plain.Asked, Plain.PlainStep, Replies.is_memory}
+pub use Rattle.requests.specs.Run.{asked_by, last, replies}
 pub use Rattle.requests.specs.View.{View, alone, view, with_view}
 pub use Rattle.sessions.specs.Boxed.{boxed_script, report_of, steps_of, uid_of}
 pub use Rattle.sessions.specs.Jobs.{AllDone, Drafted, IsBegun, IsDone, IsReady, done_session, done_transcript, job_report, job_session, job_steps}

@@ -1,7 +1,7 @@
 -- What each user's entries in a legal journal are.
 use Rattle.std.proofs.Common.{◌≡◌, ℕ, true, List, [], ◌∷◌, map, refl, sym, ap, ◌∙◌, arith}
 use Rattle.sessions.proofs.CommonNames.{Machine, Asked, asked_by, replies, last, alone, view, users_are_apart_in_a_sound_host, Entry, asked, IsLegal, entries_by, OwnEntries, RanBy}
-use Rattle.requests.specs.declared.Reply.{Reply}
+use Rattle.step_types.specs.declared.Reply.{Reply}
 use Rattle.requests.specs.Isolation.{Users, replies_to}
 use Rattle.requests.specs.Sound.{sound}
 use Rattle.visibility.proofs.Apart.{own_list_law}

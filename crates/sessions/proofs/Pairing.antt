@@ -5,7 +5,7 @@ use Rattle.sessions.proofs.CommonNames.{IsBelow, IsOf, InJournal, new_session, n
 use Rattle.sessions.proofs.CommonNames.{job_steps, done_session, done_transcript, SmallStep, own_step, boxed_script, report_of, uid_of, steps_of, AllPlay, AllTell, OwnEntries, AreFew, Answers, AllAnswer, RanBy}
 use mathlib.Core.List.{map-append}
 use Rattle.atomic_table.specs.Seated.{TableId}
-use Rattle.requests.specs.declared.Reply.{Reply}
+use Rattle.step_types.specs.declared.Reply.{Reply}
 use Rattle.host_lock.specs.declared.host.CloseRefusal.{CloseRefusal}
 use Rattle.host_lock.specs.declared.host.CloseRefusal.TheVariants.{Missing}
 

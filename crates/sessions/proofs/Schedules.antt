@@ -3,7 +3,7 @@ use Rattle.std.proofs.Common.{◌≡◌, ℕ, ◌<◌, Bool, true, false, ◌==�
 use Rattle.sessions.proofs.CommonNames.{AllByRecursion, nat_tests, recursion_from_All, PlainStep, Machine, is_memory, Asked, replies, last, View, view, with_view, alone}
 use Rattle.sessions.proofs.CommonNames.{users_are_apart_in_a_sound_host, Entry, asked, entries_of, IsBelow, Transcript, made, Plays, AllPlay, entries_by, plain_script, whole}
 use Rattle.std.proofs.lemmas.Option.{slice_get-get_or, get_or_from_slice_get, slice_get_within}
-use Rattle.requests.specs.declared.Reply.{Reply}
+use Rattle.step_types.specs.declared.Reply.{Reply}
 use Rattle.visibility.proofs.ForeignLists.{alike_alone}
 use Rattle.sessions.specs.declared.script.Script.{Script}
 use Rattle.sessions.specs.Schedules.{IsOnlyScript, IsAnswered, EverySchedule, AlikeJournals}

@@ -1,7 +1,7 @@
 -- A script, step by step.
 use Rattle.std.proofs.Common.{◌≡◌, ℕ, ◌+◌, Bool, true, false, cond, List, [], ◌∷◌, ◌++◌, length, reverse, sym, refl, ap, ◌∙◌, arith, append_assoc, append-nil, length-append, MatchBool}
 use Rattle.sessions.proofs.CommonNames.{reverse-append, PlainStep, is_memory, Entry, entry, made, Did, Pairs, StartsWith, SessionData, Makes, Calls}
-use Rattle.requests.specs.declared.Reply.{Reply}
+use Rattle.step_types.specs.declared.Reply.{Reply}
 use Rattle.host_lock.specs.declared.host.Answer.TheVariants.{Reply as Answered}
 
 abbrev pub one : ℕ → ℕ → PlainStep → Reply → List Entry

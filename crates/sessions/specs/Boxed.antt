@@ -1,6 +1,7 @@
 -- Scripts whose handlers are on the heap, as the scripts that they stand for.
 use Rattle.std.specs.{Prelude.{ℕ, List, map, Vec}, Global.Global}
-use Rattle.{requests.specs.Plain.PlainStep, host_lock.specs.Boxed.{SmallStep, own_step}, sessions.specs.declared.boxing.BoxedScript.BoxedScript}
+use Rattle.{host_lock.specs.Boxed.{SmallStep, own_step}, sessions.specs.declared.boxing.BoxedScript.BoxedScript}
+use Rattle.step_types.specs.Plain.{PlainStep}
 use Rattle.sessions.specs.{declared.boxing.AnyScript.{AnyScript, TheVariants.{InSteps, OnHeap}}, Runs.plain_script}
 
 abbrev pub boxed_script : {F T : Type 0} → BoxedScript F T → ℕ × List PlainStep

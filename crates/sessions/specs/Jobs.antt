@@ -1,6 +1,7 @@
 -- A script that is ready to run, and its result.
 use Rattle.std.specs.{Prelude.{◌≡◌, ℕ, ◌+◌, ◌≤◌, List, [], map, Vec, vec_len, vec_capacity}, Global.Global}
-use Rattle.{requests.specs.declared.Reply.Reply, host_lock.specs.{Boxed.{SmallStep, own_step}, Limits.max_calls, Sessions.{SessionData, HostData, IsOf}}, sessions.specs.declared.job.Job.Job}
+use Rattle.{host_lock.specs.{Boxed.{SmallStep, own_step}, Limits.max_calls, Sessions.{SessionData, HostData, IsOf}}, sessions.specs.declared.job.Job.Job}
+use Rattle.step_types.specs.declared.Reply.{Reply}
 use Rattle.sessions.specs.{declared.{job.Done.Done, script.Transcript.Transcript}, Made.{Did, Pairs}}
 
 -- the list is empty, and has room for n items

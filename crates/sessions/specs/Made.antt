@@ -1,6 +1,7 @@
 -- The journal entries of a script's answered steps.
 use Rattle.std.specs.Prelude.{◌≡◌, ℕ, List, [], ◌∷◌, length, if◌then◌else◌}
-use Rattle.{requests.specs.{Plain.PlainStep, declared.Reply.Reply, Memory.is_memory}, host_lock.specs.{declared.journal.Entry.Entry, Journal.entry, Sessions.SessionData}}
+use Rattle.{host_lock.specs.{declared.journal.Entry.Entry, Journal.entry, Sessions.SessionData}}
+use Rattle.step_types.specs.{Plain.PlainStep, Replies.is_memory, declared.Reply.Reply}
 
 -- the entries of these steps with these replies, except those with the reply ENOMEM
 abbrev pub made : ℕ → ℕ → List PlainStep → List Reply → List Entry

@@ -1,6 +1,7 @@
 -- The result of a run of scripts that are given as users with their steps.
 use Rattle.std.specs.Prelude.{◌≡◌, ℕ, ◌<◌, ◌≤◌, List, length, get_or, All}
-use Rattle.{requests.specs.{Machine.Machine, Plain.PlainStep, declared.Reply.Reply}, host_lock.specs.{declared.journal.Entry.Entry, Journal.{replay, entries_of, IsLegal}, Limits.max_calls}}
+use Rattle.{requests.specs.{Machine.Machine}, host_lock.specs.{declared.journal.Entry.Entry, Journal.{replay, entries_of, IsLegal}, Limits.max_calls}}
+use Rattle.step_types.specs.{Plain.PlainStep, declared.Reply.Reply}
 use Rattle.{host_lock.specs.Sessions.IsBelow, sessions.specs.{declared.script.Transcript.Transcript, Made.made, Runs.OwnEntries}}
 
 -- one session can make all the steps

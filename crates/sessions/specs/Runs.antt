@@ -1,7 +1,8 @@
 -- The result of a run of scripts.
 use Rattle.std.specs.{Prelude.{◌≡◌, ℕ, ◌<◌, ◌≤◌, ◌==◌, List, map, filter, length, Vec, vec_len, slice_index_or}, Global.Global}
 use Rattle.{host_lock.specs.{declared.journal.Entry.Entry, Journal.{asked, replay, entries_of}, Limits.{max_sessions, max_calls}}, pid_blocks.specs.Users.IsUser, requests.specs.Machine.Machine}
-use Rattle.{requests.specs.{Plain.PlainStep, declared.Reply.Reply, Run.{replies, last}, View.{view, alone}}, sessions.specs.declared.script.{Script.Script, Transcript.Transcript}}
+use Rattle.{requests.specs.{Run.{replies, last}, View.{view, alone}}, sessions.specs.declared.script.{Script.Script, Transcript.Transcript}}
+use Rattle.step_types.specs.{Plain.PlainStep, declared.Reply.Reply}
 use Rattle.sessions.specs.{declared.script.RunRefusal.{RunRefusal, TheVariants.{TooMany, Memory, Start}}, Made.made}
 
 -- one session can make all the steps

@@ -1,6 +1,7 @@
 -- What runs of scripts give a user, for all schedules.
 use Rattle.std.specs.{Prelude.{◌≡◌, ℕ, true, false, List, Some, map, Vec, vec_len, slice_get, All}, Global.Global, List.AllByRecursion}
-use Rattle.{pid_blocks.specs.Users.IsUser, requests.specs.{Machine.Machine, Memory.is_memory, declared.Reply.Reply, Sound.sound, View.{view, alone}}, visibility.specs.ForeignLists.AlikeLists}
+use Rattle.{pid_blocks.specs.Users.IsUser, requests.specs.{Machine.Machine, Sound.sound, View.{view, alone}}, visibility.specs.ForeignLists.AlikeLists}
+use Rattle.step_types.specs.{Replies.is_memory, declared.Reply.Reply}
 use Rattle.{host_lock.specs.{declared.journal.Entry.Entry, Journal.{asked, IsLegal, replay}, Sessions.IsBelow}, sessions.specs.{declared.script.{Script.Script, Transcript.Transcript}, Runs.AllPlay}}
 use Rattle.sessions.specs.Runs.{entries_by, plain_script, whole, OwnEntries}
 

@@ -3,7 +3,7 @@
 ghost use Rattle.std.specs.Prelude.{◌≡◌, ℕ, List, length, map, vec_len, IfOk};
 ghost use Rattle.std.proofs.Common.{sym, ◌∙◌};
 ghost use Rattle.std.proofs.lemmas.List.{length-map};
-ghost use Rattle.requests.specs.Plain.{PlainStep};
+ghost use Rattle.step_types.specs.Plain.{PlainStep};
 ghost use Rattle.host_lock.specs.Boxed.{own_step};
 ghost use Rattle.sessions.specs.Boxed.{any_report, any_script, boxed_script, report_of};
 ghost use Rattle.sessions.specs.Runs.{plain_script};

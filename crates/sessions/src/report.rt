@@ -2,7 +2,7 @@
 
 ghost use Rattle.std.specs.Prelude.{⊤, ◌≡◌, ◌≤◌, ◌+◌, ◌++◌, [], ◌∷◌, ℕ, List, IfOk};
 ghost use Rattle.sessions.specs.Jobs.{HasRoomAfter};
-ghost use Rattle.requests.specs.declared.Reply.{Reply};
+ghost use Rattle.step_types.specs.declared.Reply.{Reply};
 
 use pid_blocks::Uid;
 use requests::Reply;

@@ -5,10 +5,9 @@ pub use Rattle.pid_blocks.specs.Blocks.{rising, slot, users}
 pub use Rattle.pid_blocks.specs.Users.{IsUser}
 pub use Rattle.requests.specs.Isolation.{Users}
 pub use Rattle.requests.specs.Machine.{Machine, empty}
-pub use Rattle.requests.specs.Plain.{PlainStep}
-pub use Rattle.requests.specs.Run.{Asked, asked_by, replies}
+pub use Rattle.step_types.specs.{Plain.Asked, Plain.PlainStep, declared.Reply.Reply}
+pub use Rattle.requests.specs.Run.{asked_by, replies}
 pub use Rattle.requests.specs.View.{alone}
-pub use Rattle.requests.specs.declared.Reply.{Reply}
 pub use Rattle.row_isolation.proofs.FilteredLists.{All-map, All-where}
 pub use Rattle.scenario.proofs.WriteLemmas.{Front, appends_more}
 pub use Rattle.scenario.specs.Lines.{Answered, lines, lines_after, lines_of, text_of}

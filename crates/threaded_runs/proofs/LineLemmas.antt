@@ -1,7 +1,7 @@
 -- The lines of a user's replies, and one more.
 use Rattle.std.proofs.Common.{◌≡◌, ℕ, ◌+◌, ◌<◌, ◌^◌, true, false, List, [], ◌∷◌, ◌++◌, length, Option, Some, None, IfSome, String, string_bytes, refl, sym, ap, ◌∙◌, arith, append_assoc, append-nil, length-append}
 use Rattle.threaded_runs.proofs.CommonNames.{eq-eqb, Global, Reply, Answered, Style, answered, shown, told_to, AreMade}
-use Rattle.requests.specs.Memory.{is_memory}
+use Rattle.step_types.specs.Replies.{is_memory}
 use Rattle.scenario.specs.Lines.{line, shown_line}
 use Rattle.scenario.proofs.LineLemmas.{counted_one, replies_to, shown_after, shown_none, shown_whole, text_next}
 use Rattle.threaded_runs.specs.declared.lines.LineDraft.{LineDraft}

@@ -3,7 +3,7 @@ use Rattle.std.proofs.Common.{◌≡◌, ℕ, suc, ◌<◌, ◌==◌, false, Lis
 use Rattle.threaded_runs.proofs.CommonNames.{AllByRecursion, nat_tests, get_or-map, All-from_recursion, PlainStep, Reply, Users, empty, Asked, asked_by, replies}
 use Rattle.threaded_runs.proofs.CommonNames.{alone, Entry, entries_by, OwnEntries, Plan, answers_by, answers_by_scripts, scripts_in, told_to, All-both}
 use Rattle.requests.specs.Isolation.{replies_to}
-use Rattle.requests.specs.Memory.{is_memory}
+use Rattle.step_types.specs.Replies.{is_memory}
 use Rattle.row_isolation.proofs.FilteredLists.{filter_same}
 use Rattle.host_lock.specs.Journal.{asked, entries_of}
 use Rattle.sessions.specs.Made.{made}

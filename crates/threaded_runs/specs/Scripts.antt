@@ -1,6 +1,7 @@
 -- A script for each user with steps, and the answers of its transcript.
 use Rattle.std.specs.{Prelude.{◌≡◌, ℕ, ◌+◌, ◌<◌, ◌^◌, Bool, true, false, List, [], ◌∷◌, length, map, filter, Option, IfSome, String, string_bytes}, Global.Global, List.AllByRecursion}
-use Rattle.{pid_blocks.specs.Blocks.users, requests.specs.{declared.Reply.Reply, Memory.is_memory, Plain.PlainStep, Run.{Asked, asked_by}}, sessions.specs.declared.script.Transcript.Transcript}
+use Rattle.{pid_blocks.specs.Blocks.users, requests.specs.{Run.{asked_by}}, sessions.specs.declared.script.Transcript.Transcript}
+use Rattle.step_types.specs.{Plain.Asked, Plain.PlainStep, Replies.is_memory, declared.Reply.Reply}
 use Rattle.{scenario_text.specs.Plan.Plan, scenario.specs.{Lines.Answered, Runs.{answers_of, shown}, declared.running.RunOptions.RunOptions}, threaded_runs.specs.Grouped.answers_by}
 use Rattle.threaded_runs.specs.{Unseen.unseen_in, declared.lines.{LineReport.LineReport, LineDraft.LineDraft, UserLines.UserLines}}
 

@@ -2,7 +2,7 @@
 
 ghost use Rattle.std.specs.Prelude.{◌≡◌, ◌++◌, false, Some, String, string_bytes, IfSome};
 ghost use Rattle.std.specs.Global.{Global};
-ghost use Rattle.requests.specs.Memory.{is_memory};
+ghost use Rattle.step_types.specs.Replies.{is_memory};
 ghost use Rattle.scenario.specs.Lines.{line, shown_line};
 ghost use Rattle.scenario.specs.Runs.{answered};
 ghost use Rattle.threaded_runs.specs.Scripts.{replies_in, DrawnUp, Shows};
@@ -33,7 +33,7 @@ struct Replies {
 
 impl Model for Replies {
     ghost use Rattle.std.specs.Prelude.{List, ◌++◌, ◌∷◌, [], length};
-    ghost use Rattle.requests.specs.declared.Reply.{Reply};
+    ghost use Rattle.step_types.specs.declared.Reply.{Reply};
     ghost use Rattle.threaded_runs.specs.Unseen.{unseen_in};
 
     ghost Value = { List Reply };

@@ -30,7 +30,7 @@ pub use Rattle.signals.specs.Table.{SIGCHLD, SIGCONT, SIGKILL, SIGTRAP, ends, no
 pub use Rattle.std.specs.Int.RustNames.{bit_and}
 pub use Rattle.std.specs.List.{list_all}
 pub use Rattle.std.specs.Prelude.{negsuc, option_to_list, pos, suc, unwrap_or, zero, zip, ℤ, ◌%◌, ◌||◌}
-pub use Rattle.trace_stop.specs.declared.Settings.{Settings}
+pub use Rattle.step_types.specs.declared.Settings.{Settings}
 pub use Rattle.trace_stop.specs.declared.Shown.{Shown}
 pub use Rattle.trace_stop.specs.declared.edits.Edit.{Edit}
 pub use Rattle.trace_stop.specs.declared.edits.Edit.TheVariants.{ClearStepping, Detach, Post, Settle}

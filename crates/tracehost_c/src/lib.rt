@@ -4,7 +4,7 @@
 ghost use Rattle.std.specs.Prelude.{◌≡◌, ◌≢◌, ◌≤◌, ◌↔◌, None, Some, IsSome, IsNone, replicate, option_map};
 ghost use Rattle.pid_blocks.specs.Users.{IsUser};
 ghost use Rattle.requests.specs.Machine.{empty};
-ghost use Rattle.requests.specs.declared.step.Step.TheVariants as op;
+ghost use Rattle.step_types.specs.declared.step.Step.TheVariants as op;
 ghost use Rattle.flat_forms.specs.Numbers.{act_numbered, request_numbered, disposition_numbered, options_numbered};
 ghost use Rattle.flat_forms.specs.Rules.{policy_numbered};
 ghost use Rattle.tracehost_c.specs.Calls.{style_of, LineAnswered, LineFull, ShowsLast, ShowsNumbers, ShowsView, TypedCall};

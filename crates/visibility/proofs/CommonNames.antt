@@ -6,13 +6,13 @@ pub use Rattle.requests.proofs.CommonNames.{append-nil, append_assoc, ap₂, ari
 pub use Rattle.requests.proofs.CommonNames.{rules, subst, suc, sym, true, true≢false, zero, ℕ, ℤ, ◌&&◌, ◌++◌, ◌+◌, ◌-◌, ◌<◌, ◌==◌, ◌∙◌, ◌∷◌, ◌≡◌, ◌≢◌, ◌≤◌, nat_tests, length-append, length-map}
 pub use Rattle.requests.proofs.CommonNames.{AllByRecursion, list_any, is_some, option_map, Rule, All-both, All-filter, All-imply, and_left, and_right, by_bool, choose, owns_owner, find, take, Errno}
 pub use Rattle.requests.proofs.CommonNames.{Options, is_child, fits, candidates, answers, refuses, wait, is_which, reach, kill, ptrace, turn_seen, calls, checked, step, every_untested, sound, Steps}
-pub use Rattle.requests.specs.declared.Reply.{Reply}
+pub use Rattle.step_types.specs.{Plain.Asked, declared.Reply.Reply}
 pub use Rattle.requests.proofs.IsolationLaws.{alone_law, at_slot, keeps_apart, live_only, one_step, other_step, run_is, seen_alone, twin, two_lists}
 pub use Rattle.requests.proofs.SoundHostIsApart.{users_are_apart_in_a_sound_host}
 pub use Rattle.requests.proofs.Walk.{above, above_first, above_next, above_none, first_above, next_over}
 pub use Rattle.requests.specs.Isolation.{Alike, AlikeSteps, AlikeWhich, ApartAtFirst, ApartInAView, ForeignNumber, OwnList, Ran, RunsArePrivate, TwoRuns, Unseen, answered, handles, installs, kills}
 pub use Rattle.requests.specs.Isolation.{lists, ptraces, sigactions, somes, spawns, turns, waits}
-pub use Rattle.requests.specs.Run.{Asked, asked_by, last, replies}
+pub use Rattle.requests.specs.Run.{asked_by, last, replies}
 pub use Rattle.requests.specs.View.{View, alone, view, with_view}
 pub use Rattle.row_isolation.proofs.FilteredLists.{filter-none, find_only, find_some}
 pub use Rattle.std.proofs.Common.{vec_capacity, vec_len}

@@ -1,9 +1,9 @@
 -- Lists of all users' steps that differ in numbers that a user doesn't see.
 use Rattle.std.specs.Prelude.{◌≡◌, ◌∷◌}
 use Rattle.requests.specs.CommonNames.{ℕ, List, [], Option, IsUser, seen_process, seen_lwp}
-use Rattle.requests.specs.declared.Reply.{Reply}
+use Rattle.step_types.specs.{Plain.Asked, declared.Reply.Reply}
 use Rattle.requests.specs.Machine.{Machine}
-use Rattle.requests.specs.Run.{Asked, last, replies, asked_by}
+use Rattle.requests.specs.Run.{last, replies, asked_by}
 use Rattle.requests.specs.View.{view, alone}
 use Rattle.requests.specs.Isolation.{Apart, Users, replies_to, host_after, AlikeSteps, answered, somes}
 

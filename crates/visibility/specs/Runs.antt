@@ -1,10 +1,10 @@
 -- Steps of a host, as the machine sees them, and their answers.
 use Rattle.std.specs.Prelude.{◌≡◌, ◌∷◌, if◌then◌else◌}
 use Rattle.requests.specs.CommonNames.{ℕ, true, List, [], Option, Some, None, PlainStep}
-use Rattle.requests.specs.declared.Reply.{Reply}
+use Rattle.step_types.specs.{Plain.Asked, Replies.is_memory, declared.Reply.Reply}
 use Rattle.requests.specs.Machine.{Machine}
-use Rattle.requests.specs.Memory.{is_memory, may_want}
-use Rattle.requests.specs.Run.{Asked, asked_by}
+use Rattle.requests.specs.Memory.{may_want}
+use Rattle.requests.specs.Run.{asked_by}
 use Rattle.requests.specs.View.{view}
 use Rattle.requests.specs.Isolation.{reply_of, host_after, replies_to, answered, somes}
 

@@ -5,7 +5,7 @@ use Rattle.std.specs.Cmp.Lexicographic.{pointwise}
 use Rattle.lwp_table.specs.contracts.LwpDataPartialEq.TheImpl as lwps
 use Rattle.proc_table.specs.contracts.ProcDataPartialEq.TheImpl as processes
 use Rattle.stop_handlers.specs.contracts.RulePartialEq.TheImpl as policies
-use Rattle.trace_stop.specs.contracts.SettingsPartialEq.TheImpl as settings
+use Rattle.step_types.specs.contracts.SettingsPartialEq.TheImpl as settings
 use Rattle.requests.specs.Machine.{Installed}
 use Rattle.requests.specs.View.{View}
 

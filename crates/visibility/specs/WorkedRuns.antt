@@ -1,14 +1,10 @@
 -- A run checked by computation: its replies. Further runs are row files, tests/rows/runs.
 use Rattle.std.specs.Prelude.{◌≡◌, ◌∷◌}
 use Rattle.requests.specs.CommonNames.{ℕ, negsuc, true, List, [], EventMask, StopFlags, Call, StatusKind, PlainStep}
-use Rattle.requests.specs.declared.step.Step.{Step}
-use Rattle.requests.specs.declared.Request.{Request}
-use Rattle.requests.specs.declared.Act.{Act}
-use Rattle.requests.specs.declared.Reply.{Reply}
-use Rattle.lwpinfo.specs.declared.Event.TheVariants as event
+use Rattle.step_types.specs.{Plain.Asked, Status.no_options, declared.Act.Act, declared.Reply.Reply, declared.Request.Request, declared.step.Step.Step}
+use Rattle.step_types.specs.declared.Event.TheVariants as event
 use Rattle.requests.specs.Machine.{Machine, empty}
-use Rattle.requests.specs.Handle.{no_options}
-use Rattle.requests.specs.Run.{Asked, replies}
+use Rattle.requests.specs.Run.{replies}
 
 abbrev pub kills : Machine
 kills = empty (record { kill_on_debugger_exit = true })

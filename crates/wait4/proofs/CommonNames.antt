@@ -30,7 +30,6 @@ pub use Rattle.trace_stop.proofs.SoundAfterEdit.{Edit, Row, Same, Stay, edit_hol
 pub use Rattle.trace_stop.proofs.SoundAfterNotify.{live_told, notified_sound}
 pub use Rattle.wait4.specs.Collect.{answer, candidates, collect, collect_one, collected, collected_in, fits, is_child, lesser, names_as, reportable, reported, rows_after, stays, told, without_report}
 pub use Rattle.wait4.specs.Laws.{AfterOthers, AfterOwn, CollectOwn, ReportedLeast, ReportedOwn}
-pub use Rattle.wait4.specs.Status.{IsStatus, ended, word}
+pub use Rattle.step_types.specs.{Status.IsStatus, Status.ended, Status.word, declared.Options.Options}
 pub use Rattle.wait4.specs.declared.Collected.TheVariants.{NoChild, Nothing}
-pub use Rattle.wait4.specs.declared.Options.{Options}
 pub use Rattle.wait4.specs.declared.collecting.Kin.TheVariants.{Parent, Tracer}

@@ -2,7 +2,7 @@
 use Rattle.std.specs.Prelude.{◌≡◌, ◌≢◌, ◌&&◌}
 use Rattle.trace_stop.specs.CommonNames.{ℕ, ℤ, true, Rows, owns, LeastOrNone, only_of}
 use Rattle.trace_stop.specs.Facts.{IsSound}
-use Rattle.wait4.specs.declared.Options.{Options}
+use Rattle.step_types.specs.declared.Options.{Options}
 use Rattle.wait4.specs.Collect.{is_child, fits, reportable, reported, collect, rows_after}
 
 -- the reported child has the least number of those that the wait is for and that have something to report

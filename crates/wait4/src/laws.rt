@@ -1,12 +1,6 @@
-//! Laws of statuses and their words, and of what a wait answers, proved without code.
+//! Laws of what a wait answers, proved without code.
 
-ghost use Rattle.wait4.specs.Status.{WordsDiffer};
 ghost use Rattle.wait4.specs.Laws.{ReportedLeast, ReportedOwn, CollectOwn, AfterOwn, AfterOthers};
-
-/// No two statuses have the same word.
-pub fn words_differ()
-    ensures { WordsDiffer }
-{}
 
 /// A wait reports the child with the least number of those that it is for and that have something to report,
 /// and none if there is no such child.

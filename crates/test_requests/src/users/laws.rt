@@ -4,8 +4,8 @@ ghost use Rattle.std.specs.Prelude.{◌≡◌, [], ◌∷◌, IfOk, OnOk};
 ghost use Rattle.requests.specs.Isolation.{host_after};
 ghost use Rattle.requests.specs.Machine.{empty};
 ghost use Rattle.requests.specs.Run.{last};
-ghost use Rattle.requests.specs.declared.step.Step.TheVariants as op;
-ghost use Rattle.requests.specs.declared.Request.TheVariants as request;
+ghost use Rattle.step_types.specs.declared.step.Step.TheVariants as op;
+ghost use Rattle.step_types.specs.declared.Request.TheVariants as request;
 ghost use Rattle.visibility.specs.WorkedRuns.{kills, by};
 
 use pid_blocks::Uid;

@@ -1,5 +1,5 @@
-use Rattle.{std.{proofs.Common.{◌≡◌, refl, ap, subst, arith}, specs.Prelude.false}, wait4.specs.Status.WordsDiffer}
-use Rattle.{requests.specs.{declared.Reply.Reply, Refusals.is_listing}}
+use Rattle.{std.{proofs.Common.{◌≡◌, refl, ap, subst, arith}, specs.Prelude.false}}
+use Rattle.step_types.specs.{Replies.is_listing, Status.WordsDiffer, declared.Reply.Reply}
 use Rattle.flat_forms.specs.{Replies.{Alike, same, lwps, pids, status, handled, FlatFormsDiffer, HasStatus, OneReply}}
 use Rattle.flat_forms.proofs.laws.flat_forms_differ.Goals as goal
 

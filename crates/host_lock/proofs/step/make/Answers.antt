@@ -1,7 +1,6 @@
 use Rattle.host_lock.proofs.CommonNames.{◌≡◌, List, ap, sym, subst, ◌∙◌, Machine, PlainStep}
 use Rattle.requests.specs.Hosts.{Steps}
-use Rattle.requests.specs.Plain.{map_handler}
-use Rattle.requests.specs.declared.step.Step.{Step}
+use Rattle.step_types.specs.{Plain.map_handler, declared.step.Step.Step}
 use Rattle.stop_handlers.specs.declared.Rule.{Rule}
 use Rattle.host_lock.proofs.Boxed.{made_mapped}
 use Rattle.host_lock.proofs.step.make.Goals as goal

@@ -1,7 +1,7 @@
 use Rattle.std.proofs.Common.{◌≡◌, ◌+◌, ◌++◌, [], ◌∷◌, List, sym, subst, ap, ◌∙◌, arith, rules, append_assoc, append-nil, length-append, length, map, refl}
 use mathlib.Core.List.{map-append}
 use Rattle.sessions.proofs.CommonNames.{into_iter_items, nil_from_length, PlainStep, SmallStep, own_step, Did}
-use Rattle.requests.specs.declared.Reply.{Reply}
+use Rattle.step_types.specs.declared.Reply.{Reply}
 use Rattle.sessions.proofs.Scripts.{did_more}
 use Rattle.sessions.proofs.worker.work.Goals as goal
 

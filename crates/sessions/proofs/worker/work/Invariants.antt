@@ -1,6 +1,6 @@
 use Rattle.std.proofs.Common.{◌≡◌, ◌+◌, ◌≤◌, ◌++◌, List, map, length}
 use Rattle.sessions.proofs.CommonNames.{into_iter_items, max_calls, own_step, Did}
-use Rattle.requests.specs.declared.Reply.{Reply}
+use Rattle.step_types.specs.declared.Reply.{Reply}
 use Rattle.sessions.proofs.worker.work.Given as goal
 
 abbrev pub invariant-loop-step : goal.invariant-loop-step

@@ -1,5 +1,5 @@
 use Rattle.requests.proofs.CommonNames.{subst, Steps, attempted_reply}
-use Rattle.requests.specs.declared.step.Step.TheVariants.{Install}
+use Rattle.step_types.specs.declared.step.Step.TheVariants.{Install}
 use Rattle.requests.proofs.host.Host.step.Goals as goal
 
 pub returns : goal.returns

@@ -1,8 +1,8 @@
 use Rattle.std.proofs.Common.{◌≡◌, [], ◌∷◌, refl, arith, rules, inl, inr}
 use Rattle.requests.specs.Isolation.{AlikeSteps, ptraces}
 use Rattle.requests.specs.Run.{last}
-use Rattle.requests.specs.declared.step.Step.TheVariants as op
-use Rattle.requests.specs.declared.Request.TheVariants as request
+use Rattle.step_types.specs.declared.step.Step.TheVariants as op
+use Rattle.step_types.specs.declared.Request.TheVariants as request
 use Rattle.visibility.specs.WorkedRuns.{kills, by}
 use Rattle.test_requests.proofs.users.laws.foreign_attaches.Goals as goal
 

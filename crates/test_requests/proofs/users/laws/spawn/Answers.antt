@@ -1,5 +1,5 @@
 use Rattle.std.proofs.Common.{◌∙◌, sym}
-use Rattle.requests.proofs.Replies.{other}
+use Rattle.step_types.proofs.Replies.{other}
 use Rattle.test_requests.proofs.users.laws.spawn.Goals as goal
 
 pub returns : goal.returns

@@ -1,7 +1,7 @@
 use Rattle.std.proofs.Common.{◌≡◌, ℕ, ap₂, ◌∙◌, rules}
 use Rattle.requests.specs.Isolation.{host_after}
 use Rattle.requests.specs.Machine.{Machine}
-use Rattle.requests.specs.declared.step.Step.TheVariants as op
+use Rattle.step_types.specs.declared.step.Step.TheVariants as op
 use Rattle.visibility.specs.WorkedRuns.{kills}
 use Rattle.test_requests.proofs.users.laws.with_three.Goals as goal
 

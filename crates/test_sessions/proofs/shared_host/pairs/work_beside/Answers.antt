@@ -3,7 +3,7 @@ use Rattle.std.proofs.Crossing.{crosses}
 use Rattle.stop_handlers.specs.contracts.handlers.ByPolicy as ByPolicy
 use Rattle.stop_handlers.specs.contracts.handlers.ByPolicyDecider.TheImpl as decider
 use Rattle.stop_handlers.specs.contracts.handlers.Handler as Handler
-use Rattle.requests.specs.contracts.step.Step as Step
+use Rattle.step_types.specs.contracts.step.Step as Step
 use Rattle.host_lock.specs.contracts.call_log.VecEntryCallLog.TheImpl as log
 use Rattle.host_lock.specs.contracts.host.SharedHost as SharedHost
 use Rattle.host_lock.proofs.Crossing.{reply_send, session_send, step_send, entries_row, entries_send, host_sync}

@@ -1,0 +1,5 @@
+pub mod Status
+pub mod Events
+pub mod Plain
+pub mod Replies
+pub mod Words
