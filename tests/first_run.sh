@@ -11,7 +11,7 @@ need python3 git flock || exit
 # a copy without what was built, and the stand-in: it takes the crates in the order of crates.txt, and fails where one is
 # missing, or in the crate that FAILS names. It keeps in KEPT what has passed, and notes in GIVEN what it was given
 mkdir "$room/copy" "$room/bin" "$room/kept" "$room/tmp"
-git ls-files -z | xargs -0 ls -d 2>/dev/null | tr '\n' '\0' | xargs -0 cp --parents -t "$room/copy"
+git ls-files -z | xargs -0 cp --parents -t "$room/copy"
 cat >"$room/bin/rt" <<'STAND_IN'
 #!/usr/bin/env bash
 [ "$*" = ci ] || { echo "rt $*: unknown"; exit 2; }
@@ -86,7 +86,7 @@ check "the run after a failed one ends with status 0" test $? -eq 0
 same <(echo "ran some.json --user 1001") "$room/out" "the program is run with the arguments"
 same /dev/null <(comm -12 "$room/first" <(sed -n 's/^proved //p' "$CALLS" | sort)) "no crate is proved twice"
 crates=$(wc -l <"$room/whole")
-check "a crate that was kept is reported so" grep -q 'pid_blocks is proved (as before): 1 of ' "$room/err"
+check "a crate that was kept is reported so" grep -q 'pid_blocks is proved (as before): ' "$room/err"
 check "a crate that is proved has its functions" grep -q 'wait4 is proved (2 functions): ' "$room/err"
 check "the last line is that of the whole work" grep -q "$crates of $crates crates, 100% of the work" "$room/err"
 sed -n 's/.*tracehost: \([a-z_0-9]*\) is proved.*/\1/p' "$room/err" | sort >"$room/reported"
@@ -131,8 +131,10 @@ check "an interrupt is reported" grep -q 'interrupted; the next call goes on fro
 same /dev/null <(left) "nothing is left after an interrupt"
 same /dev/null <(pgrep -f "$room/bin/rt") "no gate is left after an interrupt"
 
-# an error of the tool itself isn't taken for a proof
-chmod -x "$room/bin/rt"
+# a gate that ends before it has named a crate
+printf '#!/bin/sh\necho "rt: the disk is full"\nexit 2\n' >"$room/bin/rt"
 python3 tools/first_run.py 2>"$room/err"
-check "a gate that can't be run ends with status 1" test $? -eq 1
-same /dev/null <(left) "nothing is left of a gate that can't be run"
+check "a gate that can't begin ends with status 1" test $? -eq 1
+check "what the gate said is printed" grep -qx 'rt: the disk is full' "$room/err"
+check "no crate is named" grep -q '^tracehost: the program is not proved: ' "$room/err"
+same /dev/null <(left) "nothing is left of a gate that can't begin"

@@ -1,5 +1,5 @@
 -- Changes of all LWPs of one process.
-use Rattle.trace_stop.specs.CommonNames.{ℕ, false, without, LwpData, Nothing, is_this, Rows, map_lwps, Edit, Settle, Post, ClearStepping, Detach}
+use Rattle.trace_stop.specs.CommonNames.{ℕ, false, without, LwpData, Nothing, is_this, Edit, Settle, Post, ClearStepping, Detach}
 use Rattle.trace_stop.specs.Post.{signal_put}
 
 -- an LWP whose pending set loses the signals of two sets
@@ -12,7 +12,3 @@ edited (Settle lost) l = record l { pending = without l.pending lost }
 edited (Post s to lost) l = record l { pending = without (signal_put s (is_this l.tid to) l.pending) lost }
 edited ClearStepping l = record l { stepping = false }
 edited (Detach lost unwanted) l = record l { stepping = false; suspended = false; due = Nothing; pending = without (without l.pending lost) unwanted }
-
--- the rows in which no LWP of a process steps
-abbrev pub steps_cleared : ℕ → Rows → Rows
-steps_cleared pid rows = map_lwps pid (edited ClearStepping) rows

@@ -6,6 +6,7 @@ use Rattle.trace_stop.specs.CommonNames.{lwp_count, Rise, InOwnBlock, InOwnersBl
 use Rattle.trace_stop.specs.Post.{unwanted}
 pub use Rattle.trace_stop.specs.End.{meets, waited_for}
 use Rattle.trace_stop.specs.Sound.{is_live_of, is_live_child, is_end, names_own, is_due, mode_fits}
+use Rattle.trace_stop.specs.Limits.{max_processes, max_lwps}
 
 -- a live process of the user has the number
 abbrev pub IsLiveOf : Rows → ℕ → ℕ → Type 0
@@ -21,7 +22,7 @@ pub record Linked (rows : Rows) (p : ProcData) : Type 0 where
   pub tracer : IfSome p.tracer (IsLiveOf rows p.uid)
   pub parent : p.parent ≢ 1 → IsLiveOf rows p.uid p.parent
   pub other : p.parent ≢ p.pid
-  pub chain : meets 250 rows.processes p.pid p.pid ≡ false
+  pub chain : meets max_processes rows.processes p.pid p.pid ≡ false
   pub named : IfSome (reporting p) (λ tid. names_own rows p tid ≡ true)
   pub peopled : is_live p ≡ true → 1 ≤ lwp_count p.pid rows
 
@@ -89,8 +90,8 @@ pub record MidStepInvariant (rows : Rows) : Type 0 where
   pub tid_slots : length rows.tid_cursors ≡ 64
   pub pid_cursors : (u : ℕ) → IsUser u → InBlock (pid_block u) (get_or rows.pid_cursors (slot u) 0)
   pub tid_cursors : (u : ℕ) → IsUser u → InBlock (tid_block u) (get_or rows.tid_cursors (slot u) 0)
-  pub few_processes : (u : ℕ) → IsUser u → process_count u rows ≤ 250
-  pub few_lwps : (u : ℕ) → IsUser u → lwp_count_of u rows ≤ 1000
+  pub few_processes : (u : ℕ) → IsUser u → process_count u rows ≤ max_processes
+  pub few_lwps : (u : ℕ) → IsUser u → lwp_count_of u rows ≤ max_lwps
   pub linked : AllByRecursion (Linked rows) rows.processes
   pub standing : AllByRecursion (WithOwner rows (Standing rows)) rows.lwps
 

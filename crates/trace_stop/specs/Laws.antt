@@ -4,6 +4,7 @@ use Rattle.trace_stop.specs.CommonNames.{ℕ, zero, suc, Bool, true, List, [], S
 use Rattle.trace_stop.specs.Detach.{detached}
 use Rattle.trace_stop.specs.End.{tracer_of, meets}
 use Rattle.trace_stop.specs.Facts.{MidStepInvariant, IsSound}
+use Rattle.trace_stop.specs.Limits.{max_processes}
 
 -- the numbers of a process, its tracer, that process's tracer and so on, over at most this many links
 unfoldable pub chain : ℕ → List ProcData → ℕ → List ℕ
@@ -12,7 +13,7 @@ chain (suc links) processes n = n ∷ option_map_or (chain links processes) (tra
 
 -- a chain of tracers has at most 249 links
 abbrev pub ChainsEnd : Type 0
-ChainsEnd = (rows : Rows) (n : ℕ) → MidStepInvariant rows → length (chain 250 rows.processes n) ≤ 250
+ChainsEnd = (rows : Rows) (n : ℕ) → MidStepInvariant rows → length (chain max_processes rows.processes n) ≤ max_processes
 
 -- so 249 links of a chain reach all that any number of links reaches
 abbrev pub ChainsMeet : Type 0
@@ -21,7 +22,7 @@ ChainsMeet = (rows : Rows) (links p n : ℕ) → MidStepInvariant rows → meets
 -- a tracee's chain of tracers is one longer than its tracer's
 abbrev pub TraceeDeeper : Type 0
 TraceeDeeper = (rows : Rows) (tracee tracer : ℕ) → MidStepInvariant rows → tracer_of rows.processes tracee ≡ Some tracer
-    → length (chain 250 rows.processes tracee) ≡ suc (length (chain 250 rows.processes tracer))
+    → length (chain max_processes rows.processes tracee) ≡ suc (length (chain max_processes rows.processes tracer))
 
 -- sound rows are still sound after live processes were detached from their tracers
 abbrev pub DetachedSound : Type 0

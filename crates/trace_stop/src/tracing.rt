@@ -1,13 +1,13 @@
 //! Trace stops, and how processes run on from them, with their tracers or without.
 
-ghost use Rattle.std.specs.Prelude.{◌≡◌, IfSome, IsSome, true};
+ghost use Rattle.std.specs.Prelude.{◌≡◌, IfSome, IsSome, false, true};
 ghost use Rattle.std.specs.Option.{IsSomeAnd};
 ghost use Rattle.lwp_table.specs.Lwps.{lwp_of};
+ghost use Rattle.proc_table.specs.Edits.{map_lwps};
 ghost use Rattle.proc_table.specs.Processes.{reporting};
 ghost use Rattle.proc_table.specs.Rows.{is_numbered};
 ghost use Rattle.proc_table.specs.Kept.{IsRow};
 ghost use Rattle.trace_stop.specs.Before.{MayStop};
-ghost use Rattle.trace_stop.specs.Edits.{steps_cleared};
 ghost use Rattle.trace_stop.specs.Facts.{IsSound, MidStepInvariant};
 ghost use Rattle.trace_stop.specs.Detach.{resumed, detached};
 ghost use Rattle.trace_stop.specs.Sound.{is_live_at};
@@ -137,7 +137,7 @@ pub fn stop(tables: &mut Tables, pid: Pid, tid: Tid, shown: &Shown)
 
 /// Clears the stepping of each LWP of the process.
 pub fn clear_stepping(tables: &mut Tables, pid: Pid)
-    ensures rows { tables.new.rows ≡ steps_cleared pid tables.old.rows }
+    ensures rows { tables.new.rows ≡ map_lwps pid (λ l. record l { stepping = false }) tables.old.rows }
 {
     edit_lwps(tables, pid, &Edit::ClearStepping);
 }
