@@ -80,6 +80,8 @@ def copy_crates(names: dict[str, str], folder: str) -> None:
                 shutil.copytree(path, to)
             elif os.path.isfile(path):
                 shutil.copy2(path, to)
+    # rt ends its search for the top of a repository here, and what it sets aside lies within
+    os.mkdir(f"{folder}/.git")
     shutil.copy2(f"{TOP}/HANDLES", folder)
     with open(f"{folder}/crates.txt", "w", encoding="utf-8") as listed:
         listed.writelines(names.values())
