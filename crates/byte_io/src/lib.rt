@@ -6,6 +6,3 @@ mod writing;
 
 pub use reading::{LineEnd, read_line};
 pub use writing::write_flushed;
-
-#[cfg(test)]
-mod tests;

@@ -1,7 +1,6 @@
 -- Requests, dispositions, options and acts by their numbers.
 use Rattle.std.specs.{Prelude.{ℕ, ◌==◌, ◌/◌, ◌%◌, ◌^◌, ltb, nat_eq, List, [], ◌∷◌, Option, Some, None, option_map, if◌then◌else◌}, Option.option_flatten, Map.lookup}
-use Rattle.{signals.specs.declared.Disposition.Disposition, event_masks.specs.declared.Call.Call}
-use Rattle.step_types.specs.{declared.Act.Act, declared.Options.Options, declared.Request.Request}
+use Rattle.{signals.specs.declared.Disposition.Disposition, event_masks.specs.declared.Call.Call, step_types.specs.declared.{Act.Act, Options.Options, Request.Request}}
 
 -- the value of the number in a table
 abbrev pub numbered : {X : Type 0} → List (ℕ × X) → ℕ → Option X

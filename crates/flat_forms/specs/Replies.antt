@@ -1,9 +1,7 @@
 -- A reply as numbers.
 use Rattle.std.specs.Prelude.{⊤, ◌≡◌, ℕ, false, ◌%◌, ◌^◌, List, length, Option, is_some}
-use Rattle.{pid_blocks.specs.Blocks.errno_number}
-use Rattle.step_types.specs.{Replies.is_listing, Status.IsStatus, Status.word, declared.Event.Event, declared.LwpInfo.LwpInfo, declared.Reply.Reply}
-use Rattle.step_types.specs.{declared.StatusKind.StatusKind}
-use Rattle.{stop_handlers.specs.declared.{Decision.Decision, StopView.StopView}, flat_forms.specs.declared.replies.FlatReply.FlatReply}
+use Rattle.step_types.specs.{Replies.is_listing, Status.{IsStatus, word}, declared.{Event.Event, LwpInfo.LwpInfo, Reply.Reply, StatusKind.StatusKind}}
+use Rattle.{pid_blocks.specs.Blocks.errno_number, stop_handlers.specs.declared.{Decision.Decision, StopView.StopView}, flat_forms.specs.declared.replies.FlatReply.FlatReply}
 use Rattle.flat_forms.specs.FlatRows.{flag, number_or_0}
 
 -- a reply of this kind with all its numbers 0

@@ -6,8 +6,6 @@ mod lexer;
 mod numbers;
 mod plain;
 mod scalars;
-#[cfg(test)]
-mod tests;
 mod tokens;
 mod words;
 

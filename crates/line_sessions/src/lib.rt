@@ -8,6 +8,3 @@ mod serving;
 
 pub use fault::ServeError;
 pub use serving::serve;
-
-#[cfg(test)]
-mod tests;

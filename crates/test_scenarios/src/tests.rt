@@ -5,7 +5,9 @@ use std::test::Fail;
 use stop_handlers::{ByPolicy, Handler, Policy};
 use test_kit::{Row, TestError, rows_of};
 
+mod bytes;
 mod faults;
+mod line_by_line;
 mod lines;
 mod ops;
 mod readers;
@@ -13,7 +15,9 @@ mod runs;
 mod sizes;
 mod texts;
 mod threads;
+mod tokens;
 mod values;
+mod wire;
 
 const SPAWN_AND_LIST: &str = r#"{"steps":[
 {"user":1001,"op":"spawn"},

@@ -1,6 +1,8 @@
-use crate::{ServeError, serve};
+//! Sessions line by line: their answers, and readers and writers that fail.
+
+use super::wire::Wire;
+use line_sessions::{ServeError, serve};
 use scenario::Style;
-use std::io;
 use std::io::BufReader;
 use std::process::Abort;
 use std::test::Fail;
@@ -22,41 +24,6 @@ refused BadUser
 1001 2 error ESRCH 3
 1001 3 pids 1000
 ";
-
-/// A reader that gives some bytes and then fails.
-#[derive(Drop)]
-struct Broken<'a>(&'a [u8]);
-
-impl io::Read for Broken<'_> {
-    fn read(&mut self, buf: &mut [u8]) -> io::Result<usize> {
-        if self.0.is_empty() {
-            return Err(io::Error::from(io::ErrorKind::Other));
-        }
-        self.0.read(buf)
-    }
-}
-
-/// A writer that has room for some bytes and then fails.
-#[derive(Drop)]
-struct Full {
-    taken: Vec<u8>,
-    room: usize,
-}
-
-impl io::Write for Full {
-    fn write(&mut self, buf: &[u8]) -> io::Result<usize> {
-        let n = buf.len().min(self.room - self.room.min(self.taken.len()));
-        if n == 0 {
-            return Err(io::Error::from(io::ErrorKind::Other));
-        }
-        self.taken.extend_from_slice(&buf[..n])?;
-        Ok(n)
-    }
-
-    fn flush(&mut self) -> io::Result<()> {
-        Ok(())
-    }
-}
 
 #[test]
 fn lines_and_answers(rt: HostRuntime) -> Result<(), Fail> {
@@ -101,7 +68,8 @@ fn longest_lines(rt: HostRuntime) -> Result<(), Fail> {
 
 #[test]
 fn readers_that_fail(rt: HostRuntime) -> Result<(), Fail> {
-    let mut reader = BufReader::new(rt.alloc(), Broken(LINES.as_bytes()))?;
+    let wire = Wire::new(rt.alloc(), LINES.as_bytes(), 0, true);
+    let mut reader = BufReader::new(rt.alloc(), wire)?;
     let mut writer = Vec::new(rt.alloc());
     let ended = serve(
         rt.alloc(),
@@ -120,10 +88,7 @@ fn readers_that_fail(rt: HostRuntime) -> Result<(), Fail> {
 /// Checks that a writer with room for `room` bytes takes that front of the answers.
 fn check_room<R: Abort + AllocGlobal>(rt: &R, room: usize) -> Result<(), Fail> {
     let mut reader = LINES.as_bytes();
-    let mut writer = Full {
-        taken: Vec::new(rt.alloc()),
-        room,
-    };
+    let mut writer = Wire::new(rt.alloc(), b"", room, true);
     let ended = serve(
         rt.alloc(),
         Settings::standard(),

@@ -1,7 +1,7 @@
 //! Texts with and without escapes, which two readers read.
 
-use crate::{Opening, Scalar, Tokens, next_scalar, open_value, pass_value};
 use json::Scratch;
+use json_values::{Opening, Scalar, Tokens, next_scalar, open_value, pass_value};
 use std::alloc::{AllocError, Global};
 
 /// Returns the whole number at the key `ab` of an object that has only this key.
