@@ -1,7 +1,7 @@
 -- The answers of open, call and close.
 use Rattle.std.specs.Prelude.{◌≡◌, ℕ, ◌<◌, List, ◌∷◌, ◌++◌, length, false}
 use Rattle.{requests.specs.{Machine.Machine}, host_lock.specs.declared.host.OpenRefusal.{OpenRefusal, TheVariants.NoSessions}}
-use Rattle.step_types.specs.declared.Reply.Reply as AnyReply
+use Rattle.step_types.specs.declared.Reply.{Reply as AnyReply}
 use Rattle.step_types.specs.{Plain.PlainStep, Replies.is_memory}
 use Rattle.host_lock.specs.declared.host.{OpenRefusal.TheVariants.{TooMany, Memory}, CloseRefusal.{CloseRefusal, TheVariants.Missing}, Answer.{Answer, TheVariants.{Reply, Spent}}}
 use Rattle.host_lock.specs.{declared.journal.Entry.Entry, Limits.{max_sessions, max_calls}, Journal.{StartsWith, entry}, Sessions.{SessionData, HostData, Replies, IsOpenable, InJournal}}
