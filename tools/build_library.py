@@ -16,14 +16,14 @@ that the same sources give the same bits.
 
 from __future__ import annotations
 
-import importlib.machinery
-import importlib.util
 import os
 import shutil
 import subprocess
 import sys
 import tempfile
 import types
+
+from kit import load_rt
 
 TOP = os.path.dirname(os.path.dirname(os.path.realpath(__file__)))
 CRATE = "tracehost_c"
@@ -35,20 +35,6 @@ EXPORTED = "{ global: tracehost_*; local: *; };\n"
 
 def refuse(why: str) -> None:
     sys.exit(f"build_library: {why}")
-
-
-def load_rt() -> types.ModuleType:
-    """Returns the kit's command rt as a module."""
-    path = shutil.which("rt")
-    if path is None:
-        sys.exit("build_library: the command rt of the Rattle kit is missing")
-    sys.dont_write_bytecode = True
-    loader = importlib.machinery.SourceFileLoader("rt", os.path.realpath(path))
-    spec = importlib.util.spec_from_loader("rt", loader)
-    assert spec is not None
-    module = importlib.util.module_from_spec(spec)
-    loader.exec_module(module)
-    return module
 
 
 def digest_of_sources() -> str:

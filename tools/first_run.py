@@ -1,9 +1,9 @@
 #!/usr/bin/env python3
 """Proves and builds the program, and says on standard error how far it is.
 
-The gate of the kit (`rt ci`) does the work, on a copy of the crates that the program stands on, without must-fail edits.
-It proves as many crates side by side as there are processors and memory for. What has passed is kept beside the kit, so
-that after an interrupt the next call goes on from there, and the gate does too.
+The gate of the kit (`rt ci`, by lone_gate.py) does the work, on a copy of the crates that the program stands on, without
+must-fail edits. It proves as many crates side by side as there are processors and memory for. What has passed is kept
+beside the kit, so that after an interrupt the next call goes on from there, and the gate does too.
 
 On a terminal one line is rewritten; else a line is printed for each crate. The share of the work that is done comes from
 the processor seconds in bench/proof_seconds.tsv.
@@ -167,7 +167,7 @@ def interrupt(*_: object) -> None:
 def gate(folder: str, progress: Progress, log_path: str) -> int:
     """Runs the gate in the folder, and returns its status. All that it prints is in the log."""
     child = subprocess.Popen(
-        ["rt", "ci"], cwd=folder, stdin=subprocess.DEVNULL, stdout=subprocess.PIPE, stderr=subprocess.STDOUT,
+        [sys.executable, f"{TOP}/tools/lone_gate.py"], cwd=folder, stdin=subprocess.DEVNULL, stdout=subprocess.PIPE, stderr=subprocess.STDOUT,
         start_new_session=True,
     )
     assert child.stdout is not None
