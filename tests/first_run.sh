@@ -8,37 +8,88 @@ program=none
 source "$(dirname "${BASH_SOURCE[0]}")/lib.sh"
 need python3 git flock || exit
 
-# a copy without what was built, and the stand-in: it takes the crates in the order of crates.txt, and fails where one is
-# missing, or in the crate that FAILS names. It keeps in KEPT what has passed, and notes in GIVEN what it was given
+# a copy without what was built, and the stand-in: its scheduler takes the tasks in the order of crates.txt, and it fails
+# where a crate is missing, or in the crate that FAILS names. It keeps in KEPT what has passed, and notes in GIVEN what it
+# was given
 mkdir "$room/copy" "$room/bin" "$room/kept" "$room/tmp"
 git ls-files -z | xargs -0 cp --parents -t "$room/copy"
 cat >"$room/bin/rt" <<'STAND_IN'
-#!/usr/bin/env bash
-[ "$*" = ci ] || { echo "rt $*: unknown"; exit 2; }
-find . -type f | sort >"$GIVEN"
-echo begin >>"$CALLS"
-while IFS=: read -r name uses; do
-  for use in $uses; do
-    [ ! -d "$TREE/crates/$use" ] || [ -f "$KEPT/$use" ] || { echo "rt: $name NOT PROVED: its library $use failed"; exit 1; }
-  done
-  if [ -f "$KEPT/$name" ] && cmp -s "$KEPT/$name" "crates/$name/src"/[lm][ia][bi]*.rt; then
-    echo "rt: $name is kept: an earlier run on this machine proved the same files over the same libraries"
-    continue
-  fi
-  sleep "${PAUSE:-0}"
-  echo "== $name"
-  if [ "$name" = "${FAILS:-}" ]; then
-    printf '%s\n' "error: a goal is open" "rt: $name NOT PROVED"
-    exit 1
-  fi
-  printf '%s\n' "logic=proved functions=2" "rt: $name proved" "== $name: its tests" "rt: $name: its tests are proved"
-  cat "crates/$name/src"/[lm][ia][bi]*.rt >"$KEPT/$name"
-  echo "proved $name" >>"$CALLS"
-done <crates.txt
-mkdir -p crates/tracehost/out
-printf '#!/bin/sh\necho "ran $*"\n' >crates/tracehost/out/tracehost
-chmod +x crates/tracehost/out/tracehost
-echo "1 passed, 0 failed"
+#!/usr/bin/env python3
+import glob, os, sys, time
+
+KEPT, TREE = os.environ['KEPT'], os.environ['TREE']
+
+
+def note(file, text):
+    with open(os.environ[file], 'a') as out:
+        out.write(text + '\n')
+
+
+def source(name):
+    return ''.join(open(path).read() for path in glob.glob(f'crates/{name}/src/[lm]*.rt'))
+
+
+def prove(name, uses):
+    missing = [it for it in uses if os.path.isdir(f'{TREE}/crates/{it}') and not os.path.isfile(f'{KEPT}/{it}')]
+    if missing:
+        print(f'rt: {name} NOT PROVED: its library {missing[0]} failed', flush=True)
+        return False
+    if os.path.isfile(f'{KEPT}/{name}') and open(f'{KEPT}/{name}').read() == source(name):
+        print(f'rt: {name} is kept: an earlier run on this machine proved the same files over the same libraries', flush=True)
+        return True
+    time.sleep(float(os.environ.get('PAUSE', '0')))
+    print(f'== {name}', flush=True)
+    if name == os.environ.get('FAILS'):
+        print(f'error: a goal is open\nrt: {name} NOT PROVED', flush=True)
+        return False
+    print(f'logic=proved functions=2\nrt: {name} proved', flush=True)
+    with open(f'{KEPT}/{name}', 'w') as out:
+        out.write(source(name))
+    note('CALLS', f'proved {name}')
+    return True
+
+
+def test(name):
+    note('CALLS', f'tested {name}')
+    print(f'== {name}: its tests\nrt: {name}: its tests are proved', flush=True)
+    return True
+
+
+def in_lanes(tasks):
+    given = {}
+    for key, (waits, lines, needs, call) in tasks.items():
+        note('CALLS', f'{key[1]} {key[0]}')
+        given[key] = call(given, 1)
+    return given
+
+
+def main(words):
+    if words != ['ci']:
+        sys.exit(f'rt {words}: unknown')
+    with open(os.environ['GIVEN'], 'w') as out:
+        out.writelines(sorted(f'{at}/{it}\n' for at, _, files in os.walk('.') for it in files))
+    note('CALLS', 'begin')
+    tasks = {}
+    for line in open('crates.txt'):
+        name, _, uses = line.partition(':')
+        lines = source(name).count('\n')
+        tasks[name, 'proof'] = [], lines, 0, lambda given, jobs, name=name, uses=uses: prove(name, uses.split())
+        has_tests = name == os.environ.get('TESTED')
+        tasks[name, 'tests'] = [], lines * has_tests, 0, lambda given, jobs, name=name: test(name)
+    given = in_lanes(tasks)
+    if not all(given[key] for key in tasks):
+        print('1 passed, 1 failed')
+        return 1
+    os.makedirs('crates/tracehost/out')
+    with open('crates/tracehost/out/tracehost', 'w') as out:
+        out.write('#!/bin/sh\necho "ran $*"\n')
+    os.chmod('crates/tracehost/out/tracehost', 0o755)
+    print('1 passed, 0 failed')
+    return 0
+
+
+if __name__ == '__main__':
+    sys.exit(main(sys.argv[1:]))
 STAND_IN
 chmod +x "$room/bin/rt"
 export PATH=$room/bin:$PATH CALLS=$room/calls GIVEN=$room/given KEPT=$room/kept TMPDIR=$room/tmp TREE=$room/copy
@@ -93,6 +144,15 @@ sed -n 's/.*tracehost: \([a-z_0-9]*\) is proved.*/\1/p' "$room/err" | sort >"$ro
 same "$room/whole" "$room/reported" "each crate is reported once"
 same /dev/null <(left) "nothing is left of a proof"
 
+# the scheduler is given the tests of a crate that has some, and no others
+: >"$CALLS"
+rm -f "$KEPT"/*
+TESTED=byte_io python3 tools/first_run.py 2>"$room/err"
+check "a run with tests ends with status 0" test $? -eq 0
+same "$room/whole" <(sed -n 's/^proof //p' "$CALLS" | sort) "the scheduler is given each proof"
+same <(echo byte_io) <(sed -n 's/^tests //p' "$CALLS") "the scheduler is given the tests that there are"
+same <(echo byte_io) <(sed -n 's/^tested //p' "$CALLS") "these tests are made"
+
 # the program that was built is run at once, until a source changes
 : >"$CALLS"
 ./tracehost --prove other.json >"$room/out" 2>"$room/err"
@@ -129,10 +189,15 @@ wait $first
 check "an interrupt ends the run with status 130" test $? -eq 130
 check "an interrupt is reported" grep -q 'interrupted; the next call goes on from what is proved' "$room/err"
 same /dev/null <(left) "nothing is left after an interrupt"
-same /dev/null <(pgrep -f "$room/bin/rt") "no gate is left after an interrupt"
+same /dev/null <(pgrep -f "$PWD/tools/lone_gate.py") "no gate is left after an interrupt"
 
 # a gate that ends before it has named a crate
-printf '#!/bin/sh\necho "rt: the disk is full"\nexit 2\n' >"$room/bin/rt"
+cat >"$room/bin/rt" <<'FULL'
+in_lanes = None
+def main(words):
+    print('rt: the disk is full')
+    return 2
+FULL
 python3 tools/first_run.py 2>"$room/err"
 check "a gate that can't begin ends with status 1" test $? -eq 1
 check "what the gate said is printed" grep -qx 'rt: the disk is full' "$room/err"

@@ -153,6 +153,16 @@ class Progress:
             )
 
 
+def report_of(log_path: str, failed: str) -> str:
+    """Returns the last lines of what the gate printed of a crate that failed, or where none is known of all."""
+    with open(log_path, encoding="utf-8", errors="replace") as text:
+        lines = text.readlines()
+    begins, ends = f"== {failed}\n", f"rt: {failed} NOT PROVED\n"
+    if begins in lines and ends in lines:
+        lines = lines[lines.index(begins) : lines.index(ends) + 1]
+    return "".join(lines[-20:])
+
+
 class Interrupted(Exception):
     """A signal asks for the end of the run."""
 
@@ -207,8 +217,7 @@ def prove() -> int:
             progress.say("interrupted; the next call goes on from what is proved")
             return 130
         if status:
-            with open(log_path, encoding="utf-8", errors="replace") as text:
-                sys.stderr.write("".join(text.readlines()[-20:]))
+            sys.stderr.write(report_of(log_path, progress.failed))
             progress.say(f"{progress.failed or 'the program'} is not proved: the whole log is {log_path}")
             return 1
         os.makedirs(os.path.dirname(built), exist_ok=True)
