@@ -127,7 +127,7 @@ check "the gate is given the program's input" grep -qx './crates/tracehost/stdin
 check "the gate is given no edit" test "$(grep -c must-fail "$GIVEN")" -eq 0
 find crates -type f \( -path '*/src/*' -o -path '*/specs/*' -o -path '*/proofs/*' \) | grep -f <(sed 's|.*|^crates/&/|' "$room/whole") |
   sort >"$room/sources"
-same "$room/sources" <(sed -n 's|^./\(crates/[^/]*/\(src\|specs\|proofs\)/.*\)|\1|p' "$GIVEN" | sort) "the gate is given each source"
+same "$room/sources" <(sed 's#^\./##' "$GIVEN" | grep -E '^crates/[^/]*/(src|specs|proofs)/' | sort) "the gate is given each source"
 
 # the next call goes on: what was proved is kept, and every crate is reported once
 sed -n 's/^proved //p' "$CALLS" | sort >"$room/first"
