@@ -65,10 +65,10 @@ cp -r tools crates.txt "$room/copy"
 find crates \( -name src -o -name specs \) -type d -prune -exec cp -r --parents {} "$room/copy" \;
 tools/trust definitions >"$room/list"
 before=$(total "$room/list")
-step=crates/requests/specs/Step.antt
+step=crates/requests/specs/Step.antt plain=crates/step_types/specs/Plain.antt
 differs_by "a comment on a cited definition" 1 $step 's/^-- a step by a user$/-- one\n&/'
-differs_by "a comment on a definition that nothing cites" 0 $step 's/^-- whether a step installs a handler$/-- one\n&/'
-differs_by "a step that cites one more definition" 4 $step 's/^step u s m = .*/& ◌ installs/'
+differs_by "a comment on a definition that nothing cites" 0 $plain 's/^-- whether a step installs a handler$/-- one\n&/'
+differs_by "a definition that cites one more" 4 $plain 's/^caller_of s = None$/& ◌ installs/'
 
 if need mypy; then
   check "the types of tools/trust" env MYPYPATH=tools mypy --strict --cache-dir "$room/mypy" \
