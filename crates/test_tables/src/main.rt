@@ -5,6 +5,9 @@
 //! program.
 #![tactic(auto)]
 
+ghost use Rattle.std.specs.Prelude.{◌≡◌};
+ghost use Rattle.std.specs.Result.{result_ok};
+
 mod dice;
 mod edits;
 mod lists;
@@ -12,6 +15,13 @@ mod manual;
 mod times;
 
 use std::io;
+
+/// Returns the value, or the error of a wrong input where there is none.
+fn present<T>(value: Option<T>) -> io::Result<T>
+    ensures { value ≡ result_ok result }
+{
+    value.ok_or(io::Error::from(io::ErrorKind::InvalidInput))
+}
 
 fn main(rt: HostRuntime) -> io::Result<()> {
     manual::print(&rt, rt.alloc())?;

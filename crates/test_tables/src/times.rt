@@ -5,7 +5,8 @@
 
 mod host;
 
-use host::{Host, Kind};
+use host::Host;
+use host::Kind::{self, Add, Get, NextOf, NextTracee, Remove, Set, Trace, Walk};
 use std::alloc::Global;
 use std::io;
 use std::rt::Clock;
@@ -20,28 +21,14 @@ const ROUND: usize = 50;
 const OPERATIONS: u64 = (ROUNDS * ROUND) as u64;
 
 /// The kinds of operation, in the order of a round. After a round there are as many rows as before it.
-const KINDS: [Kind; 8] = [
-    Kind::Add,
-    Kind::Get,
-    Kind::Set,
-    Kind::Walk,
-    Kind::Remove,
-    Kind::NextOf,
-    Kind::NextTracee,
-    Kind::Trace,
-];
-
-/// Returns the nanoseconds since `start`.
-fn took(rt: &impl Clock, start: Instant) -> io::Result<u64> {
-    let took = start.elapsed(rt)?.as_nanos();
-    Ok(u64::try_from(took).unwrap_or(u64::MAX))
-}
+const KINDS: [Kind; 8] = [Add, Get, Set, Walk, Remove, NextOf, NextTracee, Trace];
 
 /// Returns the nanoseconds of a round's operations of one kind.
 fn time(rt: &impl Clock, host: &mut Host, kind: Kind) -> io::Result<u64> {
     let start = Instant::now(rt)?;
     host.operate(kind, ROUND)?;
-    took(rt, start)
+    let took = start.elapsed(rt)?.as_nanos();
+    Ok(u64::try_from(took).unwrap_or(u64::MAX))
 }
 
 /// Returns the nanoseconds that each kind of operation took, over all rounds.
@@ -56,31 +43,24 @@ fn measure(rt: &impl Clock, host: &mut Host) -> io::Result<[u64; 8]> {
     Ok(times)
 }
 
-/// Prints the nanoseconds of an operation of each kind, and the counts.
-fn tell(rt: &(impl Print + Eprint + Clock), host: &mut Host, size: usize) -> io::Result<()> {
-    let times = measure(rt, host)?;
+/// Prints the nanoseconds of an operation of each kind on a host with `size` LWPs, and the counts.
+fn tell(rt: &(impl Print + Eprint + Clock), alloc: Global, size: usize) -> io::Result<()> {
+    let mut host = Host::filled(alloc, size)?;
+    let times = measure(rt, &mut host)?;
     let [add, get, set, walk, remove, next_of, next_tracee, trace] = times.map(|sum| sum
         / OPERATIONS);
     eprintln!(rt;
         "{size:>6} LWPs {add:>8} {get:>6} {set:>6} {walk:>6} {remove:>6} {next_of:>7} {next_tracee:>11} {trace:>6}"
     )?;
-    let processes = host.processes();
-    let lwps = host.lwps();
-    let answers = host.answers();
+    let (processes, lwps, answers) = host.counts();
     println!(rt; "{processes} processes and {lwps} LWPs: {answers} rows answered")
-}
-
-/// Does the same for a new host with `size` LWPs.
-fn tell_of(rt: &(impl Print + Eprint + Clock), alloc: Global, size: usize) -> io::Result<()> {
-    let mut host = Host::filled(alloc, size)?;
-    tell(rt, &mut host, size)
 }
 
 /// Prints the times and the counts.
 pub fn print(rt: &(impl Print + Eprint + Clock), alloc: Global) -> io::Result<()> {
     eprintln!(rt; "nanoseconds     add    get    set   walk remove next_of next_tracee  trace")?;
     for size in [1000, 10000, 30000] {
-        tell_of(rt, alloc, size)?;
+        tell(rt, alloc, size)?;
     }
     Ok(())
 }

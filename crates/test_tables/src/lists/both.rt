@@ -1,13 +1,13 @@
 //! Makes edits to the tables and to the lists, which must give the same answers.
 
 use super::agree;
-use super::plain::Plain;
-use super::tally::Tally;
+use super::plain::{Plain, first_pid};
+use super::tally::{Tally, check};
 use crate::dice::Dice;
 use crate::edits;
 use event_masks::{Call, EventMask, StopFlags};
 use lwp_table::{Due, LwpData, Mode};
-use pid_blocks::{Pid, Uid};
+use pid_blocks::{Pid, Tid, Uid};
 use proc_table::{ProcData, State, Tables};
 use signals::{Dispositions, SigSet, Signal};
 use std::alloc::{AllocError, Global};
@@ -21,9 +21,9 @@ const LWPS: usize = 30;
 #[derive(Drop)]
 pub struct Both {
     tables: Tables,
-    plain: Plain,
+    pub plain: Plain,
+    pub tally: Tally,
     dice: Dice,
-    tally: Tally,
 }
 
 impl Both {
@@ -31,34 +31,9 @@ impl Both {
         Ok(Both {
             tables: Tables::new(alloc)?,
             plain: Plain::new(alloc),
+            tally: Tally::default(),
             dice: Dice::new(seed),
-            tally: Tally::new(),
         })
-    }
-
-    pub fn tally(&self) -> Tally {
-        self.tally
-    }
-
-    pub fn process_count(&self) -> usize {
-        self.plain.processes.len()
-    }
-
-    pub fn lwp_count(&self) -> usize {
-        self.plain.lwps.len()
-    }
-
-    pub fn pid_cursor(&self, uid: Uid) -> u32 {
-        self.plain.pid_cursor(uid)
-    }
-
-    pub fn tid_cursor(&self, uid: Uid) -> u32 {
-        self.plain.tid_cursor(uid)
-    }
-
-    /// Counts a further comparison besides the readers: `holds` must be true.
-    pub fn see(&mut self, of: &'static str, holds: bool, number: u32) {
-        self.tally.see(of, holds, 0, number);
     }
 
     /// Compares every reader, at every row and next to it, and at the users.
@@ -74,10 +49,10 @@ impl Both {
     /// Returns a process number: of the user, of any user, or unused.
     fn someone(&mut self, uid: Uid) -> Option<Pid> {
         match self.dice.roll() % 8 {
-            0 => Pid::new(1000 * (uid.get() - 1000) + self.dice.roll() % 1000),
+            0 => Pid::new(first_pid(uid) + self.dice.roll() % 1000),
             1 => Some(self.dice.pick(self.plain.processes.as_slice())?.pid),
             _ => {
-                let after = 1000 * (uid.get() - 1000) + self.dice.roll() % 40;
+                let after = first_pid(uid) + self.dice.roll() % 40;
                 let next = self.plain.next_of(uid, after);
                 Some(next.or(self.plain.next_of(uid, 0))?.pid)
             }
@@ -124,67 +99,58 @@ impl Both {
         }
         let row = self.row(pid, uid);
         let made = self.plain.spawn(row)?;
-        let same = edits::spawn(&mut self.tables, row)? == made;
-        self.tally.see("spawn", same, 0, row.pid.get());
+        check!(self.tally, 0, pid.get(); edits::spawn(&mut self.tables, row)? == made);
         agree::process(&mut self.tally, &self.tables, &self.plain, pid);
         Ok(())
     }
 
     /// Changes a process's row, with its tracer and its parent.
-    pub fn turn(&mut self) {
+    fn turn(&mut self) {
         if let Some(was) = self.dice.pick(self.plain.processes.as_slice()) {
             let row = self.row(was.pid, was.uid);
             let made = self.plain.turn(row);
-            let same = edits::turn(&mut self.tables, row) == made;
-            self.tally.see("turn", same, 0, row.pid.get());
+            check!(self.tally, 0, row.pid.get(); edits::turn(&mut self.tables, row) == made);
             agree::process(&mut self.tally, &self.tables, &self.plain, row.pid);
         }
     }
 
     /// Removes a process, if no row names it.
-    pub fn forget(&mut self, pid: Pid) {
+    fn forget(&mut self, pid: Pid) {
         let made = self.plain.forget(pid);
-        let same = edits::forget(&mut self.tables, pid) == made;
-        self.tally.see("forget", same, 0, pid.get());
+        check!(self.tally, 0, pid.get(); edits::forget(&mut self.tables, pid) == made);
         agree::process(&mut self.tally, &self.tables, &self.plain, pid);
     }
 
     /// Replaces the row with this number.
     fn put(&mut self, row: ProcData) {
         let made = self.plain.turn(row);
-        let same = made && edits::turn(&mut self.tables, row);
-        self.tally.see("turn", same, 0, row.pid.get());
+        check!(self.tally, 0, row.pid.get(); made, edits::turn(&mut self.tables, row));
     }
 
     /// Removes a process's first LWP, and releases its first tracee and its first child.
     fn release(&mut self, pid: Pid) {
-        let lwp = self.plain.first_lwp(pid);
-        if let Some(row) = lwp {
-            self.stop(row);
+        if let Some(row) = self.plain.first_lwp(pid) {
+            self.stop(row.tid);
         }
-        let tracee = self.plain.next_tracee(pid, 0);
-        if let Some(row) = tracee {
+        if let Some(row) = self.plain.next_tracee(pid, 0) {
             self.put(ProcData {
                 tracer: None,
                 ..row
             });
         }
-        let child = self.plain.next_child(pid, 0);
-        if let Some(row) = child {
+        if let Some(row) = self.plain.next_child(pid, 0) {
             self.put(ProcData { parent: 1, ..row });
         }
     }
 
     /// Removes some process, once no row names it.
-    pub fn clear(&mut self) {
-        let picked = self.dice.pick(self.plain.processes.as_slice());
-        if let Some(row) = picked {
+    fn clear(&mut self) {
+        if let Some(row) = self.dice.pick(self.plain.processes.as_slice()) {
             for _ in 0..100 {
                 self.release(row.pid);
             }
             self.forget(row.pid);
-            let gone = self.plain.process(row.pid.get()).is_none();
-            self.tally.see("clear", gone, 0, row.pid.get());
+            check!(self.tally, 0, row.pid.get(); self.plain.process(row.pid.get()).is_none());
         }
     }
 
@@ -197,15 +163,14 @@ impl Both {
             return Ok(());
         }
         let row = LwpData::born(tid, pid, SigSet::empty(), Due::Born);
-        let made = self.plain.start(uid, row)?;
-        let same = edits::start(&mut self.tables, uid, pid)? == made.then_some(tid);
-        self.tally.see("start", same, 0, tid.get());
+        let made = self.plain.start(uid, row)?.then_some(tid);
+        check!(self.tally, 0, tid.get(); edits::start(&mut self.tables, uid, pid)? == made);
         agree::lwp(&mut self.tally, &self.tables, &self.plain, tid);
         Ok(())
     }
 
     /// Changes an LWP's row.
-    pub fn change(&mut self) {
+    fn change(&mut self) {
         if let Some(was) = self.dice.pick(self.plain.lwps.as_slice()) {
             let roll = self.dice.roll();
             let row = LwpData {
@@ -215,25 +180,22 @@ impl Both {
                 ..was
             };
             let made = self.plain.change(row);
-            let same = edits::change(&mut self.tables, row) == made;
-            self.tally.see("change", same, 0, row.tid.get());
+            check!(self.tally, 0, row.tid.get(); edits::change(&mut self.tables, row) == made);
             agree::lwp(&mut self.tally, &self.tables, &self.plain, row.tid);
         }
     }
 
     /// Removes an LWP.
-    pub fn stop(&mut self, row: LwpData) {
-        let made = self.plain.stop(row.tid);
-        let same = edits::stop(&mut self.tables, row.tid) == made;
-        self.tally.see("stop", same, 0, row.tid.get());
-        agree::lwp(&mut self.tally, &self.tables, &self.plain, row.tid);
+    fn stop(&mut self, tid: Tid) {
+        let made = self.plain.stop(tid);
+        check!(self.tally, 0, tid.get(); edits::stop(&mut self.tables, tid) == made);
+        agree::lwp(&mut self.tally, &self.tables, &self.plain, tid);
     }
 
     /// Removes the oldest LWP.
     pub fn stop_oldest(&mut self) {
-        let oldest = self.plain.lwps.first().copied();
-        if let Some(row) = oldest {
-            self.stop(row);
+        if let Some(row) = self.plain.lwps.first().copied() {
+            self.stop(row.tid);
         }
     }
 
@@ -255,7 +217,7 @@ impl Both {
             }
             _ => {
                 if let Some(row) = self.dice.pick(self.plain.lwps.as_slice()) {
-                    self.stop(row);
+                    self.stop(row.tid);
                 }
             }
         }

@@ -7,18 +7,18 @@ use pid_blocks::{Pid, Tid, Uid};
 use proc_table::ProcData;
 use std::alloc::{AllocError, Global};
 
-/// Processes by rising number, LWPs in order of birth, and where the search for each user's next
-/// numbers begins.
+/// Processes by rising number, LWPs in order of birth, and at which place of each user's blocks the search for the next
+/// numbers begins. A block begins at a multiple of its size, so a number's place is its remainder.
 #[derive(Drop)]
 pub struct Plain {
     pub processes: Vec<ProcData>,
     pub lwps: Vec<LwpData>,
-    pid_cursors: [u32; 64],
-    tid_cursors: [u32; 64],
+    pid_places: [u32; 64],
+    tid_places: [u32; 64],
 }
 
 /// Returns the user's first process number.
-fn first_pid(uid: Uid) -> u32
+pub fn first_pid(uid: Uid) -> u32
     ensures { result ≤ 64000 }
 {
     1000 * (uid.get() - 1000)
@@ -33,23 +33,22 @@ pub fn first_tid(uid: Uid) -> u32
 
 impl Plain {
     pub fn new(alloc: Global) -> Plain {
-        let mut pid_cursors = [0; 64];
-        let mut tid_cursors = [0; 64];
-        for user in 0u32..64 {
-            pid_cursors[user as usize] = 1000 + 1000 * user;
-            tid_cursors[user as usize] = 100000 + 4000 * user;
-        }
         Plain {
             processes: Vec::new(alloc),
             lwps: Vec::new(alloc),
-            pid_cursors,
-            tid_cursors,
+            pid_places: [0; 64],
+            tid_places: [0; 64],
         }
     }
 
     pub fn process(&self, number: u32) -> Option<ProcData> {
         let mut rows = self.processes.iter().copied();
         rows.find(|p| p.pid.get() == number)
+    }
+
+    /// Returns whether a process has the number.
+    fn has(&self, number: u32) -> bool {
+        self.process(number).is_some()
     }
 
     pub fn lwp(&self, number: u32) -> Option<LwpData> {
@@ -65,14 +64,9 @@ impl Plain {
     /// Returns the LWP of the same process that was born next after this one.
     pub fn next_sibling(&self, tid: Tid) -> Option<LwpData> {
         let row = self.lwp(tid.get())?;
-        let mut passed = false;
-        for l in &self.lwps {
-            if passed && l.pid == row.pid {
-                return Some(*l);
-            }
-            passed = passed || l.tid == tid;
-        }
-        None
+        let place = self.lwps.iter().position(|l| l.tid == tid)?;
+        let mut later = self.lwps.iter().copied().skip(place.saturating_add(1));
+        later.find(|l| l.pid == row.pid)
     }
 
     pub fn next_of(&self, uid: Uid, after: u32) -> Option<ProcData> {
@@ -136,20 +130,20 @@ impl Plain {
     }
 
     pub fn pid_cursor(&self, uid: Uid) -> u32 {
-        self.pid_cursors[uid.slot()]
+        first_pid(uid).wrapping_add(self.pid_places[uid.slot()])
     }
 
     pub fn tid_cursor(&self, uid: Uid) -> u32 {
-        self.tid_cursors[uid.slot()]
+        first_tid(uid).wrapping_add(self.tid_places[uid.slot()])
     }
 
     /// Returns the first number of the user's block that no process has, from the cursor on and then from the start.
     pub fn fresh_pid(&self, uid: Uid) -> Option<Pid> {
         let first = first_pid(uid);
-        let from = self.pid_cursor(uid).wrapping_sub(first);
+        let place = self.pid_places[uid.slot()];
         for step in 0..1000 {
-            let number = first + from.wrapping_add(step) % 1000;
-            if self.process(number).is_none() {
+            let number = first + place.wrapping_add(step) % 1000;
+            if !self.has(number) {
                 return Pid::new(number);
             }
         }
@@ -159,9 +153,9 @@ impl Plain {
     /// Returns the first number of the user's block that no LWP has, from the cursor on and then from the start.
     pub fn fresh_tid(&self, uid: Uid) -> Option<Tid> {
         let first = first_tid(uid);
-        let from = self.tid_cursor(uid).wrapping_sub(first);
+        let place = self.tid_places[uid.slot()];
         for step in 0..4000 {
-            let number = first + from.wrapping_add(step) % 4000;
+            let number = first + place.wrapping_add(step) % 4000;
             if self.lwp(number).is_none() {
                 return Tid::new(number);
             }
@@ -171,16 +165,11 @@ impl Plain {
 
     /// Returns whether the row's tracer and parent are processes.
     fn names_rows(&self, row: ProcData) -> bool {
-        if let Some(tracer) = row.tracer {
-            if self.process(tracer.get()).is_none() {
-                return false;
-            }
-        }
-        row.parent == 1 || self.process(row.parent).is_some()
+        let has_tracer = row.tracer.is_none_or(|pid| self.has(pid.get()));
+        has_tracer && (row.parent == 1 || self.has(row.parent))
     }
 
-    /// Adds a process, if its number is the next of its user, and its tracer and parent are
-    /// processes.
+    /// Adds a process, if its number is the next of its user, and its tracer and parent are processes.
     pub fn spawn(&mut self, row: ProcData) -> Result<bool, AllocError> {
         if self.fresh_pid(row.uid) != Some(row.pid) || !self.names_rows(row) {
             return Ok(false);
@@ -189,9 +178,7 @@ impl Plain {
             Some(at) => self.processes.insert(at, row)?,
             None => self.processes.push(row)?,
         }
-        let first = first_pid(row.uid);
-        let next = row.pid.get() + 1;
-        self.pid_cursors[row.uid.slot()] = if next < first + 1000 { next } else { first };
+        self.pid_places[row.uid.slot()] = (row.pid.get() + 1) % 1000;
         Ok(true)
     }
 
@@ -211,18 +198,14 @@ impl Plain {
 
     /// Removes the process with this number, if there is one and no row names it.
     pub fn forget(&mut self, pid: Pid) -> bool {
-        let mut found = false;
-        for p in &self.processes {
-            if p.tracer == Some(pid) || p.parent == pid.get() {
-                return false;
-            }
-            found = found || p.pid == pid;
-        }
-        if !found || self.lwp_count(pid) != 0 {
+        let mut rows = self.processes.iter();
+        let is_named = rows.any(|p| p.tracer == Some(pid) || p.parent == pid.get());
+        if is_named || self.lwp_count(pid) != 0 {
             return false;
         }
+        let before = self.processes.len();
         self.processes.retain(|p| p.pid != pid);
-        true
+        self.processes.len() < before
     }
 
     /// Adds an LWP, if its number is the next of the user and its process is the user's.
@@ -231,10 +214,17 @@ impl Plain {
             return Ok(false);
         }
         self.lwps.push(row)?;
-        let first = first_tid(uid);
-        let next = row.tid.get() + 1;
-        self.tid_cursors[uid.slot()] = if next < first + 4000 { next } else { first };
+        self.tid_places[uid.slot()] = (row.tid.get() + 1) % 4000;
         Ok(true)
+    }
+
+    /// Adds an LWP without a look at the processes, if its number is free.
+    pub fn admit(&mut self, row: LwpData) -> Result<bool, AllocError> {
+        let is_free = self.lwp(row.tid.get()).is_none();
+        if is_free {
+            self.lwps.push(row)?;
+        }
+        Ok(is_free)
     }
 
     /// Replaces the row with this number, if there is one and it is of the same process.

@@ -1,7 +1,18 @@
 //! A tally of differences.
 
-/// An answer of the tables that differs from the lists': the reader or edit, the owner of the row, and the number. 0
-/// means none.
+/// Counts comparisons, which must hold, under two numbers: the row's owner and its own number, or 0.
+macro_rules! check {
+    ($tally:expr, $whose:expr, $number:expr; $($holds:expr),+ $(,)?) => {{
+        $(
+            let holds = $holds;
+            $tally.see(stringify!($holds), holds, $whose, $number);
+        )+
+    }};
+}
+
+pub(crate) use check;
+
+/// A comparison that doesn't hold: its text, the owner of the row, and the number. 0 means none.
 #[derive(Clone, Copy, Debug, Drop)]
 pub struct Difference {
     of: &'static str,
@@ -10,37 +21,18 @@ pub struct Difference {
 }
 
 /// The number of comparisons that differed, and the first of them.
-#[derive(Clone, Copy, Drop)]
+#[derive(Clone, Copy, Default, Drop)]
 pub struct Tally {
-    differ: usize,
-    first: Option<Difference>,
+    pub differ: usize,
+    pub first: Option<Difference>,
 }
 
 impl Tally {
-    pub fn new() -> Tally {
-        Tally {
-            differ: 0,
-            first: None,
-        }
-    }
-
-    /// Returns how many comparisons differed.
-    pub fn differ(&self) -> usize {
-        self.differ
-    }
-
-    /// Returns the first comparison that differed.
-    pub fn first(&self) -> Option<Difference> {
-        self.first
-    }
-
-    /// Counts a comparison. `same` is whether both answers were the same.
-    pub fn see(&mut self, of: &'static str, same: bool, whose: u32, number: u32) {
-        if !same {
+    /// Counts a comparison, and keeps the first that doesn't hold.
+    pub fn see(&mut self, of: &'static str, holds: bool, whose: u32, number: u32) {
+        if !holds {
             self.differ = self.differ.saturating_add(1);
-            if self.first.is_none() {
-                self.first = Some(Difference { of, whose, number });
-            }
+            self.first = self.first.or(Some(Difference { of, whose, number }));
         }
     }
 }

@@ -1,7 +1,8 @@
 //! Event masks, the flags of stops, and the stops at the ends of calls.
 
 use bitflags::Flags;
-use event_masks::{Call, EventMask, StopFlags, call_code, default_mask, entry_flags, exit_flags};
+use event_masks::Call::{Exec, Exit, Fork, Other, ThrExit, ThrNew, Vfork};
+use event_masks::{EventMask, StopFlags, call_code, default_mask, entry_flags, exit_flags};
 use std::io;
 
 /// The names of events. No event has the last one.
@@ -37,15 +38,7 @@ fn every() -> EventMask {
 
 /// Prints each call's code, and the flags of its exit stop with all events, only with PTRACE_SCX and with no event.
 pub fn calls(rt: &impl Print) -> io::Result<()> {
-    for call in [
-        Call::Exit(3),
-        Call::Fork,
-        Call::Exec,
-        Call::Vfork,
-        Call::ThrExit,
-        Call::ThrNew,
-        Call::Other(20),
-    ] {
+    for call in [Exit(3), Fork, Exec, Vfork, ThrExit, ThrNew, Other(20)] {
         let code = call_code(call);
         let all = bits(exit_flags(every(), call));
         let scx = bits(exit_flags(EventMask::PTRACE_SCX, call));
@@ -76,12 +69,10 @@ pub fn printed(rt: &impl Print) -> io::Result<()> {
 /// Prints the debug form of masks and flags: their names, and last the bits of no flag.
 pub fn shown(rt: &impl Print) -> io::Result<()> {
     for bits in [63, 6, 0, 65, 192] {
-        let mask = EventMask(bits);
-        println!(rt; "mask {bits} {mask:?}")?;
+        println!(rt; "mask {bits} {:?}", EventMask(bits))?;
     }
     for bits in [511, 9, 0, 768, 1024] {
-        let flags = StopFlags(bits);
-        println!(rt; "flags {bits} {flags:?}")?;
+        println!(rt; "flags {bits} {:?}", StopFlags(bits))?;
     }
     Ok(())
 }

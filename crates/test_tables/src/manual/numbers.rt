@@ -1,25 +1,15 @@
 //! Errors, users, blocks of numbers and the choice of free ones.
 
+use pid_blocks::Errno::{EAGAIN, EBUSY, ECHILD, EINVAL, ENOMEM, EPERM, ESRCH};
 use pid_blocks::{
-    Block, Errno, Pid, Tid, Uid, cursor_after, next_free, owner_of_pid, owner_of_tid, pid_block,
-    tid_block,
+    Block, Pid, Tid, Uid, cursor_after, next_free, owner_of_pid, owner_of_tid, pid_block, tid_block,
 };
 use std::io;
 
 /// Prints each error with its number in errno(2).
 pub fn errors(rt: &impl Print) -> io::Result<()> {
-    for error in [
-        Errno::EPERM,
-        Errno::ESRCH,
-        Errno::ECHILD,
-        Errno::ENOMEM,
-        Errno::EBUSY,
-        Errno::EINVAL,
-        Errno::EAGAIN,
-    ] {
-        let name = error.name();
-        let number = error.number();
-        println!(rt; "error {error} {name} {number}")?;
+    for error in [EPERM, ESRCH, ECHILD, ENOMEM, EBUSY, EINVAL, EAGAIN] {
+        println!(rt; "error {error} {} {}", error.name(), error.number())?;
     }
     Ok(())
 }
@@ -29,11 +19,9 @@ pub fn users(rt: &impl Print) -> io::Result<()> {
     for number in [1000, 1001, 1002, 1063, 1064, 1065] {
         match Uid::new(number) {
             Ok(user) => {
-                let own = user.get();
-                let slot = user.slot();
                 let pids = pid_block(user);
                 let tids = tid_block(user);
-                println!(rt; "user {own} at {slot}: {pids:?} {tids:?}")?;
+                println!(rt; "user {} at {}: {pids:?} {tids:?}", user.get(), user.slot())?;
             }
             Err(fault) => println!(rt; "user {number}: {fault}")?,
         }
@@ -62,17 +50,12 @@ pub fn owners(rt: &impl Print) -> io::Result<()> {
     Ok(())
 }
 
-/// Prints the free number that a search from 12 on finds in the block 10 to 13, and where the next search begins.
+/// Prints the free number that a search from 12 on finds in the block 10 to 13, where none to all of its numbers are
+/// taken, and where the next search begins.
 pub fn free_numbers(rt: &impl Print) -> io::Result<()> {
     let block = Block { first: 10, size: 4 };
-    let none: [u32; 4] = [0, 0, 0, 0];
-    for taken in [
-        none,
-        [12, 0, 0, 0],
-        [12, 13, 0, 0],
-        [10, 12, 13, 0],
-        [10, 11, 12, 13],
-    ] {
+    for count in 0..5 {
+        let taken = &[12, 13, 10, 11][..count];
         match next_free(block, 12, |number| taken.contains(&number)) {
             Some(number) => {
                 let cursor = cursor_after(block, number);

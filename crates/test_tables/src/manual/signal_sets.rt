@@ -23,16 +23,13 @@ pub fn table(rt: &impl Print) -> io::Result<()> {
         match Signal::new(number) {
             Ok(signal) => {
                 let name = signal.name();
-                let found = named(name);
                 let action = word(default_action(signal));
-                println!(rt; "signal {number} {name} {found} {action}")?;
+                println!(rt; "signal {number} {name} {} {action}", named(name))?;
             }
             Err(fault) => println!(rt; "signal {number}: {fault}")?,
         }
     }
-    let shorter = named("SIGUSR");
-    let empty = named("");
-    println!(rt; "no signal's name: {shorter} {empty}")
+    println!(rt; "no signal's name: {} {}", named("SIGUSR"), named(""))
 }
 
 /// Returns the signal with this number, or SIGKILL.
@@ -40,12 +37,15 @@ fn signal(number: u32) -> Signal {
     Signal::new(number).unwrap_or(Signal::kill())
 }
 
+/// Returns the set of SIGHUP, SIGKILL and SIGUSR2.
+fn three() -> SigSet {
+    let kill = SigSet::of(Signal::kill());
+    kill.with(signal(31)).with(signal(1))
+}
+
 /// Prints sets as the numbers of their signals. A set has bit n - 1 for signal n.
 pub fn sets(rt: &impl Print) -> io::Result<()> {
-    let set = SigSet::empty()
-        .with(signal(31))
-        .with(Signal::kill())
-        .with(signal(1));
+    let set = three();
     for set in [
         set,
         set.maskable(),
@@ -53,9 +53,8 @@ pub fn sets(rt: &impl Print) -> io::Result<()> {
         SigSet::stops(),
         SigSet::empty(),
     ] {
-        let bits = set.bits();
         let lowest = set.lowest().map_or(0, |signal| signal.number());
-        println!(rt; "set {bits:#x}: {set}, lowest {lowest}")?;
+        println!(rt; "set {:#x}: {set}, lowest {lowest}", set.bits())?;
     }
     Ok(())
 }
@@ -96,12 +95,12 @@ pub fn dispositions(rt: &impl Print) -> io::Result<()> {
 /// Prints the debug form of signals: their names.
 pub fn shown(rt: &impl Print) -> io::Result<()> {
     for number in [0, 1, 11, 31, 32] {
-        let signal = Signal::new(number);
-        let pass = Pass::new(number);
-        println!(rt; "signal {number}: {signal:?} {pass:?}")?;
+        println!(rt;
+            "signal {number}: {:?} {:?}",
+            Signal::new(number),
+            Pass::new(number)
+        )?;
     }
     let one = SigSet::of(Signal::kill());
-    let three = one.with(signal(31)).with(signal(1));
-    let none = SigSet::empty();
-    println!(rt; "sets {one:?} {three:?} {none:?}")
+    println!(rt; "sets {one:?} {:?} {:?}", three(), SigSet::empty())
 }

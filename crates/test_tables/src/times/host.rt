@@ -1,24 +1,15 @@
 //! A host of 64 users, and timed operations on its rows. A fixed rule chooses the rows.
 
-ghost use Rattle.std.specs.Prelude.{◌≤◌};
-
 use crate::dice::Dice;
 use crate::edits;
 use event_masks::EventMask;
-use pid_blocks::{Pid, Tid, Uid};
+use pid_blocks::{Pid, Tid, Uid, pid_block};
 use proc_table::{ProcData, State, Tables};
 use signals::{Dispositions, SigSet};
 use std::alloc::{AllocError, Global};
 
 /// The number of LWPs of a process.
 const LWPS: usize = 8;
-
-/// A process and its user.
-#[derive(Clone, Copy, Drop)]
-struct Owner {
-    uid: Uid,
-    pid: Pid,
-}
 
 /// A kind of operation.
 #[derive(Clone, Copy, Drop)]
@@ -33,87 +24,63 @@ pub enum Kind {
     Trace,
 }
 
-/// The tables, with the processes and LWPs that they contain.
+/// The tables, with the processes of each user and the LWPs that they contain.
 #[derive(Drop)]
 pub struct Host {
     tables: Tables,
     dice: Dice,
-    owners: Vec<Owner>,
+    processes: Vec<(Uid, Pid)>,
     tids: Vec<Tid>,
     answers: usize,
 }
 
-/// Returns the user's first process number.
-fn first_pid(uid: Uid) -> u32
-    ensures { result ≤ 64000 }
-{
-    1000 * (uid.get() - 1000)
-}
-
-/// Adds a process of the user, if there is a number for it.
-fn spawn(tables: &mut Tables, uid: Uid) -> Result<Option<Pid>, AllocError> {
-    let Some(pid) = tables.fresh_pid(uid) else {
-        return Ok(None);
-    };
-    let row = ProcData {
-        pid,
-        uid,
-        parent: 1,
-        tracer: None,
-        state: State::Run,
-        continued: false,
-        mask: EventMask(0),
-        dispositions: Dispositions::standard(),
-        pending: SigSet::empty(),
-    };
-    Ok(edits::spawn(tables, row)?.then_some(pid))
-}
-
 impl Host {
-    /// Creates a host without rows.
-    fn empty(alloc: Global) -> Result<Host, AllocError> {
-        Ok(Host {
-            tables: Tables::new(alloc)?,
-            dice: Dice::new(2026),
-            owners: Vec::new(alloc),
-            tids: Vec::new(alloc),
-            answers: 0,
-        })
-    }
-
-    /// Adds processes, of each user in turn.
-    fn spawn(&mut self, count: usize) -> Result<(), AllocError> {
-        for at in 0..count {
-            if let Ok(uid) = Uid::new(1001 + (at % 64) as u32) {
-                if let Some(pid) = spawn(&mut self.tables, uid)? {
-                    self.owners.push(Owner { uid, pid })?;
-                }
-            }
-        }
-        Ok(())
-    }
-
     /// Creates a host with `lwps` LWPs.
     pub fn filled(alloc: Global, lwps: usize) -> Result<Host, AllocError> {
-        let mut host = Host::empty(alloc)?;
-        host.spawn(lwps.div_ceil(LWPS))?;
+        let mut host = Host {
+            tables: Tables::new(alloc)?,
+            dice: Dice::new(2026),
+            processes: Vec::new(alloc),
+            tids: Vec::new(alloc),
+            answers: 0,
+        };
+        for at in 0..lwps.div_ceil(LWPS) {
+            host.spawn(1001 + (at % 64) as u32)?;
+        }
         host.operate(Kind::Trace, 2000)?;
         host.operate(Kind::Add, lwps)?;
         host.answers = 0;
         Ok(host)
     }
 
-    pub fn processes(&self) -> usize {
-        self.owners.len()
+    /// Adds a process of the user with this number, if there is a number for it.
+    fn spawn(&mut self, user: u32) -> Result<(), AllocError> {
+        let Ok(uid) = Uid::new(user) else {
+            return Ok(());
+        };
+        let Some(pid) = self.tables.fresh_pid(uid) else {
+            return Ok(());
+        };
+        let row = ProcData {
+            pid,
+            uid,
+            parent: 1,
+            tracer: None,
+            state: State::Run,
+            continued: false,
+            mask: EventMask(0),
+            dispositions: Dispositions::standard(),
+            pending: SigSet::empty(),
+        };
+        if edits::spawn(&mut self.tables, row)? {
+            self.processes.push((uid, pid))?;
+        }
+        Ok(())
     }
 
-    pub fn lwps(&self) -> usize {
-        self.tids.len()
-    }
-
-    /// Returns how many rows the readers found.
-    pub fn answers(&self) -> usize {
-        self.answers
+    /// Returns how many processes and LWPs there are, and how many rows the readers found.
+    pub fn counts(&self) -> (usize, usize, usize) {
+        (self.processes.len(), self.tids.len(), self.answers)
     }
 
     /// Makes `count` operations of a kind.
@@ -140,8 +107,8 @@ impl Host {
         Ok(found.unwrap_or(0))
     }
 
-    fn owner(&mut self) -> Option<Owner> {
-        self.dice.pick(self.owners.as_slice())
+    fn process(&mut self) -> Option<(Uid, Pid)> {
+        self.dice.pick(self.processes.as_slice())
     }
 
     fn tid(&mut self) -> Option<Tid> {
@@ -150,8 +117,8 @@ impl Host {
 
     /// Adds an LWP to a process. It finds no row.
     fn add(&mut self) -> Result<Option<usize>, AllocError> {
-        if let Some(owner) = self.owner() {
-            if let Some(tid) = edits::start(&mut self.tables, owner.uid, owner.pid)? {
+        if let Some((uid, pid)) = self.process() {
+            if let Some(tid) = edits::start(&mut self.tables, uid, pid)? {
                 self.tids.push(tid)?;
             }
         }
@@ -182,32 +149,32 @@ impl Host {
 
     /// Walks over the LWPs of a process.
     fn walk(&mut self) -> Option<usize> {
-        let owner = self.owner()?;
-        Some(edits::walk(&self.tables, owner.pid))
+        let (_, pid) = self.process()?;
+        Some(edits::walk(&self.tables, pid))
     }
 
     /// Reads a user's next process.
     fn next_of(&mut self) -> Option<usize> {
-        let owner = self.owner()?;
-        let next = self.tables.next_of(owner.uid, owner.pid.get());
+        let (uid, pid) = self.process()?;
+        let next = self.tables.next_of(uid, pid.get());
         Some(usize::from(next.is_some()))
     }
 
     /// Reads the next process that the same process traces.
     fn next_tracee(&mut self) -> Option<usize> {
-        let owner = self.owner()?;
-        let Some(row) = self.tables.process(owner.pid) else {
+        let (_, pid) = self.process()?;
+        let Some(row) = self.tables.process(pid) else {
             return None;
         };
-        let next = self.tables.next_tracee(row.tracer?, owner.pid.get());
+        let next = self.tables.next_tracee(row.tracer?, pid.get());
         Some(usize::from(next.is_some()))
     }
 
     /// Gives a process another tracer of the same user, at one of its lowest numbers.
     fn trace(&mut self) -> Option<usize> {
         let after = self.dice.roll();
-        let Owner { uid, pid } = self.owner()?;
-        let above = first_pid(uid) + after % 60;
+        let (uid, pid) = self.process()?;
+        let above = pid_block(uid).first.wrapping_add(after % 60);
         let Some(tracer) = self.tables.next_of(uid, above) else {
             return None;
         };
