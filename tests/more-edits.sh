@@ -1,6 +1,7 @@
 #!/usr/bin/env bash
 # Tries the edits in crates/NAME/must-fail-more, which ./test leaves out: the prover must refuse each.  It works on a
-# copy of the repository, in which they take the place of crates/NAME/must-fail.
+# copy of the repository, in which they take the place of crates/NAME/must-fail.  Where all of a crate were refused, that
+# is noted in tests/edits_tried.tsv, with a digest of the crate's contracts: tests/edits.sh says which have changed since.
 #
 #   bash tests/more-edits.sh [--jobs N] [NAME..]      the crates named, or all, N side by side
 # shellcheck disable=SC2034 # for lib.sh
@@ -36,7 +37,9 @@ done
 wait
 
 for name in "${names[@]}"; do
+  before=$failed
   for edit in "crates/$name/must-fail-more"/*.edit; do
     check "$edit is refused" grep -qF "must-fail $name/$(basename "$edit"): refused, as it must be" "$room/$name.log"
   done
+  [ "$failed" -gt "$before" ] || tools/edits --tried "$name"
 done
