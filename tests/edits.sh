@@ -49,7 +49,7 @@ check "another body, comment and import" ends_with 3 passed, 0 failed, 0 skipped
 
 replace src/lib.rt 'result ≡ next number' 'IfSome result (λ n. n ≡ next number)'
 check "another clause" ends_with 2 passed, 0 failed, 1 skipped
-check "which crate it is" says 'skipped: the 1 further edits of one were last tried on other contracts'
+check "which crate it is" says 'skipped: one: 1 further edit, last tried on other contracts'
 
 new_crate
 replace src/lib.rt 'number: u32' 'number: u64'
@@ -63,7 +63,7 @@ check "another edit" ends_with 2 passed, 0 failed, 1 skipped
 edits --tried one
 check "it was tried again" ends_with 3 passed, 0 failed, 0 skipped
 rm "$room/made_up/tests/edits_tried.tsv"
-check "no edit was ever tried" says 'skipped: the 1 further edits of one were never tried'
+check "no edit was ever tried" says 'skipped: one: 1 further edit, never tried'
 
 new_crate
 replace src/lib.rt 'one' 'step'
