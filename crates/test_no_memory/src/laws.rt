@@ -3,7 +3,7 @@
 ghost use Rattle.std.specs.Prelude.{◌≡◌};
 
 use crate::lists::bound;
-use crate::steps::{Case, Seen, TRIES, new_host};
+use crate::steps::{Case, Seen, new_host};
 use pid_blocks::Uid;
 use requests::{Host, Reply, Step};
 use std::alloc::Global;
@@ -83,12 +83,7 @@ fn check_law(
     settings: Settings,
     law: Law,
 ) -> Result<(), TestError> {
-    for _ in 0..TRIES {
-        if is_made(case, before, settings, law)? {
-            return Ok(());
-        }
-    }
-    Err(TestError::Memory)
+    retry!(Some(done) = is_made(case, before, settings, law)?.then_some(()))
 }
 
 /// Returns whether the host makes a step of the second user, and checks that it is as before if it refuses.
@@ -111,12 +106,7 @@ fn check_other_step(
     before: &Seen,
     host: &mut Host<ByPolicy>,
 ) -> Result<(), TestError> {
-    for _ in 0..TRIES {
-        if is_made_beside(case, before, host)? {
-            return Ok(());
-        }
-    }
-    Err(TestError::Memory)
+    retry!(Some(done) = is_made_beside(case, before, host)?.then_some(()))
 }
 
 /// Returns whether no step of both lists was refused, and checks that their replies are then the same.
@@ -153,12 +143,7 @@ fn are_lists_made(case: &Case<'_>, before: &Seen, settings: Settings) -> Result<
 
 /// Checks the scenario's steps on two hosts, and retries while they are refused.
 fn check_two_lists(case: &Case<'_>, before: &Seen, settings: Settings) -> Result<(), TestError> {
-    for _ in 0..TRIES {
-        if are_lists_made(case, before, settings)? {
-            return Ok(());
-        }
-    }
-    Err(TestError::Memory)
+    retry!(Some(done) = are_lists_made(case, before, settings)?.then_some(()))
 }
 
 /// Checks that refusals don't change the hosts, and that else two hosts give the same replies.

@@ -18,12 +18,7 @@ fn policy_handlers(case: &Case<'_>) -> Option<Vec<Handler<ByPolicy>>> {
 
 /// Does the same, and retries while that is refused.
 pub fn handlers(case: &Case<'_>) -> Result<Vec<Handler<ByPolicy>>, TestError> {
-    for _ in 0..TRIES {
-        if let Some(handlers) = policy_handlers(case) {
-            return Ok(handlers);
-        }
-    }
-    Err(TestError::Memory)
+    retry!(Some(handlers) = policy_handlers(case))
 }
 
 /// Returns the steps of the scenario, with their handlers.
@@ -60,9 +55,8 @@ fn check_replies(
     host: &mut Host<ByPolicy>,
     replies: &[Reply],
 ) -> Result<(), TestError> {
-    if replies.len() != case.scenario.shapes().len() {
-        return Err(TestError::Wrong("a list has not a reply for each step"));
-    }
+    let is_whole = replies.len() == case.scenario.shapes().len();
+    expect(is_whole, "a list has not a reply for each step")?;
     for (step, reply) in case.scenario.steps().zip(replies.iter()) {
         check_reply(case.alloc, host, step.0, &step.1, reply)?;
     }

@@ -4,6 +4,18 @@
 //! does, or ends with status 3 where it is refused again and again. tests/failures.sh makes such runs.
 #![tactic(auto)]
 
+/// Tries a call until it succeeds, at most `TRIES` times, and returns its value. The error says that memory ran out.
+macro_rules! retry {
+    ($succeeds:ident($value:ident) = $tried:expr) => {{
+        for _ in 0..crate::steps::TRIES {
+            if let $succeeds($value) = $tried {
+                return Ok($value);
+            }
+        }
+        Err(test_kit::TestError::Memory)
+    }};
+}
+
 mod laws;
 mod lists;
 mod scenarios;

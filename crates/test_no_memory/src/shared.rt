@@ -3,7 +3,7 @@
 ghost use Rattle.std.specs.Prelude.{All, IfOk};
 ghost use Rattle.host_lock.specs.Sessions.{IsOf, IsSame};
 
-use crate::steps::{Case, Made, TRIES, new_host};
+use crate::steps::{Case, Made, new_host};
 use host_lock::{Answer, Entry, Journal, Session, SharedHost};
 use pid_blocks::Uid;
 use requests::{Host, PlainStep, Reply};
@@ -16,13 +16,12 @@ use test_kit::{TestError, expect};
 fn open(case: &Case<'_>) -> Result<(SharedHost<ByPolicy>, Vec<Session>), TestError>
     ensures { IfOk result (λ r. All (IsOf r.0) r.1.items) }
 {
-    for _ in 0..TRIES {
-        let host = new_host(case.alloc, case.scenario.settings())?;
-        if let Ok(opened) = SharedHost::open(case.alloc, host, &[case.first, case.second]) {
-            return Ok(opened);
+    retry!(
+        Ok(opened) = {
+            let host = new_host(case.alloc, case.scenario.settings())?;
+            SharedHost::open(case.alloc, host, &[case.first, case.second])
         }
-    }
-    Err(TestError::Memory)
+    )
 }
 
 /// Makes a call, and returns its reply, or `None` where it is refused. Checks that it counts as one call in both cases.
@@ -40,9 +39,8 @@ fn replied<R: Wait>(
     let Answer::Reply(reply) = host.call(rt, alloc, session, step.by_policy()) else {
         return Err(TestError::Wrong("a session is spent"));
     };
-    if session.calls_made() != made.wrapping_add(1) {
-        return Err(TestError::Wrong("a call counts otherwise than as one"));
-    }
+    let is_one = session.calls_made() == made.wrapping_add(1);
+    expect(is_one, "a call counts otherwise than as one")?;
     Ok(if reply.is_memory() { None } else { Some(reply) })
 }
 
@@ -57,12 +55,7 @@ fn call<R: Wait>(
     requires { IsOf host.now session.old }
     ensures { IsSame session.old session.new }
 {
-    for _ in 0..TRIES {
-        if let Some(reply) = replied(rt, alloc, host, session, step)? {
-            return Ok(reply);
-        }
-    }
-    Err(TestError::Memory)
+    retry!(Some(reply) = replied(rt, alloc, host, session, step)?)
 }
 
 /// Returns the index of the user's session.
@@ -115,9 +108,10 @@ fn is_of(entry: &Entry, place: usize, step: &(Uid, PlainStep), reply: &Reply) ->
 
 /// Checks that the journal has only the scenario's steps with their replies.
 fn check_journal(case: &Case<'_>, made: &Made, journal: &Journal) -> Result<(), TestError> {
-    if journal.len() != made.replies.len() {
-        return Err(TestError::Wrong("a refused call has an entry"));
-    }
+    expect(
+        journal.len() == made.replies.len(),
+        "a refused call has an entry",
+    )?;
     for (place, step) in (0..made.replies.len()).zip(case.scenario.steps()) {
         let (Some(entry), Some(answer)) = (journal.get(place), made.replies.get(place)) else {
             return Err(TestError::Wrong("an entry is missing"));

@@ -46,12 +46,7 @@ impl Seen {
 
 /// Returns the user's view of the host.
 fn view_of(alloc: Global, host: &Host<ByPolicy>, user: Uid) -> Result<View, TestError> {
-    for _ in 0..TRIES {
-        if let Ok(view) = user_view(alloc, host, user) {
-            return Ok(view);
-        }
-    }
-    Err(TestError::Memory)
+    retry!(Ok(view) = user_view(alloc, host, user))
 }
 
 impl Case<'_> {
@@ -77,12 +72,7 @@ impl Case<'_> {
 pub fn new_host(alloc: Global, settings: Settings) -> Result<Host<ByPolicy>, TestError>
     ensures { IfOk result (λ host. host ≡ empty settings) }
 {
-    for _ in 0..TRIES {
-        if let Ok(host) = Host::new(alloc, settings) {
-            return Ok(host);
-        }
-    }
-    Err(TestError::Memory)
+    retry!(Ok(host) = Host::new(alloc, settings))
 }
 
 /// Makes a step, and returns the reply, or `None` where it is refused.
@@ -98,12 +88,7 @@ pub fn answer(
     user: Uid,
     step: &PlainStep,
 ) -> Result<Reply, TestError> {
-    for _ in 0..TRIES {
-        if let Some(reply) = replied(alloc, host, user, step) {
-            return Ok(reply);
-        }
-    }
-    Err(TestError::Memory)
+    retry!(Some(reply) = replied(alloc, host, user, step))
 }
 
 /// Returns whether the step may take memory.
@@ -151,12 +136,7 @@ pub struct Made {
 
 /// Allocates room for `length` items.
 pub fn room<T: Drop>(alloc: Global, length: usize) -> Result<Vec<T>, TestError> {
-    for _ in 0..TRIES {
-        if let Ok(room) = Vec::with_capacity(alloc, length) {
-            return Ok(room);
-        }
-    }
-    Err(TestError::Memory)
+    retry!(Ok(room) = Vec::with_capacity(alloc, length))
 }
 
 /// Makes the steps of the scenario on a new host.

@@ -1,7 +1,7 @@
 //! Runs of a whole scenario.
 
 use crate::lists::handlers;
-use crate::steps::{Case, Made, TRIES, room};
+use crate::steps::{Case, Made, room};
 use pid_blocks::Uid;
 use scenario::{RunFault, RunOptions, Style, render, run};
 use std::alloc::Global;
@@ -79,22 +79,12 @@ fn check_text<R: Threads + Wait + Sync>(
     text: &[u8],
     asked: &Asked,
 ) -> Result<(), TestError> {
-    for _ in 0..TRIES {
-        if is_run(rt, case, text, asked)? {
-            return Ok(());
-        }
-    }
-    Err(TestError::Memory)
+    retry!(Some(done) = is_run(rt, case, text, asked)?.then_some(()))
 }
 
 /// Returns the lines of the replies to the user, or to all users.
 pub fn lines(alloc: Global, made: &Made, user: &Option<Uid>) -> Result<String, TestError> {
-    for _ in 0..TRIES {
-        if let Ok(lines) = render(alloc, made.replies.as_slice(), shown(user)) {
-            return Ok(lines);
-        }
-    }
-    Err(TestError::Memory)
+    retry!(Ok(lines) = render(alloc, made.replies.as_slice(), shown(user)))
 }
 
 /// Checks that a run with or without threads writes the lines of the replies to the user, or to all users.

@@ -3,7 +3,7 @@
 ghost use Rattle.std.specs.Prelude.{All, IfOk};
 ghost use Rattle.sessions.specs.Runs.{IsShort};
 
-use crate::steps::{Case, TRIES, answer, new_host};
+use crate::steps::{Case, answer, new_host};
 use host_lock::{Entry, Journal};
 use pid_blocks::Uid;
 use requests::{Host, Reply};
@@ -81,12 +81,7 @@ fn scripts(case: &Case<'_>) -> Result<Vec<Script<ByPolicy>>, AllocError>
 fn scripts_of(case: &Case<'_>) -> Result<Vec<Script<ByPolicy>>, TestError>
     ensures { IfOk result (λ scripts. All IsShort scripts.items) }
 {
-    for _ in 0..TRIES {
-        if let Ok(scripts) = scripts(case) {
-            return Ok(scripts);
-        }
-    }
-    Err(TestError::Memory)
+    retry!(Ok(scripts) = scripts(case))
 }
 
 /// The results of the sessions.
@@ -165,13 +160,13 @@ fn is_told(journal: &Journal, session: usize, transcript: &Transcript) -> bool {
 
 /// Checks that the journal has only the calls of all scripts that were not answered by ENOMEM.
 fn check_transcripts(journal: &Journal, transcripts: &[Transcript]) -> Result<(), TestError> {
-    if all_answered(transcripts) != journal.len() {
-        return Err(TestError::Wrong("a refused call has an entry"));
-    }
+    expect(
+        all_answered(transcripts) == journal.len(),
+        "a refused call has an entry",
+    )?;
     for (session, transcript) in transcripts.iter().enumerate() {
-        if !is_told(journal, session, transcript) {
-            return Err(TestError::Wrong("a transcript has other replies"));
-        }
+        let is_told = is_told(journal, session, transcript);
+        expect(is_told, "a transcript has other replies")?;
     }
     Ok(())
 }
@@ -214,10 +209,5 @@ fn is_run<R: Threads + Wait + Sync>(rt: &R, case: &Case<'_>) -> Result<bool, Tes
 
 /// Checks that the sessions run, and retries while that is refused.
 pub fn check<R: Threads + Wait + Sync>(rt: &R, case: &Case<'_>) -> Result<(), TestError> {
-    for _ in 0..TRIES {
-        if is_run(rt, case)? {
-            return Ok(());
-        }
-    }
-    Err(TestError::Memory)
+    retry!(Some(done) = is_run(rt, case)?.then_some(()))
 }
