@@ -11,21 +11,21 @@ need python3 || exit
 check "each edit of the table is there" tools/edit_goals
 
 # the complaints about one edit of the table, where a log has this line about it
-complaints() { tools/edit_goals --log <(printf '%s\n' "$1") | grep -F 'pid_blocks/free_number_without_the_cursor'; }
-edit='rt: must-fail pid_blocks/free_number_without_the_cursor.edit: refused, as it must be'
-line=$(grep -n 'pub fn next_free' crates/pid_blocks/src/blocks.rt | cut -d: -f1)
+complaints() { tools/edit_goals --log <(printf '%s\n' "$1") | grep -F 'proc_table/least_free_pid_without_the_cursor'; }
+edit='rt: must-fail proc_table/least_free_pid_without_the_cursor.edit: refused, as it must be'
+line_of() { grep -n "pub fn $1" crates/proc_table/src/tables.rt | cut -d: -f1; }
 said='it is not proved that what the function ensures holds when it returns'
-at="note: src/blocks.rt:$line:1: $said"
+at="note: src/tables.rt:$(line_of fresh_pid):1: $said"
 
 accepts() { [ -z "$(complaints "$1")" ]; }
 refuses() { [ -n "$(complaints "$1")" ]; }
-check "the goal is named" accepts "$edit: $at (\`returns-in-Some-clause-exact\`)"
-check "its name is cut" accepts "$edit: $at (\`returns-in-So"
+check "the goal is named" accepts "$edit: $at (\`returns-in_err-number-clause-free\`)"
+check "its name is cut" accepts "$edit: $at (\`returns-in_er"
 check "little is left of its name" refuses "$edit: $at (\`ret"
-check "another goal of the function" refuses "$edit: $at (\`returns-in-Some-clause-free\`)"
-check "the same goal of another function" refuses "$edit: note: src/blocks.rt:11:1: $said (\`returns-in-Some-clause-exact\`)"
+check "another goal of the function" refuses "$edit: $at (\`returns-in_err-number-clause-own\`)"
+check "the same goal of another function" refuses "$edit: note: src/tables.rt:$(line_of fresh_tid):1: $said (\`returns-in_err-number-clause-free\`)"
 check "a proof file names what is gone" refuses \
-  "$edit (only because a proof file names what the edit took away): ./proofs/blocks/next_free/Answers.antt:9:1: error: no \`x\`"
+  "$edit (only because a proof file names what the edit took away): ./proofs/tables/Tables/fresh_pid/Answers.antt:9:1: error: no \`x\`"
 check "the edit isn't refused" refuses "${edit/refused*/NOT REFUSED}"
 
 if need mypy; then
