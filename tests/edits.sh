@@ -1,7 +1,6 @@
 #!/usr/bin/env bash
-# Each must-fail edit can be applied to the present sources. An edit that the gate leaves out was tried on the present
-# contracts of its crate, by tests/more-edits.sh; a crate where it wasn't counts as skipped. Then tools/edits, which
-# says both, on a made-up crate.
+# Each must-fail edit can be applied to the present sources. A crate whose further edits weren't tried on its present
+# contracts, by tests/more-edits.sh, counts as skipped. Then tools/edits, which says both, on a made-up crate.
 #
 #   bash tests/edits.sh
 # shellcheck disable=SC2034 # lib.sh reads it
@@ -63,7 +62,7 @@ check "another edit" ends_with 2 passed, 0 failed, 1 skipped
 edits --tried one
 check "it was tried again" ends_with 3 passed, 0 failed, 0 skipped
 rm "$room/made_up/tests/edits_tried.tsv"
-check "no edit was ever tried" says 'skipped: one: 1 further edit, never tried'
+check "no run is noted" says 'skipped: one: 1 further edit, of which no run is noted'
 
 new_crate
 replace src/lib.rt 'one' 'step'
