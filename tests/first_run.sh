@@ -1,6 +1,7 @@
 #!/usr/bin/env bash
 # What a first ./tracehost prints while it proves and builds, with a stand-in for rt that proves nothing: what the gate is
-# given, each crate once, where one fails, and that an interrupted run leaves nothing behind and goes on later.
+# given, each crate once, where one fails, and that an interrupted run leaves nothing behind and goes on later, with a kit
+# that keeps a record of what passed and with one that keeps none.
 #
 #   bash tests/first_run.sh
 # shellcheck disable=SC2034 # for lib.sh
@@ -9,15 +10,46 @@ source "$(dirname "${BASH_SOURCE[0]}")/lib.sh"
 need python3 git flock || exit
 
 # a copy without what was built, and the stand-in: its scheduler takes the tasks in the order of crates.txt, and it fails
-# where a crate is missing, or in the crate that FAILS names. It keeps in KEPT what has passed, and notes in GIVEN what it
-# was given
+# where a crate is missing, or in the crate that FAILS names. It keeps in KEPT what has passed, if RECORD isn't empty, and
+# notes in GIVEN what it was given
 mkdir "$room/copy" "$room/bin" "$room/kept" "$room/tmp"
+echo "a kit" >"$room/KIT-ID"
 git ls-files -z | xargs -0 cp --parents -t "$room/copy"
 cat >"$room/bin/rt" <<'STAND_IN'
 #!/usr/bin/env python3
 import glob, os, sys, time
 
-KEPT, TREE = os.environ['KEPT'], os.environ['TREE']
+KEPT, TREE, RECORD = (os.environ[it] for it in ('KEPT', 'TREE', 'RECORD'))
+KIT, USES = os.environ['ROOM'], {}
+__doc__ = 'rt ci [--anew]' if RECORD else 'rt ci'
+
+
+def say(text, out=sys.stdout):
+    print(f'rt: {text}', file=out, flush=True)
+
+
+class Crate:
+    out = sys.stdout
+
+    def __init__(self, name):
+        self.name = name
+        self.folder = os.path.abspath(f'crates/{name}')
+        self.rlib = f'{self.folder}/out/rlib/{name}.rlib'
+
+    def below(self):
+        found = {}
+        for it in USES[self.name]:
+            if os.path.isdir(f'{TREE}/crates/{it}'):
+                found.update({below.name: below for below in Crate(it).below()})
+                found[it] = Crate(it)
+        return [*found.values()]
+
+    def build_rlib(self, flags, anew):
+        note('CALLS', f'proved {self.name}')
+        os.makedirs(self.rlib)
+        with open(f'{self.rlib}/statements', 'w') as out:
+            out.write(source(self.name))
+        return 0
 
 
 def note(file, text):
@@ -29,23 +61,26 @@ def source(name):
     return ''.join(open(path).read() for path in glob.glob(f'crates/{name}/src/[lm]*.rt'))
 
 
-def prove(name, uses):
-    missing = [it for it in uses if os.path.isdir(f'{TREE}/crates/{it}') and not os.path.isfile(f'{KEPT}/{it}')]
+def prove(crate):
+    name = crate.name
+    missing = [it.name for it in crate.below() if not os.path.isdir(it.rlib)]
     if missing:
-        print(f'rt: {name} NOT PROVED: its library {missing[0]} failed', flush=True)
+        say(f'{name} NOT PROVED: its library {missing[0]} failed')
         return False
-    if os.path.isfile(f'{KEPT}/{name}') and open(f'{KEPT}/{name}').read() == source(name):
-        print(f'rt: {name} is kept: an earlier run on this machine proved the same files over the same libraries', flush=True)
+    if RECORD and os.path.isfile(f'{KEPT}/{name}') and open(f'{KEPT}/{name}').read() == source(name):
+        os.makedirs(crate.rlib)
+        say(f'{name} is kept: an earlier run on this machine proved the same files over the same libraries')
         return True
     time.sleep(float(os.environ.get('PAUSE', '0')))
     print(f'== {name}', flush=True)
     if name == os.environ.get('FAILS'):
         print(f'error: a goal is open\nrt: {name} NOT PROVED', flush=True)
         return False
-    print(f'logic=proved functions=2\nrt: {name} proved', flush=True)
+    crate.build_rlib([], True)
+    print('logic=proved functions=2', flush=True)
+    say(f'{name} proved')
     with open(f'{KEPT}/{name}', 'w') as out:
         out.write(source(name))
-    note('CALLS', f'proved {name}')
     return True
 
 
@@ -59,8 +94,14 @@ def in_lanes(tasks):
     given = {}
     for key, (waits, lines, needs, call) in tasks.items():
         note('CALLS', f'{key[1]} {key[0]}')
+        if not all(it in given for it in waits):
+            sys.exit(f'{key} waits for a task that is none')
         given[key] = call(given, 1)
     return given
+
+
+def edits(given, name):
+    return [], [], given[name, 'proof'] and given[name, 'tests'] and []
 
 
 def main(words):
@@ -70,17 +111,19 @@ def main(words):
         out.writelines(sorted(f'{at}/{it}\n' for at, _, files in os.walk('.') for it in files))
     note('CALLS', 'begin')
     tasks = {}
-    for line in open('crates.txt'):
-        name, _, uses = line.partition(':')
+    USES.update((line.partition(':')[0], line.partition(':')[2].split()) for line in open('crates.txt'))
+    for name in USES:
         lines = source(name).count('\n')
-        tasks[name, 'proof'] = [], lines, 0, lambda given, jobs, name=name, uses=uses: prove(name, uses.split())
+        tasks[name, 'proof'] = [], lines, 0, lambda given, jobs, crate=Crate(name): prove(crate)
         has_tests = name == os.environ.get('TESTED')
-        tasks[name, 'tests'] = [], lines * has_tests, 0, lambda given, jobs, name=name: test(name)
+        tasks[name, 'tests'] = [], lines * has_tests, 0, lambda given, jobs, tested=has_tests and name: not tested or test(tested)
+        both = [(name, 'proof'), (name, 'tests')]
+        tasks[name, 'edits'] = both, 0, 0, lambda given, jobs, name=name: edits(given, name)
     given = in_lanes(tasks)
-    if not all(given[key] for key in tasks):
+    if not all(given[name, 'proof'] and given[name, 'tests'] and given[name, 'edits'] == ([], [], []) for name in USES):
         print('1 passed, 1 failed')
         return 1
-    os.makedirs('crates/tracehost/out')
+    os.makedirs('crates/tracehost/out', exist_ok=True)
     with open('crates/tracehost/out/tracehost', 'w') as out:
         out.write('#!/bin/sh\necho "ran $*"\n')
     os.chmod('crates/tracehost/out/tracehost', 0o755)
@@ -92,7 +135,8 @@ if __name__ == '__main__':
     sys.exit(main(sys.argv[1:]))
 STAND_IN
 chmod +x "$room/bin/rt"
-export PATH=$room/bin:$PATH CALLS=$room/calls GIVEN=$room/given KEPT=$room/kept TMPDIR=$room/tmp TREE=$room/copy
+export PATH=$room/bin:$PATH CALLS=$room/calls GIVEN=$room/given KEPT=$room/kept TMPDIR=$room/tmp TREE=$room/copy ROOM=$room
+export RECORD=yes
 cd "$room/copy" || exit 1
 
 # the crates that a crate stands on, and itself
@@ -152,6 +196,7 @@ check "a run with tests ends with status 0" test $? -eq 0
 same "$room/whole" <(sed -n 's/^proof //p' "$CALLS" | sort) "the scheduler is given each proof"
 same <(echo byte_io) <(sed -n 's/^tests //p' "$CALLS") "the scheduler is given the tests that there are"
 same <(echo byte_io) <(sed -n 's/^tested //p' "$CALLS") "these tests are made"
+check "the scheduler is given no edits" test "$(grep -c '^edits ' "$CALLS")" -eq 0
 
 # the program that was built is run at once, until a source changes
 : >"$CALLS"
@@ -161,6 +206,32 @@ same /dev/null "$CALLS" "nothing is proved again"
 echo "// changed" >>crates/scenario/src/lib.rt
 ./tracehost --prove other.json >"$room/out" 2>"$room/err"
 same <(echo "proved scenario") <(grep proved "$CALLS") "a changed source is proved again"
+
+# a kit that keeps no record: the next run takes what was proved, unless something has changed below it
+proved() { sed -n 's/^proved //p' "$CALLS" | sort; }
+run_without_record() {
+  : >"$CALLS"
+  RECORD='' FAILS=${1-} python3 tools/first_run.py 2>"$room/err"
+}
+run_without_record wait4
+check "a failed proof by a kit without a record ends with status 1" test $? -eq 1
+proved >"$room/first"
+check "some crates are proved before it" grep -qx trace_stop "$room/first"
+check "they are kept" test -d out/proved/trace_stop
+run_without_record
+check "the next run ends with status 0" test $? -eq 0
+same <(comm -23 "$room/whole" "$room/first") <(proved) "it proves the others"
+check "it reports what was kept" grep -q 'trace_stop is proved (as before): ' "$room/err"
+check "nothing is kept once the program is built" test ! -e out/proved
+run_without_record wait4
+echo "// changed" >>crates/bit_sets/src/lib.rt
+run_without_record
+check "a changed source and all above it are proved again" test "$(proved | grep -cxE 'bit_sets|proc_table|trace_stop')" -eq 3
+check "what doesn't stand on it is kept" test "$(proved | grep -cxE 'signals|lwp_table')" -eq 0
+run_without_record wait4
+echo "another kit" >"$room/KIT-ID"
+run_without_record
+same "$room/whole" <(proved) "another kit proves all again"
 
 # waits until the gate has begun; false where the run with this process id has ended before
 has_begun() {
@@ -198,6 +269,7 @@ def main(words):
     print('rt: the disk is full')
     return 2
 FULL
+sed -i '1i "rt ci [--anew]"' "$room/bin/rt"
 python3 tools/first_run.py 2>"$room/err"
 check "a gate that can't begin ends with status 1" test $? -eq 1
 check "what the gate said is printed" grep -qx 'rt: the disk is full' "$room/err"

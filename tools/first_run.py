@@ -2,8 +2,8 @@
 """Proves and builds the program, and says on standard error how far it is.
 
 The gate of the kit (`rt ci`, by lone_gate.py) does the work, on a copy of the crates that the program stands on, without
-must-fail edits. It proves as many crates side by side as there are processors and memory for. What has passed is kept
-beside the kit, so that after an interrupt the next call goes on from there, and the gate does too.
+must-fail edits. It proves as many crates side by side as there are processors and memory for. What has passed is kept, by
+the kit or in out/proved, so that after an interrupt the next call goes on from there.
 
 On a terminal one line is rewritten; else a line is printed for each crate. The share of the work that is done comes from
 the processor seconds in bench/proof_seconds.tsv.
@@ -25,34 +25,14 @@ import tempfile
 import time
 from collections.abc import Iterator
 
-TOP = os.path.dirname(os.path.dirname(os.path.realpath(__file__)))
+from crates import TOP, copy_crates, crates_below
+from lone_gate import STORE
+
 PROGRAM = "tracehost"
-# what a crate is made of, with the files of a program's run
-PARTS = ("src", "specs", "proofs", "data", "args", "status", "stdin", "stdout")
 # what ends a run before its time
 SIGNALS = (signal.SIGINT, signal.SIGTERM)
 # how often the line on a terminal is rewritten, in seconds
 PACE = 1.0
-
-
-def crates_below(program: str) -> dict[str, str]:
-    """Returns the lines of crates.txt of the program and of the crates that it stands on, lowest first."""
-    lines: dict[str, str] = {}
-    with open(f"{TOP}/crates.txt", encoding="utf-8") as listed:
-        for line in listed:
-            name, colon, _ = line.partition("#")[0].partition(":")
-            if colon:
-                lines[name.split()[0]] = line
-    ordered: dict[str, str] = {}
-
-    def add(name: str) -> None:
-        if name in lines and name not in ordered:
-            for use in lines[name].partition(":")[2].split():
-                add(use)
-            ordered[name] = lines[name]
-
-    add(program)
-    return ordered
 
 
 def weights(names: dict[str, str]) -> dict[str, float]:
@@ -68,23 +48,6 @@ def weights(names: dict[str, str]) -> dict[str, float]:
 def digest_of_sources() -> str:
     """Returns the digest of all that the program is built from."""
     return subprocess.run([f"{TOP}/tools/sources"], stdout=subprocess.PIPE, text=True, check=True).stdout.strip()
-
-
-def copy_crates(names: dict[str, str], folder: str) -> None:
-    """Copies these crates to the folder, with their lines of crates.txt and with HANDLES, as `rt ci` wants them."""
-    for name in names:
-        os.makedirs(f"{folder}/crates/{name}")
-        for part in PARTS:
-            path, to = f"{TOP}/crates/{name}/{part}", f"{folder}/crates/{name}/{part}"
-            if os.path.isdir(path):
-                shutil.copytree(path, to)
-            elif os.path.isfile(path):
-                shutil.copy2(path, to)
-    # rt ends its search for the top of a repository here, and what it sets aside lies within
-    os.mkdir(f"{folder}/.git")
-    shutil.copy2(f"{TOP}/HANDLES", folder)
-    with open(f"{folder}/crates.txt", "w", encoding="utf-8") as listed:
-        listed.writelines(names.values())
 
 
 @contextlib.contextmanager
@@ -223,6 +186,7 @@ def prove() -> int:
         os.makedirs(os.path.dirname(built), exist_ok=True)
         shutil.copy2(f"{folder}/crates/{PROGRAM}/out/{PROGRAM}", f"{built}.new")
         os.replace(f"{built}.new", built)
+    shutil.rmtree(STORE, ignore_errors=True)
     subprocess.run([f"{TOP}/tools/program", "--built", digest], check=True)
     progress.say(f"built in {progress.elapsed()}")
     return 0

@@ -7,7 +7,7 @@ import subprocess
 import tempfile
 from pathlib import Path
 
-from build_library import load_rt
+from kit import load_rt
 
 TOP = Path(__file__).resolve().parent.parent
 REACHED = re.compile(r'^  (\S+) +reached$', re.MULTILINE)
