@@ -11,8 +11,8 @@ need python3 || exit
 check "each edit of the table is there" tools/edit_goals
 
 # the complaints about one edit of the table, where a log has this line about it
-complaints() { tools/edit_goals --log <(printf '%s\n' "$1") | grep -F 'proc_table/least_free_pid_without_the_cursor'; }
-edit='rt: must-fail proc_table/least_free_pid_without_the_cursor.edit: refused, as it must be'
+complaints() { tools/edit_goals --log <(printf '%s\n' "$1") | grep -F 'proc_table/pids_from_one_counter_for_all_users'; }
+edit='rt: must-fail proc_table/pids_from_one_counter_for_all_users.edit: refused, as it must be'
 line_of() { grep -n "pub fn $1" crates/proc_table/src/tables.rt | cut -d: -f1; }
 said='it is not proved that what the function ensures holds when it returns'
 at="note: src/tables.rt:$(line_of fresh_pid):1: $said"
