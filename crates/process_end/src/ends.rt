@@ -79,7 +79,7 @@ fn end_with_tracees(tables: &mut Tables, pid: Pid, status: u32)
     requires word { is_end status ≡ true }
     ensures { tables.new.rows ≡ end kills pid status tables.old.rows }
 {
-    let killed = Signal::kill().number();
+    let killed = Signal::KILL.number();
     let mut at = pid;
     let mut passed = 0;
     loop {
@@ -100,7 +100,7 @@ fn lost_signals(tables: &Tables, tracee: Pid) -> SigSet
     ensures { result ≡ lost_at (process_of tracee tables.now.rows.processes) }
 {
     match tables.process(tracee) {
-        Some(row) if matches!(row.state, State::Trace { .. }) => SigSet::of(Signal::trap()),
+        Some(row) if matches!(row.state, State::Trace { .. }) => SigSet::of(Signal::TRAP),
         _ => SigSet::empty(),
     }
 }

@@ -19,7 +19,7 @@ fn post_to(tables: &mut Tables, settings: Settings, pid: Pid, signal: Signal, to
     ensures rows { tables.new.rows ≡ post settings signal to.now pid tables.old.rows }
     ensures sound { IsSound tables.new.rows }
 {
-    if signal == Signal::kill() {
+    if signal == Signal::KILL {
         end(tables, settings, pid, signal.number());
     } else {
         post_other(tables, pid, signal, to);

@@ -42,7 +42,7 @@ fn compute(tables: &mut Tables, p: &ProcData, l: &LwpData) -> Reply
         return Reply::Done;
     }
     stop_stepping(tables, l);
-    stop_with(tables, p, l, &plain(Signal::trap()))
+    stop_with(tables, p, l, &plain(Signal::TRAP))
 }
 
 /// Raise: posts a signal to the LWP itself. Refused with EINVAL where the number is not a signal's.
@@ -57,7 +57,7 @@ fn raise(tables: &mut Tables, settings: Settings, number: u32, p: &ProcData, l: 
         return Reply::Errno(Errno::EINVAL);
     };
     post_lwp(tables, settings, p.pid, l.tid, signal);
-    if signal == Signal::kill() {
+    if signal == Signal::KILL {
         Reply::Ended(signal.number())
     } else {
         Reply::Done

@@ -166,7 +166,7 @@ fn command(
         Request::Suspend => Ok(suspend(tables, lwp, true)),
         Request::Resume => Ok(suspend(tables, lwp, false)),
         Request::Detach => Ok(detach_with(tables, settings, process, data)),
-        Request::Kill => Ok(resume_with(tables, settings, process, Signal::kill().number())),
+        Request::Kill => Ok(resume_with(tables, settings, process, Signal::KILL.number())),
         Request::SetEventMask => Ok(set_events(tables, process, data)),
         Request::FollowFork => Ok(switch(tables, process, EventMask::PTRACE_FORK, data)),
         Request::LwpEvents => Ok(switch(tables, process, EventMask::PTRACE_LWP, data)),

@@ -36,7 +36,7 @@ fn carry_out(tables: &mut Tables, settings: Settings, process: &ProcData, decisi
             detach_with(tables, settings, process, pass.number());
         }
         Decision::Kill => {
-            resume_with(tables, settings, process, Signal::kill().number());
+            resume_with(tables, settings, process, Signal::KILL.number());
         }
     }
 }

@@ -20,7 +20,7 @@ fn may_end<H>(asked: &Step<H>, done: &Result<Reply, AllocError>) -> bool
     ensures { result ≡ may_end (bare asked.now) (attempted_reply done.now) }
 {
     match *asked {
-        Step::Kill { sig, .. } => sig == Signal::kill().number(),
+        Step::Kill { sig, .. } => sig == Signal::KILL.number(),
         Step::Handle { .. } => matches!(done, Ok(Reply::Handled { .. })),
         Step::Ptrace { .. } => matches!(done, Ok(Reply::Done)),
         Step::Turn { .. } => matches!(done, Ok(Reply::Ended(_))),

@@ -44,7 +44,7 @@ fn child_stop(call: Call) -> Shown
     ensures { result ≡ child_stop call }
 {
     Shown {
-        sig: Signal::stop(),
+        sig: Signal::STOP,
         flags: StopFlags::PL_FLAG_SCX.with(StopFlags::PL_FLAG_CHILD),
         child: 0,
         code: call_code(call),

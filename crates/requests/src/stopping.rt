@@ -34,7 +34,7 @@ pub fn trap(flags: StopFlags, child: u32, call: Call) -> Shown
 {
     let at_edge = flags.shows(StopFlags::PL_FLAG_SCE) || flags.shows(StopFlags::PL_FLAG_SCX);
     Shown {
-        sig: Signal::trap(),
+        sig: Signal::TRAP,
         flags,
         child,
         code: if at_edge { call_code(call) } else { 0 },

@@ -123,6 +123,6 @@ fn stop_first(tables: &mut Tables, pid: Pid)
     ensures rows { tables.new.rows ≡ stop_first pid (first_lwp pid tables.old.rows.lwps) tables.old.rows }
 {
     if let Some(lwp) = tables.first_lwp(pid) {
-        stop(tables, pid, lwp.tid, &plain(Signal::stop()));
+        stop(tables, pid, lwp.tid, &plain(Signal::STOP));
     }
 }

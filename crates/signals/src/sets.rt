@@ -50,7 +50,7 @@ impl SigSet {
     pub fn unblockable() -> SigSet
         ensures { result ≡ unblockable_set }
     {
-        SigSet::of(Signal::kill()).with(Signal::stop())
+        SigSet::of(Signal::KILL).with(Signal::STOP)
     }
 
     /// Returns the pending signals that the posting of this signal removes. SIGCONT removes the signals that
@@ -59,8 +59,8 @@ impl SigSet {
         ensures { result ≡ opposed signal }
     {
         if signal.stops() {
-            SigSet::of(Signal::cont())
-        } else if signal == Signal::cont() {
+            SigSet::of(Signal::CONT)
+        } else if signal == Signal::CONT {
             SigSet::stops()
         } else {
             SigSet::empty()

@@ -43,7 +43,7 @@ pub fn settle(tables: &mut Tables, pid: Pid)
 fn continues(signal: Signal, p: &ProcData) -> bool
     ensures { result ≡ continues signal p.now }
 {
-    signal == Signal::cont() && matches!(p.state, State::Job { .. })
+    signal == Signal::CONT && matches!(p.state, State::Job { .. })
 }
 
 /// Returns the pending set of a process after the signal is posted to it, or to an LWP of it.
@@ -98,7 +98,7 @@ pub fn post_sigchld(tables: &mut Tables, number: u32)
     ensures sound { IsSound tables.old.rows → MayTell tables.old.rows number → IsSound tables.new.rows }
 {
     if let Some(p) = tables.numbered(number) {
-        let _ = put(tables, p.pid, Signal::chld(), &None);
+        let _ = put(tables, p.pid, Signal::CHLD, &None);
     }
 }
 

@@ -76,7 +76,7 @@ impl Both {
             state: match roll % 4 {
                 0 => State::Zombie { status: roll },
                 1 => State::Job {
-                    sig: Signal::stop(),
+                    sig: Signal::STOP,
                     reported: roll % 7 == 1,
                 },
                 _ => State::Run,

@@ -32,7 +32,7 @@ fn at_trap(flags: StopFlags, decision: Decision) -> Rule
     ensures { result ≡ record { signal = Some SIGTRAP; flags = flags; decision = decision } }
 {
     Rule {
-        signal: Some(Signal::trap()),
+        signal: Some(Signal::TRAP),
         flags,
         decision,
     }
@@ -113,7 +113,7 @@ pub fn cases(rt: &impl Print) -> io::Result<()> {
     let none = present(Pass::new(0).ok())?;
     let exec = present(stop(5, 6))?;
     let traps = Rule {
-        signal: Some(Signal::trap()),
+        signal: Some(Signal::TRAP),
         flags: StopFlags(0),
         decision: Decision::Kill,
     };

@@ -34,12 +34,12 @@ pub fn table(rt: &impl Print) -> io::Result<()> {
 
 /// Returns the signal with this number, or SIGKILL.
 fn signal(number: u32) -> Signal {
-    Signal::new(number).unwrap_or(Signal::kill())
+    Signal::new(number).unwrap_or(Signal::KILL)
 }
 
 /// Returns the set of SIGHUP, SIGKILL and SIGUSR2.
 fn three() -> SigSet {
-    let kill = SigSet::of(Signal::kill());
+    let kill = SigSet::of(Signal::KILL);
     kill.with(signal(31)).with(signal(1))
 }
 
@@ -101,6 +101,6 @@ pub fn shown(rt: &impl Print) -> io::Result<()> {
             Pass::new(number)
         )?;
     }
-    let one = SigSet::of(Signal::kill());
+    let one = SigSet::of(Signal::KILL);
     println!(rt; "sets {one:?} {:?} {:?}", three(), SigSet::empty())
 }
