@@ -11,7 +11,8 @@ pub use Rattle.std.proofs.Common.{length, ltb, map, not, option_map, refl, rules
 pub use Rattle.std.proofs.Math.Bool.{and-false, or-false}
 pub use Rattle.std.proofs.Math.Path.{fun_ext}
 pub use Rattle.trace_stop.proofs.Chains.{chains_end, chains_meet, meets-more, meets-suc, meets-zero, no_ring, tracee_deeper}
-pub use Rattle.trace_stop.proofs.CommonNames.{AllByRecursion, Differ, FitProcess, InOwnBlock, InOwnersBlock, IsLeast, IsLiveChild, IsSound, IsStopped, LeastOrNone, Linked, LwpData, MidStepInvariant, Named, ProcData, Rise}
+pub use Rattle.trace_stop.proofs.CommonNames.{AllByRecursion, Differ, FitProcess, InOwnBlock, InOwnersBlock, IsLeast, IsLiveChild, IsSound, IsStopped, LeastOrNone, Linked, LwpData, MidStepInvariant, Named, ProcData, Rise, reporting}
+pub use Rattle.trace_stop.specs.declared.Resumption.{Resumption}
 pub use Rattle.trace_stop.proofs.CommonNames.{Rows, SIGCHLD, SIGKILL, Standing, TableInvariant, WithOwner, by_owner, collector, dead, detached, drop_lwp, drop_process, each, end, end_each, end_of, first_lwp, exists}
 pub use Rattle.trace_stop.proofs.CommonNames.{is_live, is_live_at, is_live_of, is_numbered, is_this, left_alone, list_any, lost_signals, lwp_after, lwp_of, map_lwps, nat_tests, next_child, next_tracee, not-false}
 pub use Rattle.trace_stop.proofs.CommonNames.{notified, option_and_then, orphaned, own_lwp, posted_lwp, posted_process, process_after, process_of, put_process, released, reported, resumed, running, set_process, traces}
@@ -24,6 +25,5 @@ pub use Rattle.trace_stop.proofs.Notified.{notified-none}
 pub use Rattle.trace_stop.proofs.Numbers.{the_lwp, the_row}
 pub use Rattle.trace_stop.proofs.Passes.{KeepsNumbers, KeepsOwners, any_edited, any_same, count_edited, each_agree, each_equal, each_same, each_twice, filter_map_same, own_rows, process_edited, rise_edited}
 pub use Rattle.trace_stop.proofs.SoundAfterPost.{end_at, post_sound}
-pub use Rattle.trace_stop.proofs.StoppedByOwnLwp.{stopped_live}
 pub use Rattle.trace_stop.specs.End.{dooms, is_doomed, meets, notifies_of, tracer_of}
 pub use Rattle.trace_stop.specs.Laws.{chain}

@@ -15,7 +15,7 @@ use crate::leaf::end_leaf;
 use pid_blocks::Pid;
 use proc_table::{State, Tables};
 use signals::{SigSet, Signal};
-use trace_stop::{Settings, untrace};
+use trace_stop::{Settings, detach_row};
 
 /// Returns a live process above a number that this process traces, if any.
 #[tactic(auto, using(crate::proofs::Descents::walking))]
@@ -106,19 +106,19 @@ fn lost_signals(tables: &Tables, tracee: Pid) -> SigSet
 }
 
 /// Detaches a live tracee of a process that ends.
-fn leave_tracee(tables: &mut Tables, tracee: Pid)
+fn detach_tracee(tables: &mut Tables, tracee: Pid)
     requires sound { IsSound tables.old.rows }
     requires live { is_live_at tracee tables.old.rows ≡ true }
     ensures rows { tables.new.rows ≡ detached (is_numbered tracee) lost_signals tables.old.rows }
     ensures sound { IsSound tables.new.rows }
 {
     let lost = lost_signals(tables, tracee);
-    untrace(tables, tracee, lost);
+    detach_row(tables, tracee, lost);
 }
 
 /// Detaches the live tracees of a process that ends.
 #[tactic(auto, using(crate::proofs::LeftAlone::leaving))]
-fn leave_tracees(tables: &mut Tables, pid: Pid)
+fn detach_tracees(tables: &mut Tables, pid: Pid)
     requires sound { IsSound tables.old.rows }
     requires live { is_live_at pid tables.old.rows ≡ true }
     ensures rows { tables.new.rows ≡ left_alone spares pid tables.old.rows }
@@ -127,7 +127,7 @@ fn leave_tracees(tables: &mut Tables, pid: Pid)
     ensures leaf { traces_live pid tables.new.rows ≡ false }
 {
     while let Some(tracee) = live_tracee(tables, pid, 0) {
-        leave_tracee(tables, tracee);
+        detach_tracee(tables, tracee);
     }
 }
 
@@ -144,7 +144,7 @@ pub fn end(tables: &mut Tables, settings: Settings, pid: Pid, status: u32)
     if settings.kill_on_debugger_exit {
         end_with_tracees(tables, pid, status);
     } else {
-        leave_tracees(tables, pid);
+        detach_tracees(tables, pid);
         end_leaf(tables, pid, status);
     }
 }

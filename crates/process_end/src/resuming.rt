@@ -1,60 +1,55 @@
 //! Resuming and detaching processes with a signal, which may end them.
 
-ghost use Rattle.std.specs.Prelude.{◌≡◌};
-ghost use Rattle.proc_table.specs.Processes.{process_of};
-ghost use Rattle.proc_table.specs.Kept.{IsRow};
+ghost use Rattle.std.specs.Prelude.{◌≡◌, Some, is_some, true};
+ghost use Rattle.signals.specs.Table.{ends};
+ghost use Rattle.proc_table.specs.Processes.{process_of, reporting};
 ghost use Rattle.trace_stop.specs.Facts.{IsSound};
-ghost use Rattle.trace_stop.specs.Reports.{IsStopped};
-ghost use Rattle.trace_stop.specs.Stop.{ends_process, resume, detach};
+ghost use Rattle.trace_stop.specs.Stop.{resume, detach};
 
 use crate::ends::end;
-use pid_blocks::Pid;
-use proc_table::Tables;
+use proc_table::{ProcData, Tables};
 use signals::{Pass, SigSet};
-use trace_stop::{Settings, run_on, untrace};
+use trace_stop::{Resumption, Settings, detach_row, resume_row};
 
 /// Tests whether a process ends when it is resumed with the signal.
-#[tactic(auto, using(trace_stop::proofs::Found::row_there))]
-fn ends(tables: &Tables, pid: Pid, pass: Pass) -> bool
-    requires { IsRow tables.now.rows pid }
-    ensures { result ≡ ends_process pass (process_of pid tables.now.rows.processes) }
+fn ends(process: &ProcData, pass: Pass) -> bool
+    ensures { result ≡ ends process.now.dispositions pass }
 {
-    let p = tables.process(pid).unwrap();
     match pass.signal() {
-        Some(signal) => p.dispositions.ends(signal),
+        Some(signal) => process.dispositions.ends(signal),
         None => false,
     }
 }
 
-/// Resumes a process from a trace stop with a signal, or with none; the signal may end it. Allocates
-/// nothing.
-#[tactic(auto, using(trace_stop::proofs::StoppedByOwnLwp::stopped_row, crate::proofs::Resumed::runs_live))]
-pub fn resume(tables: &mut Tables, settings: Settings, pid: Pid, pass: Pass)
+/// Resumes a process from a trace stop: sets its event mask and which of its LWPs step, and passes a signal on, which may
+/// end the process. Allocates nothing.
+#[tactic(auto, using(crate::proofs::Resumed::stopped))]
+pub fn resume(tables: &mut Tables, settings: Settings, process: &ProcData, how: &Resumption)
     requires sound { IsSound tables.old.rows }
-    requires stopped { IsStopped pid tables.old.rows }
-    ensures rows { tables.new.rows ≡ resume settings pid pass tables.old.rows }
+    requires at { process_of process.now.pid tables.old.rows.processes ≡ Some process.now }
+    requires stopped { is_some (reporting process.now) ≡ true }
+    ensures rows { tables.new.rows ≡ resume settings how.now process.now.pid tables.old.rows }
     ensures sound { IsSound tables.new.rows }
 {
-    let ends = ends(tables, pid, pass);
-    run_on(tables, pid);
-    if ends {
-        end(tables, settings, pid, pass.number());
+    resume_row(tables, process, how);
+    if ends(process, how.pass) {
+        end(tables, settings, process.pid, how.pass.number());
     }
 }
 
 /// Detaches a process from its tracer, with a signal or with none, as PT_DETACH of ptrace(2) does. The signal may
 /// end the process. Allocates nothing.
-#[tactic(auto, using(trace_stop::proofs::StoppedByOwnLwp::stopped_row, crate::proofs::Resumed::runs_live))]
-pub fn detach(tables: &mut Tables, settings: Settings, pid: Pid, pass: Pass)
+#[tactic(auto, using(crate::proofs::Resumed::stopped))]
+pub fn detach(tables: &mut Tables, settings: Settings, process: &ProcData, pass: Pass)
     requires sound { IsSound tables.old.rows }
-    requires stopped { IsStopped pid tables.old.rows }
-    ensures rows { tables.new.rows ≡ detach settings pid pass tables.old.rows }
+    requires at { process_of process.now.pid tables.old.rows.processes ≡ Some process.now }
+    requires stopped { is_some (reporting process.now) ≡ true }
+    ensures rows { tables.new.rows ≡ detach settings process.now.pid pass tables.old.rows }
     ensures sound { IsSound tables.new.rows }
 {
-    if ends(tables, pid, pass) {
-        run_on(tables, pid);
-        end(tables, settings, pid, pass.number());
+    if ends(process, pass) {
+        resume(tables, settings, process, &Resumption::with_signal(pass));
     } else {
-        untrace(tables, pid, SigSet::empty());
+        detach_row(tables, process.pid, SigSet::empty());
     }
 }

@@ -1,10 +1,10 @@
 -- A stopped process runs on: its reporting LWP, and its LWPs.
 use Rattle.trace_stop.proofs.CommonNames.{◌≡◌, ℕ, Bool, true, false, List, [], ◌∷◌, map, refl, sym, ap, ◌∙◌, arith, cond, nat_eq, Option, Some, None, rules, filter_map, option_map, nat_tests, shows, PL_FLAG_EXITED, LwpData, LacksLwp}
-use Rattle.trace_stop.proofs.CommonNames.{Differ, lwp_of, with_lwp, without_lwp, ProcData, process_of, reporting, Rows, by_owner, is_numbered, own_lwp, map_lwps, TableInvariant, set_process, run_on, reported, resumed, running}
+use Rattle.trace_stop.proofs.CommonNames.{Differ, lwp_of, with_lwp, without_lwp, ProcData, process_of, reporting, Rows, by_owner, is_numbered, own_lwp, map_lwps, TableInvariant, set_process, run_on, reported, resumed, running, steps, Resumption}
 use Rattle.trace_stop.proofs.CommonNames.{MidStepInvariant, IsStopped, reporter, unreported, report_dropped, process_of-pid, lwp_of-tid}
 use Rattle.proc_table.proofs.Rows.{same_number}
 use Rattle.proc_table.proofs.LwpWalk.{unput}
-use Rattle.proc_table.proofs.Changes.{changed, changed-at, filter_map-map, map_lwps-none}
+use Rattle.proc_table.proofs.Changes.{changed, changed-at, filter_map-map}
 use Rattle.trace_stop.proofs.StoppedByOwnLwp.{own_reporter}
 
 -- the LWPs without what one of them has reported, and without it where it has exited
@@ -68,8 +68,6 @@ module _ (pid : ℕ) (f : ProcData → ProcData) (g : ProcData → LwpData → L
       ∙ ap (λ x. map_lwps pid (g p) (report_dropped x (set_process (f p) rows))) (sym l.1)
 
 -- a resumed process
-pub resumed-is : (pid : ℕ) (rows : Rows) (p : ProcData) → MidStepInvariant rows → TableInvariant rows → process_of pid rows.processes ≡ Some p → (o : Option ℕ) → reporting p ≡ o
-    → resumed pid rows ≡ report_dropped (reporter o rows.lwps) (set_process (running p) rows)
-resumed-is pid rows p s k at o e =
-    run_on-is pid running (λ q l. l) rows p s k at (process_of-pid pid p rows.processes at) o e
-    ∙ map_lwps-none pid (report_dropped (reporter o rows.lwps) (set_process (running p) rows))
+pub resumed-is : (how : Resumption) (pid : ℕ) (rows : Rows) (p : ProcData) → MidStepInvariant rows → TableInvariant rows → process_of pid rows.processes ≡ Some p → (o : Option ℕ) → reporting p ≡ o
+    → resumed how pid rows ≡ map_lwps pid (steps how.stepping) (report_dropped (reporter o rows.lwps) (set_process (running how.adds p) rows))
+resumed-is how pid rows p s k at o e = run_on-is pid (running how.adds) (λ q l. steps how.stepping l) rows p s k at (process_of-pid pid p rows.processes at) o e

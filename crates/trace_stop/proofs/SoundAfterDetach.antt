@@ -1,5 +1,5 @@
 -- Resuming, detaching and ending keep rows sound.
-use Rattle.trace_stop.proofs.CommonNames.{nat_tests, AllByRecursion, ProcData, is_live, traces, process_of, Rows, is_numbered, running, untraced, untraced_lwp, resumed, detached, end_of, end, is_end}
+use Rattle.trace_stop.proofs.CommonNames.{nat_tests, AllByRecursion, ProcData, is_live, traces, process_of, Rows, is_numbered, running, steps, Resumption, is_some, untraced, untraced_lwp, resumed, detached, end_of, end, is_end}
 use Rattle.trace_stop.proofs.CommonNames.{IsSound, ◌≡◌, ℕ, Bool, true, false, ◌&&◌, if◌then◌else◌, Some, refl, subst, arith, rules, Settings, process_of-pid, lost_signals}
 use Rattle.trace_stop.proofs.SoundAfterEnd.{end_of_killing, end_of_sparing}
 use Rattle.trace_stop.proofs.SoundAfterRunOn.{run_on_sound}
@@ -7,12 +7,12 @@ use Rattle.trace_stop.proofs.CommonLemmas.{and_left, All-imply, All-edit, All-an
 
 -- Resuming
 
-module _ (rows : Rows) (pid : ℕ) (p : ProcData) (s : IsSound rows) (at : process_of pid rows.processes ≡ Some p) (live : is_live p ≡ true) where
-  pub resumed_sound : IsSound (resumed pid rows)
-  resumed_sound = run_on_sound rows (is_numbered pid) running (λ q l. l) s (search (rules)) (All-imply _ _ (λ q one. grind (arith, nat_tests, one, live)) rows.processes (the_row pid rows.processes p s.stands.rising at))
+module _ (how : Resumption) (rows : Rows) (pid : ℕ) (p : ProcData) (s : IsSound rows) (at : process_of pid rows.processes ≡ Some p) (live : is_live p ≡ true) (traced : is_some p.tracer ≡ true) where
+  pub resumed_sound : IsSound (resumed how pid rows)
+  resumed_sound = run_on_sound rows (is_numbered pid) (running how.adds) (λ q l. steps how.stepping l) s (search (rules)) (All-imply _ _ (λ q one. grind (arith, nat_tests, one, live, traced)) rows.processes (the_row pid rows.processes p s.stands.rising at))
 
-  pub resumed_row : process_of pid (resumed pid rows).processes ≡ Some (running p)
-  resumed_row = grind (arith, nat_tests, changed_row pid (is_numbered pid) running rows.processes p (λ q. refl) at, process_of-pid pid p rows.processes at)
+  pub resumed_row : process_of pid (resumed how pid rows).processes ≡ Some (running how.adds p)
+  resumed_row = grind (arith, nat_tests, changed_row pid (is_numbered pid) (running how.adds) rows.processes p (λ q. refl) at, process_of-pid pid p rows.processes at)
 
 -- Detaching
 

@@ -1,6 +1,6 @@
 -- Posting any signal, and resuming or detaching with one, keep rows sound.
 use Rattle.trace_stop.proofs.CommonNames.{arith, ◌≢◌, ◌≡◌, ℕ, true, ◌==◌, [], ◌∷◌, Option, Some, refl, sym, subst, nat_tests, AllByRecursion, SIGKILL, ProcData, is_live, process_of, Rows, change, is_numbered, continues}
-use Rattle.trace_stop.proofs.CommonNames.{posted_process, posted_lwp, notified, notifies, posted, running, resumed, detached, end, post, ends_process, resume, detach, is_end, Linked, IsSound, MayTell, Settings, every_found}
+use Rattle.trace_stop.proofs.CommonNames.{posted_process, posted_lwp, notified, notifies, posted, running, resumed, signal_alone, Resumption, is_some, detached, end, post, ends_process, resume, detach, is_end, Linked, IsSound, MayTell, Settings, every_found}
 use Rattle.trace_stop.proofs.CommonNames.{process_of-pid}
 use Rattle.trace_stop.proofs.SoundAfterSettle.{posted_same}
 use Rattle.trace_stop.proofs.SoundAfterDetach.{resumed_sound, resumed_row, detached_sound, end_sound}
@@ -42,12 +42,12 @@ module _ (rows : Rows) (pid : ℕ) (p : ProcData) (s : IsSound rows) (at : proce
   untraced_sound lost = detached_sound (is_numbered pid) (λ q. lost) rows s (λ q own is. grind (arith, nat_tests, own, is, at, live))
 
 -- Resuming and detaching with a signal
-module _ (settings : Settings) (rows : Rows) (pid : ℕ) (p : ProcData) (s : IsSound rows) (at : process_of pid rows.processes ≡ Some p) (live : is_live p ≡ true) where
-  ends_at : (sig : ℕ) → ends_process sig (process_of pid rows.processes) ≡ true → IsSound (end settings pid sig (resumed pid rows))
-  ends_at sig is = end_at (resumed pid rows) pid (running p) (resumed_sound rows pid p s at live) (resumed_row rows pid p s at live) refl settings sig (grind (arith, nat_tests, at, is))
+module _ (settings : Settings) (rows : Rows) (pid : ℕ) (p : ProcData) (s : IsSound rows) (at : process_of pid rows.processes ≡ Some p) (live : is_live p ≡ true) (traced : is_some p.tracer ≡ true) where
+  ends_at : (how : Resumption) → ends_process how.pass (process_of pid rows.processes) ≡ true → IsSound (end settings pid how.pass (resumed how pid rows))
+  ends_at how is = end_at (resumed how pid rows) pid (running how.adds p) (resumed_sound how rows pid p s at live traced) (resumed_row how rows pid p s at live traced) refl settings how.pass (grind (arith, nat_tests, at, is))
 
-  pub resume_sound : (sig : ℕ) → IsSound (resume settings pid sig rows)
-  resume_sound sig = choose (ends_process sig (process_of pid rows.processes)) (end settings pid sig (resumed pid rows)) (resumed pid rows) IsSound (ends_at sig) (λ e. resumed_sound rows pid p s at live)
+  pub resume_sound : (how : Resumption) → IsSound (resume settings how pid rows)
+  resume_sound how = choose (ends_process how.pass (process_of pid rows.processes)) (end settings pid how.pass (resumed how pid rows)) (resumed how pid rows) IsSound (ends_at how) (λ e. resumed_sound how rows pid p s at live traced)
 
   pub detach_sound : (sig : ℕ) → IsSound (detach settings pid sig rows)
-  detach_sound sig = choose (ends_process sig (process_of pid rows.processes)) (end settings pid sig (resumed pid rows)) (detached (is_numbered pid) (λ q. 0) rows) IsSound (ends_at sig) (λ e. untraced_sound rows pid p s at live 0)
+  detach_sound sig = choose (ends_process sig (process_of pid rows.processes)) (resume settings (signal_alone sig) pid rows) (detached (is_numbered pid) (λ q. 0) rows) IsSound (λ e. resume_sound (signal_alone sig)) (λ e. untraced_sound rows pid p s at live 0)

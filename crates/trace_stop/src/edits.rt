@@ -5,6 +5,7 @@ ghost use Rattle.proc_table.specs.Edits.{map_lwps};
 ghost use Rattle.trace_stop.specs.Edits.{edited, pending_taken};
 ghost use Rattle.trace_stop.specs.Post.{signal_put};
 
+use crate::Stepping;
 use lwp_table::{Due, LwpData};
 use pid_blocks::{Pid, Tid};
 use proc_table::Tables;
@@ -31,8 +32,8 @@ pub enum Edit {
         to: Option<Tid>,
         lost: SigSet,
     },
-    /// The LWP no longer steps.
-    ClearStepping,
+    /// The LWP steps, or doesn't, as its process is resumed.
+    Step(Stepping),
     /// The LWP is no longer traced; the signals of both sets leave its pending set.
     Detach {
         lost: SigSet,
@@ -57,8 +58,8 @@ impl Edit {
                     ..*l
                 }
             }
-            Edit::ClearStepping => LwpData {
-                stepping: false,
+            Edit::Step(stepping) => LwpData {
+                stepping: stepping.of(l),
                 ..*l
             },
             Edit::Detach { lost, unwanted } => LwpData {

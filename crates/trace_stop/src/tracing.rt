@@ -1,20 +1,20 @@
 //! Trace stops, and how processes run on from them, with their tracers or without.
 
-ghost use Rattle.std.specs.Prelude.{◌≡◌, IfSome, IsSome, false, true};
+ghost use Rattle.std.specs.Prelude.{◌≡◌, IfSome, IsSome, Some, false, true};
 ghost use Rattle.std.specs.Option.{IsSomeAnd};
 ghost use Rattle.lwp_table.specs.Lwps.{lwp_of};
 ghost use Rattle.proc_table.specs.Edits.{map_lwps};
-ghost use Rattle.proc_table.specs.Processes.{reporting};
+ghost use Rattle.proc_table.specs.Processes.{process_of, reporting};
 ghost use Rattle.proc_table.specs.Rows.{is_numbered};
 ghost use Rattle.proc_table.specs.Kept.{IsRow};
 ghost use Rattle.trace_stop.specs.Before.{MayStop};
 ghost use Rattle.trace_stop.specs.Facts.{IsSound, MidStepInvariant};
-ghost use Rattle.trace_stop.specs.Detach.{resumed, detached};
+ghost use Rattle.trace_stop.specs.Detach.{resumed, detached, steps};
 ghost use Rattle.trace_stop.specs.Sound.{is_live_at};
 ghost use Rattle.trace_stop.specs.Reports.{reporter, report_dropped, unreported};
 ghost use Rattle.trace_stop.specs.Stop.{stop};
 
-use crate::Shown;
+use crate::{Resumption, Shown, Stepping};
 use crate::edits::{Edit, edit_lwps};
 use crate::signaling::post_sigchld;
 use event_masks::{EventMask, StopFlags};
@@ -72,7 +72,7 @@ fn drop_stop(tables: &mut Tables, reporting: &Option<Tid>)
 /// Ends the tracing of a live process. The signals of the set `lost` leave its pending sets. Allocates
 /// nothing.
 #[tactic(auto, using(crate::proofs::Found::live_row))]
-pub fn untrace(tables: &mut Tables, pid: Pid, lost: SigSet)
+pub fn detach_row(tables: &mut Tables, pid: Pid, lost: SigSet)
     requires sound { IsSound tables.old.rows }
     requires live { is_live_at pid tables.old.rows ≡ true }
     ensures rows { tables.new.rows ≡ detached (is_numbered pid) (λ p. lost) tables.old.rows }
@@ -91,19 +91,31 @@ pub fn untrace(tables: &mut Tables, pid: Pid, lost: SigSet)
     edit_lwps(tables, pid, &Edit::Detach { lost, unwanted });
 }
 
-/// Lets a process run on from a trace stop. Allocates nothing.
-#[tactic(auto, using(crate::proofs::Found::found_rows))]
-pub fn run_on(tables: &mut Tables, pid: Pid)
-    requires stands { MidStepInvariant tables.old.rows }
-    requires there { IsRow tables.old.rows pid }
-    ensures { tables.new.rows ≡ resumed pid tables.old.rows }
+/// Sets which LWPs of a process step.
+fn step_lwps(tables: &mut Tables, pid: Pid, stepping: Stepping)
+    ensures { tables.new.rows ≡ map_lwps pid (steps stepping) tables.old.rows }
 {
-    let p = tables.process(pid).unwrap();
+    match stepping {
+        Stepping::Unchanged => {}
+        _ => edit_lwps(tables, pid, &Edit::Step(stepping)),
+    }
+}
+
+/// Lets a process run on from a trace stop, with its event mask and its LWPs' stepping as the resumption says. Allocates
+/// nothing.
+pub fn resume_row(tables: &mut Tables, process: &ProcData, how: &Resumption)
+    requires stands { MidStepInvariant tables.old.rows }
+    requires at { process_of process.now.pid tables.old.rows.processes ≡ Some process.now }
+    ensures { tables.new.rows ≡ resumed how.now process.now.pid tables.old.rows }
+{
+    tables.kept();
     tables.set_process(ProcData {
         state: State::Run,
-        ..p
+        mask: process.mask.with(how.adds),
+        ..*process
     });
-    drop_stop(tables, &reporting(&p));
+    drop_stop(tables, &reporting(process));
+    step_lwps(tables, process.pid, how.stepping);
 }
 
 /// Stops a process for its tracer by an LWP of it, and notifies the tracer.
@@ -133,11 +145,4 @@ pub fn stop(tables: &mut Tables, pid: Pid, tid: Tid, shown: &Shown)
     if let Some(tracer) = p.tracer {
         post_sigchld(tables, tracer.get());
     }
-}
-
-/// Clears the stepping of each LWP of the process.
-pub fn clear_stepping(tables: &mut Tables, pid: Pid)
-    ensures rows { tables.new.rows ≡ map_lwps pid (λ l. record l { stepping = false }) tables.old.rows }
-{
-    edit_lwps(tables, pid, &Edit::ClearStepping);
 }

@@ -13,5 +13,5 @@ returns-in-Some c =
     let rows = c.args.tables.now.rows in
     let n = c.args.number in
     let its = process_of-pid n c.in-Some.p rows.processes (cc) in
-    let done : c.put.new.tables.rows ≡ notified (n ∷ []) rows = c.put.ensures.rows ∙ rw (its, c.chld.ensures) (sym (notified-one n rows)) in
+    let done : c.put.new.tables.rows ≡ notified (n ∷ []) rows = c.put.ensures.rows ∙ rw its (sym (notified-one n rows)) in
     record { rows = done; sound = λ s tell. rw done (notified_sound rows (n ∷ []) s (tell, tt)) }

@@ -1,6 +1,6 @@
 use Rattle.process_end.proofs.CommonNames.{◌≡◌, true, count_by, left_alone, IsSound, is_live_at, spares}
 use Rattle.process_end.proofs.LeftAlone.{is_tracee}
-use Rattle.process_end.proofs.ends.leave_tracees.Given as goal
+use Rattle.process_end.proofs.ends.detach_tracees.Given as goal
 
 -- the tracees that are left are those that were to be detached
 abbrev pub invariant-loop-tracee : goal.invariant-loop-tracee

@@ -5,7 +5,7 @@ use Rattle.trace_stop.proofs.RunOn.{run_on-is}
 use Rattle.trace_stop.proofs.SoundAfterPost.{untraced_sound}
 use Rattle.trace_stop.proofs.CommonLemmas.{own_row, reporter_there}
 use Rattle.trace_stop.specs.declared.edits.Edit.TheVariants as edit
-use Rattle.trace_stop.proofs.tracing.untrace.Goals as goal
+use Rattle.trace_stop.proofs.tracing.detach_row.Goals as goal
 
 pub set_process-requires : goal.set_process-requires
 set_process-requires c = search (rules, process_there, named-untraced, own_row c.args.pid c.unwrap-p.result c.args.tables.now.rows.processes (cc))
