@@ -4,12 +4,12 @@ use Rattle.requests.proofs.CommonNames.{rules, nat_tests, ◌≡◌, ℕ, ℤ, p
 use Rattle.requests.proofs.CommonNames.{◌∙◌, eqb-true, subst, eq-eqb, arith, pid_owner, tid_owner, EventMask, PTRACE_SCE, PTRACE_SCX, PTRACE_FORK, PTRACE_LWP, mask_with, SIGKILL, set_disposition}
 use Rattle.requests.proofs.CommonNames.{Disposition, ProcData, State, Trace, LwpData, lwp_of, first_lwp, is_live, process_of, of_user, named_by, Rows, seen_process, find_seen, Settings, Options}
 use Rattle.requests.proofs.CommonNames.{Collected, StatusKind, reported, collect, rows_after, info, lwp_info, Rule, Decision, Request, Numbers, room_for_process, spawn_with, spawn, list, is_refused}
-use Rattle.requests.proofs.CommonNames.{sigaction, collect_reply, wait, is_which, reach, post_if_live, post_all, reached, kill, stop_first, attach, bad_argument, not_stepping, set_mask}
-use Rattle.requests.proofs.CommonNames.{continues_with, switched, shows_info, does, commands_stopped, commands, is_attach, about, target_of, is_trace_me, ptrace, decided, view_of, done, handles_stop}
+use Rattle.requests.proofs.CommonNames.{sigaction, collect_reply, wait, is_which, reach, post_if_live, post_all, reached, kill, stop_first, attach, bad_argument, set_mask}
+use Rattle.requests.proofs.CommonNames.{resumes, signal_alone, no_events, Stepping, switched, shows_info, does, commands_stopped, commands, is_attach, about, target_of, is_trace_me, ptrace, decided, view_of, done, handles_stop}
 use Rattle.requests.proofs.CommonNames.{handles_status, handles, no_options, GoodProc, GoodLwp, All-where, Sim, own, row_query, rows_query, lwp_query, lwps_query, process_same, If_more, branch_rows}
-use Rattle.requests.proofs.CommonNames.{process_same_after, lwp_same_after, change_same, and_left, and_right, pid_in_block, tid_in_block, AllByRecursion, Reply, option_map}
+use Rattle.requests.proofs.CommonNames.{process_same_after, lwp_same_after, and_left, and_right, pid_in_block, tid_in_block, AllByRecursion, Reply, option_map}
 use Rattle.row_isolation.proofs.FilteredLists.{find_some}
-use Rattle.row_isolation.proofs.IsolationOfSignals.{settle_same, is_numbered_foreign, own_some}
+use Rattle.row_isolation.proofs.IsolationOfSignals.{settle_same, own_some}
 use Rattle.row_isolation.proofs.IsolationOfEnds.{meets_same, post_same, stop_same, resume_same, detach_same}
 use Rattle.wait4.proofs.IsolationOfReports.{collect_same, reported_same, reported_some, rows_after_same}
 use Rattle.requests.proofs.Room.{ProcessRoom, process_room}
@@ -77,32 +77,29 @@ stop_first_same s n here o g = grind (arith, nat_tests, stop_same)
 pub attach_same : {u : ℕ} {start c v : Rows} → Sim u start c v → (me p : ProcData) → pid_owner me.pid ≡ u → pid_owner p.pid ≡ u → Same u start (attach me p c) (attach me p v)
 attach_same s me p by here = grind (arith, nat_tests, branch, answered, meets_same, lwp_query, eqb-true, stop_first_same, first_some, process_same_after)
 
-not_stepping_same : {u : ℕ} {start c v : Rows} → Sim u start c v → (n : ℕ) → pid_owner n ≡ u → Sim u start (not_stepping n c) (not_stepping n v)
-not_stepping_same s n here = change_same s _ (λ p. p) (λ p l. record l { stepping = false }) (is_numbered_foreign n here) (λ p good is e. (refl, refl, good, λ live. live)) (λ p l good well. (refl, record { block = well.block; waits = well.waits }))
-
 set_mask_same : {u : ℕ} {start c v : Rows} → Sim u start c v → (mask : EventMask → EventMask) (n : ℕ) → pid_owner n ≡ u → Sim u start (set_mask mask n c) (set_mask mask n v)
 set_mask_same s mask n here = process_same_after s n here (λ p. record p { mask = mask p.mask }) (λ q good is e. (refl, refl, record { user = good.user; block = good.block; tracer = good.tracer; parent = good.parent; reporting = good.reporting; collector = good.collector }, λ live. live))
 
-pub continues_with_same : {u : ℕ} {start c v : Rows} → Sim u start c v → (settings : Settings) (mask : EventMask → EventMask) (sig : ℕ) (p : ProcData) → pid_owner p.pid ≡ u → Same u start (continues_with settings mask sig p c) (continues_with settings mask sig p v)
-continues_with_same s settings mask sig p here = answered (resume_same (not_stepping_same (set_mask_same s mask p.pid here) p.pid here) settings p.pid sig here) _
+pub resumes_same : {u : ℕ} {start c v : Rows} → Sim u start c v → (settings : Settings) (adds : EventMask) (stepping : Stepping) (sig : ℕ) (p : ProcData) → pid_owner p.pid ≡ u → Same u start (resumes settings adds stepping sig p c) (resumes settings adds stepping sig p v)
+resumes_same s settings adds stepping sig p here = answered (resume_same s settings (record { adds = adds; stepping = stepping; pass = sig }) p.pid here) _
 
 pub lwp_of_same : {u : ℕ} {start c v : Rows} → Sim u start c v → (tid : ℕ) → tid_owner tid ≡ u → lwp_of tid c.lwps ≡ lwp_of tid v.lwps
 lwp_of_same s tid here = lwp_query s (λ l. l.tid == tid) (λ l well is. sym well.block ∙ ap tid_owner (eqb-true l.tid tid is) ∙ here)
 
 does_same : {u : ℕ} {start c v : Rows} → Sim u start c v → (settings : Settings) (r : Request) («data» tid : ℕ) (p : ProcData) → pid_owner p.pid ≡ u → tid_owner tid ≡ u → Same u start (does settings r «data» tid p c) (does settings r «data» tid p v)
-does_same s settings Request.Continue «data» tid p here t = continues_with_same s settings (λ mask. mask) «data» p here
-does_same s settings Request.Step «data» tid p here t = answered (resume_same (lwp_same_after (not_stepping_same s p.pid here) tid t (λ l. record l { stepping = true }) (λ l well is. (refl, record { block = well.block; waits = well.waits }))) settings p.pid «data» here) _
+does_same s settings Request.Continue «data» tid p here t = resumes_same s settings no_events Stepping.Nobody «data» p here
+does_same s settings Request.Step «data» tid p here t = resumes_same s settings no_events (Stepping.Only tid) «data» p here
 does_same s settings Request.Suspend «data» tid p here t = answered (lwp_same_after s tid t (λ l. record l { suspended = true }) (λ l well is. (refl, record { block = well.block; waits = well.waits }))) _
 does_same s settings Request.Resume «data» tid p here t = answered (lwp_same_after s tid t (λ l. record l { suspended = false }) (λ l well is. (refl, record { block = well.block; waits = well.waits }))) _
 does_same s settings Request.Detach «data» tid p here t = answered (detach_same s settings p.pid «data» here) _
-does_same s settings Request.Kill «data» tid p here t = answered (resume_same s settings p.pid SIGKILL here) _
+does_same s settings Request.Kill «data» tid p here t = answered (resume_same s settings (signal_alone SIGKILL) p.pid here) _
 does_same s settings Request.SetEventMask «data» tid p here t = answered (set_mask_same s (λ mask. record { 0 = «data» }) p.pid here) _
 does_same {u} {start} {c} {v} s settings Request.LwpInfo «data» tid p here t = subst (λ o. Same u start (shows_info (info p tid c) c) (shows_info o v)) (ap (option_map (lwp_info _)) (lwp_of_same s tid t)) (grind (arith, nat_tests, answered))
 does_same s settings Request.GetNumLwps «data» tid p here t = record { rows = s; reply = ap Reply.Number (lwp_count_same s p.pid here) }
 does_same s settings Request.GetLwpList «data» tid p here t = record { rows = s; reply = ap (λ ls. Reply.Lwps (take «data» (map (λ l. l.tid) ls))) (lwps_query s (λ l. l.pid == p.pid) (λ l well is. ap pid_owner (eqb-true l.pid p.pid is) ∙ here)) }
-does_same s settings Request.ToSce «data» tid p here t = continues_with_same s settings (λ mask. mask_with mask PTRACE_SCE) «data» p here
-does_same s settings Request.ToScx «data» tid p here t = continues_with_same s settings (λ mask. mask_with mask PTRACE_SCX) «data» p here
-does_same s settings Request.Syscall «data» tid p here t = continues_with_same s settings (λ mask. mask_with (mask_with mask PTRACE_SCE) PTRACE_SCX) «data» p here
+does_same s settings Request.ToSce «data» tid p here t = resumes_same s settings PTRACE_SCE Stepping.Nobody «data» p here
+does_same s settings Request.ToScx «data» tid p here t = resumes_same s settings PTRACE_SCX Stepping.Nobody «data» p here
+does_same s settings Request.Syscall «data» tid p here t = resumes_same s settings (mask_with PTRACE_SCE PTRACE_SCX) Stepping.Nobody «data» p here
 does_same s settings Request.FollowFork «data» tid p here t = answered (set_mask_same s (switched PTRACE_FORK «data») p.pid here) _
 does_same s settings Request.LwpEvents «data» tid p here t = answered (set_mask_same s (switched PTRACE_LWP «data») p.pid here) _
 does_same s settings r «data» tid p here t = answered s _
@@ -139,9 +136,9 @@ ptrace_same {u} {start} {c} {v} s settings me r target «data» good mine = bran
 -- Handlers
 
 done_same : {u : ℕ} {start c v : Rows} → Sim u start c v → (settings : Settings) (d : Decision) (p : ProcData) → pid_owner p.pid ≡ u → Sim u start (done settings d p c) (done settings d p v)
-done_same s settings (Decision.Continue sig) p here = (continues_with_same s settings (λ mask. mask) sig p here).rows
+done_same s settings (Decision.Continue sig) p here = (resumes_same s settings no_events Stepping.Nobody sig p here).rows
 done_same s settings (Decision.Detach sig) p here = detach_same s settings p.pid sig here
-done_same s settings Decision.Kill p here = resume_same s settings p.pid SIGKILL here
+done_same s settings Decision.Kill p here = resume_same s settings (signal_alone SIGKILL) p.pid here
 done_same s settings d p here = s
 
 handles_stop_same : {u : ℕ} {start c v : Rows} → Sim u start c v → (settings : Settings) (policies : List (List Rule)) (p : ProcData) (tid sig : ℕ) (status : StatusKind) → pid_owner p.pid ≡ u → (o : Option LwpData) → Same u start (handles_stop settings policies p tid sig status c o) (handles_stop settings policies p tid sig status v o)

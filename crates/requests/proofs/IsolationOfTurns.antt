@@ -1,5 +1,5 @@
 -- The turn of an LWP, on all rows and on a user's.
-use Rattle.requests.proofs.CommonNames.{◌≡◌, ◌≢◌, ℕ, ◌*◌, [], ◌∷◌, Bool, false, ◌==◌, ◌&&◌, ◌||◌, not, leb, if◌then◌else◌, Option, Some, None, is_some, IfSome, refl, sym, ap, ◌∙◌, true≢false, subst}
+use Rattle.requests.proofs.CommonNames.{◌≡◌, ℕ, ◌*◌, [], ◌∷◌, Bool, false, ◌==◌, ◌&&◌, ◌||◌, not, leb, if◌then◌else◌, Option, Some, None, is_some, IfSome, refl, sym, ap, ◌∙◌, true≢false, subst}
 use Rattle.requests.proofs.CommonNames.{arith, nat_tests, rules, pid_owner, tid_owner, Call, asks, entry_flags, PTRACE_FORK, PTRACE_LWP, without, bit, SIGTRAP, is_signal, after_exec, maskable}
 use Rattle.requests.proofs.CommonNames.{disposition_of, default_action, Action, Disposition, ProcData, Job, LwpData, Mode, User, InCall, VforkWait, born, is_run, process_of, Rows, seen_lwp, add_lwp}
 use Rattle.requests.proofs.CommonNames.{add_process, Settings, released, Shown, Act, Reply, stops_with, stops_or, trap, Numbers, room_for_lwp, room_for_process, in_mode, exit_stop, forked, child_stop}

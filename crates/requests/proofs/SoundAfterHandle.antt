@@ -1,24 +1,12 @@
 -- What is decided about a trace stop and what a handle asks, and that it keeps a host sound.
-use Rattle.requests.proofs.CommonNames.{◌≡◌, ℕ, ◌≤◌, negsuc, ◌==◌, if◌then◌else◌, List, Option, Some, None, IfSome, refl, sym, ap, ap₂, subst, eq-eqb, arith, nat_tests, le-leb, LwpData, ProcData}
-use Rattle.requests.proofs.CommonNames.{rules, State, Rise, process_of, Rows, each, Settings, detach, IsSound, find_edit, Rule, Decision, StatusKind, Collected, collect, reported, rows_after, told}
-use Rattle.requests.proofs.CommonNames.{Outcome, answers, with_signal, done, no_options, handles_status, handles, handled_by, continues_with, choose, by_kept, Reply, process_edited, rise_edited, Bool}
+use Rattle.requests.proofs.CommonNames.{◌≡◌, ℕ, negsuc, ◌==◌, if◌then◌else◌, List, Option, Some, None, IfSome, refl, sym, ap, ap₂, subst, eq-eqb, arith, nat_tests, LwpData, ProcData}
+use Rattle.requests.proofs.CommonNames.{State, process_of, Rows, each, Settings, detach, IsSound, find_edit, Rule, Decision, StatusKind, Collected, collect, reported, rows_after, told}
+use Rattle.requests.proofs.CommonNames.{Outcome, done, no_options, handles_status, handles, handled_by, resumes, signal_alone, Stepping, no_events, choose, by_kept, process_edited, rise_edited, Bool}
 use Rattle.requests.proofs.CommonNames.{true, is_some, SIGKILL, lwp_of, Trace, named_by, resume, FitProcess, detach_sound, view_of, decided, handles_stop, every_found}
 use Rattle.requests.proofs.SoundAfterTurn.{heard}
-use Rattle.requests.proofs.Tracees.{continue_as}
 use Rattle.requests.proofs.SoundAfterCall.{reported_row, rows_after_sound}
 use Rattle.requests.proofs.SoundAfterMask.{Tracee, resumes_sound, continues_sound}
 use Rattle.wait4.specs.Collect as wait
-
-within : (n : ℕ) (o : Outcome) (rows : Rows) → n ≤ 31 → with_signal n o rows ≡ o
-within n o rows small = rw (le-leb n 31 small) refl
-
-pub continued : (settings : Settings) (p : ProcData) (rows after : Rows) (s n : ℕ) → n ≡ s → n ≤ 31 → Rise rows.processes → process_of p.pid rows.processes ≡ Some p
-    → after ≡ (with_signal n (continues_with settings (λ old. p.mask) n p rows) rows).rows → after ≡ done settings (Decision.Continue s) p rows
-continued settings p rows after s n same small rise at done = search (rules, continue_as settings (λ mask. mask) p.mask n p rows rise at refl, within n (continues_with settings (λ mask. mask) n p rows) rows small)
-
-pub detached : (settings : Settings) (p : ProcData) (rows after : Rows) (s n : ℕ) → n ≡ s → n ≤ 31
-    → after ≡ (with_signal n (answers Reply.Done (detach settings p.pid n rows)) rows).rows → after ≡ done settings (Decision.Detach s) p rows
-detached settings p rows after s n same small done = search (rules, within n (answers Reply.Done (detach settings p.pid n rows)) rows small, same, done)
 
 -- The handling of a stop depends only on the process's number
 done_pid : (settings : Settings) (d : Decision) (p q : ProcData) (rows : Rows) → q.pid ≡ p.pid → done settings d q rows ≡ done settings d p rows
@@ -27,9 +15,9 @@ done_pid settings d p q rows same = ap (λ n. done settings d (record p { pid = 
 
 -- what a decision does to a tracee
 decision_sound : (settings : Settings) (d : Decision) (p q : ProcData) (rows : Rows) → Tracee rows q → q.pid ≡ p.pid → IsSound (done settings d p rows)
-decision_sound settings (Decision.Continue s) p q rows t same = subst (λ n. IsSound (continues_with settings (λ mask. mask) s (record p { pid = n }) rows).rows) same (continues_sound settings (λ mask. mask) s rows q t)
-decision_sound settings (Decision.Detach s) p q rows t same = subst (λ n. IsSound (detach settings n s rows)) same (detach_sound settings rows q.pid q t.sound t.home t.live s)
-decision_sound settings Decision.Kill p q rows t same = subst (λ n. IsSound (resume settings n SIGKILL rows)) same (resumes_sound rows q t settings SIGKILL)
+decision_sound settings (Decision.Continue s) p q rows t same = subst (λ n. IsSound (resumes settings no_events Stepping.Nobody s (record p { pid = n }) rows).rows) same (continues_sound rows q t settings no_events Stepping.Nobody s)
+decision_sound settings (Decision.Detach s) p q rows t same = subst (λ n. IsSound (detach settings n s rows)) same (detach_sound settings rows q.pid q t.sound t.home t.live t.traced s)
+decision_sound settings Decision.Kill p q rows t same = subst (λ n. IsSound (resume settings (signal_alone SIGKILL) n rows)) same (resumes_sound rows q t settings (signal_alone SIGKILL))
 decision_sound settings d p q rows t same = t.sound
 
 module _ (settings : Settings) (caller : ℕ) (policies : List (List Rule)) (rows : Rows) (s : IsSound rows) where

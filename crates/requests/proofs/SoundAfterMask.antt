@@ -1,8 +1,8 @@
 -- Masks, steps and suspended LWPs of a traced process keep rows sound.
-use Rattle.requests.proofs.CommonNames.{nat_tests, ◌≡◌, inl, ℕ, Bool, true, false, ◌==◌, ◌&&◌, if◌then◌else◌, Some, is_some, refl, ap, ◌∙◌, subst, eqb-true, eq-eqb, arith, rules, EventMask, LwpData}
-use Rattle.requests.proofs.CommonNames.{lwp_of, ProcData, is_live, process_of, Rows, change, change_lwp, is_numbered, Settings, resume, names_own, FitProcess, Standing, FitLwp, WithOwner, IsSound}
-use Rattle.requests.proofs.CommonNames.{and_left, and_right, find_some, any_holds, choose, find_edit, holds_sound, sound_holds, changed_row, changed_own, changes_hold, live_fits, live_state, process_sound}
-use Rattle.requests.proofs.CommonNames.{lwp_sound, resume_sound, own_lwps, not_stepping, stepping, suspend, set_mask, continues_with}
+use Rattle.requests.proofs.CommonNames.{nat_tests, ◌≡◌, inl, ℕ, Bool, true, false, ◌==◌, ◌&&◌, if◌then◌else◌, Some, is_some, refl, ap, ◌∙◌, subst, eqb-true, arith, rules, EventMask, LwpData}
+use Rattle.requests.proofs.CommonNames.{lwp_of, ProcData, is_live, process_of, Rows, change, Settings, resume, names_own, FitProcess, Standing, FitLwp, WithOwner, IsSound}
+use Rattle.requests.proofs.CommonNames.{and_left, and_right, find_some, any_holds, choose, find_edit, changed_row, live_fits, live_state, process_sound}
+use Rattle.requests.proofs.CommonNames.{lwp_sound, resume_sound, own_lwps, suspend, set_mask, resumes, Resumption, Stepping}
 
 -- a live traced process in sound rows
 pub record Tracee (rows : Rows) (p : ProcData) : Type 0 where
@@ -36,9 +36,6 @@ pub stepless_fits : (p : ProcData) (l : LwpData) → FitLwp p l → FitLwp p (re
 stepless_fits p l fit = grind (arith, nat_tests)
 
 module _ (rows : Rows) (p : ProcData) (t : Tracee rows p) where
-  pub not_stepping_tracee : Tracee (not_stepping p.pid rows) p
-  not_stepping_tracee = grind (arith, nat_tests, sound_holds (not_stepping p.pid rows) (changes_hold rows (is_numbered p.pid) (λ q. q) (λ q l. record l { stepping = false }) FitProcess FitLwp FitProcess FitLwp (holds_sound rows t.sound) (grind (arith, nat_tests, stepless_fits))), changed_process p.pid (is_numbered p.pid) (λ q. q) (λ q l. record l { stepping = false }) rows p (λ q. refl) t.home, t)
-
   its_fit : FitProcess p
   its_fit = (find_some (λ q. q.pid == p.pid) FitProcess rows.processes t.sound.processes p t.home).0
 
@@ -48,14 +45,8 @@ module _ (rows : Rows) (p : ProcData) (t : Tracee rows p) where
     owner_is : process_of o.lwp.pid rows.processes ≡ Some p
     owner_is = ap (λ n. process_of n rows.processes) o.own ∙ t.home
 
-    pub not_stepping_lwp : OwnLwp (not_stepping p.pid rows) p tid
-    not_stepping_lwp = record { lwp = record o.lwp { stepping = false }; there = grind (arith, nat_tests, eq-eqb p.pid p.pid refl, changed_lwp tid (is_numbered p.pid) (λ q. q) (λ q l. record l { stepping = false }) rows o.lwp p (λ q k. refl) o.there owner_is); own = o.own }
-
     pub suspend_sound : (on : Bool) → IsSound (suspend on tid rows)
     suspend_sound on = lwp_sound rows tid p o.lwp (λ l. record l { suspended = on }) t.sound o.there owner_is (record { same = λ k. (refl, refl, refl); waits = ((find_some (λ k. k.tid == tid) (WithOwner rows (Standing rows)) rows.lwps t.sound.stands.standing o.lwp o.there).0 p owner_is).waits; fit = λ fit. grind (arith, nat_tests, t.traced) })
-
-    pub step_sound : IsSound (change_lwp tid (λ l. record l { stepping = true }) rows)
-    step_sound = lwp_sound rows tid p o.lwp (λ l. record l { stepping = true }) t.sound o.there owner_is (record { same = λ k. (refl, refl, refl); waits = ((find_some (λ k. k.tid == tid) (WithOwner rows (Standing rows)) rows.lwps t.sound.stands.standing o.lwp o.there).0 p owner_is).waits; fit = λ fit. grind (arith, nat_tests, t.traced) })
 
   -- Its mask
 
@@ -65,16 +56,8 @@ module _ (rows : Rows) (p : ProcData) (t : Tracee rows p) where
   pub set_mask_sound : (mask : EventMask → EventMask) → IsSound (set_mask mask p.pid rows)
   set_mask_sound mask = process_sound rows p.pid p (masked mask) t.sound t.home (record { same = λ q. (refl, refl, refl, refl); live = refl; named = inl refl; fits = grind (arith, nat_tests, its_fit, live_fits, live_state, t.traced, t.live); fit_lwp = λ l fit. grind (arith, nat_tests, t.traced) })
 
-  pub set_mask_tracee : (mask : EventMask → EventMask) → Tracee (set_mask mask p.pid rows) (masked mask p)
-  set_mask_tracee mask = grind (arith, nat_tests, set_mask_sound mask, changed_own p (masked mask) rows.processes (λ q. refl) t.home, t)
+  pub resumes_sound : (settings : Settings) (how : Resumption) → IsSound (resume settings how p.pid rows)
+  resumes_sound settings how = resume_sound settings rows p.pid p t.sound t.home t.live t.traced how
 
-  pub resumes_sound : (settings : Settings) (sig : ℕ) → IsSound (resume settings p.pid sig rows)
-  resumes_sound settings sig = resume_sound settings rows p.pid p t.sound t.home t.live sig
-
-pub stepping_tracee : (rows : Rows) (p : ProcData) (tid : ℕ) → Tracee rows p → OwnLwp rows p tid → Tracee (stepping p.pid tid rows) p
-stepping_tracee rows p tid t o =
-    let less = not_stepping_tracee rows p t in
-    record { sound = step_sound (not_stepping p.pid rows) p less tid (not_stepping_lwp rows p t tid o); home = less.home; live = t.live; traced = t.traced }
-
-pub continues_sound : (settings : Settings) (mask : EventMask → EventMask) (sig : ℕ) (rows : Rows) (p : ProcData) → Tracee rows p → IsSound (continues_with settings mask sig p rows).rows
-continues_sound settings mask sig rows p t = resumes_sound (not_stepping p.pid (set_mask mask p.pid rows)) (masked rows p t mask p) (not_stepping_tracee (set_mask mask p.pid rows) (masked rows p t mask p) (set_mask_tracee rows p t mask)) settings sig
+  pub continues_sound : (settings : Settings) (adds : EventMask) (stepping : Stepping) (sig : ℕ) → IsSound (resumes settings adds stepping sig p rows).rows
+  continues_sound settings adds stepping sig = resumes_sound settings (record { adds = adds; stepping = stepping; pass = sig })

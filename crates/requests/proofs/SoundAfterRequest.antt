@@ -4,12 +4,12 @@ use Rattle.requests.proofs.CommonNames.{process_of, is_live, named_by, traces, R
 use Rattle.requests.proofs.CommonNames.{command, told_stop, target_of, is_trace_me, is_attach, ptrace, ◌≢◌, ◌==◌, None, sym, subst, eqb-true, eq-eqb, default_mask, SIGSTOP, LwpData, first_lwp, is_run}
 use Rattle.requests.proofs.CommonNames.{change_process, Ready, FitOrReady, MayStop, IsLiveOf, Linked, FitProcess, All-imply, find_some, choose, not_some, sound_holds, live_fits, live_state, own_lwps}
 use Rattle.requests.proofs.CommonNames.{plain, closes_chain, traced_by, trace_me, stop_first, attach, ◌&&◌, list_any, PTRACE_SCE, PTRACE_SCX, PTRACE_FORK, PTRACE_LWP, mask_with, SIGKILL, owns}
-use Rattle.requests.proofs.CommonNames.{seen_lwp, find_seen, and_left, and_right, both, if_at, found_number, one_row, find_passes, detach_sound, Outcome, bad_argument, stepping, switched, does}
+use Rattle.requests.proofs.CommonNames.{seen_lwp, find_seen, and_left, and_right, both, if_at, found_number, one_row, find_passes, detach_sound, Outcome, bad_argument, switched, does, signal_alone, no_events, Stepping}
 use Rattle.requests.proofs.CommonNames.{commands_stopped, commands, IsCaller}
 use Rattle.trace_stop.proofs.StoppedByOwnLwp.{IsStopped-from}
 use Rattle.trace_stop.proofs.SoundAfterLink.{Traced, linked_holds, linked_row}
 use Rattle.requests.proofs.SoundAfterCall.{caller_live, live_caller}
-use Rattle.requests.proofs.SoundAfterMask.{Tracee, OwnLwp, named_lwp, suspend_sound, set_mask_sound, resumes_sound, stepping_tracee, continues_sound}
+use Rattle.requests.proofs.SoundAfterMask.{Tracee, OwnLwp, named_lwp, suspend_sound, set_mask_sound, resumes_sound, continues_sound}
 use Rattle.trace_stop.proofs.SoundAfterStop as stops
 use Rattle.lwp_table.proofs.CountLemmas.{count-none}
 
@@ -106,17 +106,17 @@ owned_uid u m rows p s own at = grind (arith, nat_tests, eqb-true p.uid u (((fin
 -- Requests about a stopped tracee
 
 pub does_sound : (settings : Settings) (r : Request) («data» tid : ℕ) (p : ProcData) (rows : Rows) → Tracee rows p → OwnLwp rows p tid → IsSound (does settings r «data» tid p rows).rows
-does_sound settings Request.Continue «data» tid p rows t o = continues_sound settings (λ mask. mask) «data» rows p t
-does_sound settings Request.Step «data» tid p rows t o = resumes_sound (stepping p.pid tid rows) p (stepping_tracee rows p tid t o) settings «data»
+does_sound settings Request.Continue «data» tid p rows t o = continues_sound rows p t settings no_events Stepping.Nobody «data»
+does_sound settings Request.Step «data» tid p rows t o = continues_sound rows p t settings no_events (Stepping.Only tid) «data»
 does_sound settings Request.Suspend «data» tid p rows t o = suspend_sound rows p t tid o true
 does_sound settings Request.Resume «data» tid p rows t o = suspend_sound rows p t tid o false
-does_sound settings Request.Detach «data» tid p rows t o = detach_sound settings rows p.pid p t.sound t.home t.live «data»
-does_sound settings Request.Kill «data» tid p rows t o = resumes_sound rows p t settings SIGKILL
+does_sound settings Request.Detach «data» tid p rows t o = detach_sound settings rows p.pid p t.sound t.home t.live t.traced «data»
+does_sound settings Request.Kill «data» tid p rows t o = resumes_sound rows p t settings (signal_alone SIGKILL)
 does_sound settings Request.SetEventMask «data» tid p rows t o = set_mask_sound rows p t (λ mask. record { 0 = «data» })
 does_sound settings Request.LwpInfo «data» tid p rows t o = search (rules)
-does_sound settings Request.ToSce «data» tid p rows t o = continues_sound settings (λ mask. mask_with mask PTRACE_SCE) «data» rows p t
-does_sound settings Request.ToScx «data» tid p rows t o = continues_sound settings (λ mask. mask_with mask PTRACE_SCX) «data» rows p t
-does_sound settings Request.Syscall «data» tid p rows t o = continues_sound settings (λ mask. mask_with (mask_with mask PTRACE_SCE) PTRACE_SCX) «data» rows p t
+does_sound settings Request.ToSce «data» tid p rows t o = continues_sound rows p t settings PTRACE_SCE Stepping.Nobody «data»
+does_sound settings Request.ToScx «data» tid p rows t o = continues_sound rows p t settings PTRACE_SCX Stepping.Nobody «data»
+does_sound settings Request.Syscall «data» tid p rows t o = continues_sound rows p t settings (mask_with PTRACE_SCE PTRACE_SCX) Stepping.Nobody «data»
 does_sound settings Request.FollowFork «data» tid p rows t o = set_mask_sound rows p t (switched PTRACE_FORK «data»)
 does_sound settings Request.LwpEvents «data» tid p rows t o = set_mask_sound rows p t (switched PTRACE_LWP «data»)
 does_sound settings r «data» tid p rows t o = t.sound

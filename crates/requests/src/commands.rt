@@ -7,13 +7,14 @@ ghost use Rattle.event_masks.specs.Exits.{all_events};
 ghost use Rattle.lwp_table.specs.Lwps.{lwp_of};
 ghost use Rattle.proc_table.specs.Kept.{TableInvariant};
 ghost use Rattle.proc_table.specs.Processes.{process_of, reporting, traces};
-ghost use Rattle.proc_table.specs.Rows.{change_lwp};
+ghost use Rattle.signals.specs.Table.{SIGKILL};
+ghost use Rattle.trace_stop.specs.Detach.{signal_alone};
 ghost use Rattle.trace_stop.specs.Stop.{resume, detach};
 ghost use Rattle.trace_stop.specs.Facts.{IsSound};
 ghost use Rattle.lwpinfo.specs.Info.{info, lwp_list};
 ghost use Rattle.step_types.specs.declared.Reply.TheVariants as reply;
 ghost use Rattle.requests.specs.Outcome.{Gives, answers, refuses};
-ghost use Rattle.requests.specs.Ptrace.{ptrace, is_trace_me, is_attach, target_of, told_stop, stepping, suspend, set_mask, continues_with, switched, shows_info, command, with_signal};
+ghost use Rattle.requests.specs.Ptrace.{ptrace, is_trace_me, is_attach, target_of, told_stop, suspend, set_mask, resumes, switched, shows_info, command, with_signal};
 ghost use Rattle.requests.specs.Callers.{IsCaller};
 ghost use Rattle.requests.specs.Memory.{Attempts, lists};
 
@@ -25,9 +26,10 @@ use lwpinfo::{info, lwp_count, lwp_list};
 use pid_blocks::{Errno, Pid, Tid, Uid};
 use proc_table::{ProcData, State, Tables};
 use process_end::{detach, resume};
-use signals::{Pass, Signal};
+use signals::Pass;
 use std::alloc::{AllocError, Global};
-use trace_stop::{Settings, clear_stepping};
+use trace_stop::Stepping::{Nobody, Only};
+use trace_stop::{Resumption, Settings, Stepping};
 
 /// Makes a request of ptrace(2) by a process that runs. A target up to 99999 names a process, and its LWP that reports
 /// a stop. A greater one names an LWP, and its process. Refused as the manual page says. An error means out of memory
@@ -131,7 +133,7 @@ fn named_lwp(target: u32, reporting: Tid) -> Tid
 
 /// Makes a request of the tracer about an LWP of its stopped tracee. Refused with EINVAL where `data` is wrong. An
 /// error means out of memory for a list of LWPs.
-#[tactic(auto, using(std::proofs::lemmas::Bool::Decides::nat_tests, crate::proofs::Tracees::few_own, crate::proofs::Tracees::continue_as, crate::proofs::Tracees::kill_as, crate::proofs::Tracees::given, crate::proofs::Tracees::gives_as))]
+#[tactic(auto, using(std::proofs::lemmas::Bool::Decides::nat_tests, crate::proofs::Tracees::few_own, crate::proofs::Tracees::given, crate::proofs::Tracees::gives_as))]
 fn command(
     tables: &mut Tables,
     alloc: Global,
@@ -150,23 +152,24 @@ fn command(
 {
     let pid = process.pid;
     let mask = process.mask;
+    let none = EventMask(0);
     let entry = EventMask::PTRACE_SCE;
     let exit = EventMask::PTRACE_SCX;
     match request {
         Request::TraceMe => Ok(Reply::Errno(Errno::EINVAL)),
         Request::Attach => Ok(Reply::Errno(Errno::EBUSY)),
-        Request::Continue => Ok(continue_with(tables, settings, process, mask, data)),
-        Request::ToSce => Ok(continue_with(tables, settings, process, mask.with(entry), data)),
-        Request::ToScx => Ok(continue_with(tables, settings, process, mask.with(exit), data)),
+        Request::Continue => Ok(resume_with(tables, settings, process, none, Nobody, data)),
+        Request::ToSce => Ok(resume_with(tables, settings, process, entry, Nobody, data)),
+        Request::ToScx => Ok(resume_with(tables, settings, process, exit, Nobody, data)),
         Request::Syscall => {
-            let both = mask.with(entry).with(exit);
-            Ok(continue_with(tables, settings, process, both, data))
+            let both = entry.with(exit);
+            Ok(resume_with(tables, settings, process, both, Nobody, data))
         }
-        Request::Step => Ok(step(tables, settings, process, lwp, data)),
+        Request::Step => Ok(resume_with(tables, settings, process, none, Only(lwp), data)),
         Request::Suspend => Ok(suspend(tables, lwp, true)),
         Request::Resume => Ok(suspend(tables, lwp, false)),
         Request::Detach => Ok(detach_with(tables, settings, process, data)),
-        Request::Kill => Ok(resume_with(tables, settings, process, Signal::KILL.number())),
+        Request::Kill => Ok(kill(tables, settings, process)),
         Request::SetEventMask => Ok(set_events(tables, process, data)),
         Request::FollowFork => Ok(switch(tables, process, EventMask::PTRACE_FORK, data)),
         Request::LwpEvents => Ok(switch(tables, process, EventMask::PTRACE_LWP, data)),
@@ -177,61 +180,49 @@ fn command(
     }
 }
 
-/// PT_CONTINUE, PT_TO_SCE, PT_TO_SCX and PT_SYSCALL: resumes the process with a signal or with 0. The mask becomes its
-/// event mask, and none of its LWPs steps. Refused with EINVAL where `data` is above 31.
-pub fn continue_with(
+/// PT_CONTINUE, PT_STEP, PT_TO_SCE, PT_TO_SCX and PT_SYSCALL: resumes the process with these events added to its mask,
+/// these LWPs stepping, and a signal or 0. Refused with EINVAL where `data` is above 31.
+fn resume_with(
     tables: &mut Tables,
     settings: Settings,
     process: &ProcData,
-    mask: EventMask,
+    adds: EventMask,
+    stepping: Stepping,
     data: u32,
 ) -> Reply
     requires sound { IsSound tables.old.rows }
     requires at { process_of process.now.pid tables.old.rows.processes ≡ Some process.now }
     requires stopped { is_some (reporting process.now) ≡ true }
-    ensures { Gives (with_signal «data» (continues_with settings
-        (λ old. mask) «data» process.now tables.old.rows) tables.old.rows) tables.new.rows result }
+    ensures { Gives (with_signal «data» (resumes settings adds stepping «data» process.now tables.old.rows)
+        tables.old.rows) tables.new.rows result }
 {
     let Ok(pass) = Pass::new(data) else {
         return Reply::Errno(Errno::EINVAL);
     };
-    set_mask(tables, process, mask);
-    clear_stepping(tables, process.pid);
-    resume(tables, settings, process.pid, pass);
+    let how = Resumption {
+        adds,
+        stepping,
+        pass,
+    };
+    resume(tables, settings, process, &how);
     Reply::Done
 }
 
-/// PT_STEP: resumes the process with a signal or with 0. Of its LWPs only this one steps. Refused with EINVAL where
-/// `data` is above 31.
-#[tactic(auto, using(crate::proofs::Tracees::still_there, crate::proofs::Tracees::is_tracee, crate::proofs::Tracees::own_lwp))]
-fn step(tables: &mut Tables, settings: Settings, process: &ProcData, lwp: Tid, data: u32) -> Reply
+/// PT_KILL: resumes the process with SIGKILL, which ends it.
+pub fn kill(tables: &mut Tables, settings: Settings, process: &ProcData) -> Reply
     requires sound { IsSound tables.old.rows }
     requires at { process_of process.now.pid tables.old.rows.processes ≡ Some process.now }
     requires stopped { is_some (reporting process.now) ≡ true }
-    requires own { IsSomeAnd (lwp_of lwp tables.old.rows.lwps) (λ l. l.pid ≡ process.now.pid) }
-    ensures { Gives (with_signal «data» (answers reply.Done (resume settings process.now.pid «data»
-        (stepping process.now.pid lwp tables.old.rows))) tables.old.rows) tables.new.rows result }
+    ensures { Gives (answers reply.Done (resume settings (signal_alone SIGKILL) process.now.pid tables.old.rows))
+        tables.new.rows result }
 {
-    let Ok(pass) = Pass::new(data) else {
-        return Reply::Errno(Errno::EINVAL);
-    };
-    clear_stepping(tables, process.pid);
-    set_stepping(tables, lwp);
-    resume(tables, settings, process.pid, pass);
+    resume(
+        tables,
+        settings,
+        process,
+        &Resumption::with_signal(Pass::KILL),
+    );
     Reply::Done
-}
-
-/// Sets the LWP's stepping flag.
-fn set_stepping(tables: &mut Tables, lwp: Tid)
-    requires there { IsSome (lwp_of lwp tables.old.rows.lwps) }
-    ensures rows { tables.new.rows ≡ change_lwp lwp (λ l. record l { stepping = true }) tables.old.rows }
-{
-    if let Some(row) = tables.lwp(lwp) {
-        tables.set_lwp(LwpData {
-            stepping: true,
-            ..row
-        });
-    }
 }
 
 /// PT_SUSPEND and PT_RESUME: sets whether the LWP is suspended.
@@ -248,8 +239,7 @@ fn suspend(tables: &mut Tables, lwp: Tid, suspended: bool) -> Reply
 
 /// PT_DETACH: ends the tracing of the process, and resumes it with a signal or with 0. Refused with EINVAL where
 /// `data` is above 31.
-#[tactic(auto, using(crate::proofs::Tracees::is_stopped))]
-pub fn detach_with(tables: &mut Tables, settings: Settings, process: &ProcData, data: u32) -> Reply
+fn detach_with(tables: &mut Tables, settings: Settings, process: &ProcData, data: u32) -> Reply
     requires sound { IsSound tables.old.rows }
     requires at { process_of process.now.pid tables.old.rows.processes ≡ Some process.now }
     requires stopped { is_some (reporting process.now) ≡ true }
@@ -259,28 +249,7 @@ pub fn detach_with(tables: &mut Tables, settings: Settings, process: &ProcData, 
     let Ok(pass) = Pass::new(data) else {
         return Reply::Errno(Errno::EINVAL);
     };
-    detach(tables, settings, process.pid, pass);
-    Reply::Done
-}
-
-/// Resumes the process with a signal or with 0. Refused with EINVAL where the number is above 31.
-#[tactic(auto, using(crate::proofs::Tracees::is_stopped))]
-pub fn resume_with(
-    tables: &mut Tables,
-    settings: Settings,
-    process: &ProcData,
-    number: u32,
-) -> Reply
-    requires sound { IsSound tables.old.rows }
-    requires at { process_of process.now.pid tables.old.rows.processes ≡ Some process.now }
-    requires stopped { is_some (reporting process.now) ≡ true }
-    ensures { Gives (with_signal number (answers reply.Done
-        (resume settings process.now.pid number tables.old.rows)) tables.old.rows) tables.new.rows result }
-{
-    let Ok(pass) = Pass::new(number) else {
-        return Reply::Errno(Errno::EINVAL);
-    };
-    resume(tables, settings, process.pid, pass);
+    detach(tables, settings, process, pass);
     Reply::Done
 }
 

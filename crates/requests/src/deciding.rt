@@ -8,18 +8,19 @@ ghost use Rattle.requests.specs.Outcome.{Gives};
 ghost use Rattle.requests.specs.Handle.{handled_by, handles_status, done, policies_in};
 
 use crate::Reply;
-use crate::commands::{continue_with, detach_with, resume_with};
+use crate::commands::kill;
 use crate::handlers::HandlerTable;
+use event_masks::EventMask;
 use lwp_table::LwpData;
 use pid_blocks::{Errno, Pid, Tid, Uid};
 use proc_table::{ProcData, State, Tables};
+use process_end::{detach, resume};
 use signals::Signal;
 use stop_handlers::{Decider, Decision, StopView};
-use trace_stop::Settings;
+use trace_stop::{Resumption, Settings, Stepping};
 use wait4::{Collected, Options, Status, collect};
 
 /// Carries out a decision about the trace stop of a process.
-#[tactic(auto, using(crate::proofs::Tracees::kill_as))]
 fn carry_out(tables: &mut Tables, settings: Settings, process: &ProcData, decision: Decision)
     requires sound { IsSound tables.old.rows }
     requires at { process_of process.now.pid tables.old.rows.processes ≡ Some process.now }
@@ -30,13 +31,18 @@ fn carry_out(tables: &mut Tables, settings: Settings, process: &ProcData, decisi
         Decision::Decline => {}
         Decision::Leave => {}
         Decision::Continue(pass) => {
-            continue_with(tables, settings, process, process.mask, pass.number());
+            let how = Resumption {
+                adds: EventMask(0),
+                stepping: Stepping::Nobody,
+                pass,
+            };
+            resume(tables, settings, process, &how);
         }
         Decision::Detach(pass) => {
-            detach_with(tables, settings, process, pass.number());
+            detach(tables, settings, process, pass);
         }
         Decision::Kill => {
-            resume_with(tables, settings, process, Signal::KILL.number());
+            kill(tables, settings, process);
         }
     }
 }

@@ -5,7 +5,7 @@ use Rattle.trace_stop.proofs.CommonNames.{nat_tests, AllByRecursion, list_any, I
 use Rattle.trace_stop.proofs.CommonNames.{tracer_in, is_numbered, change_process, change_lwp, notified, post, tracers, stop, ends_process, resume, detach}
 use Rattle.pid_blocks.specs.Blocks.{pid_owner, tid_owner}
 use Rattle.step_types.specs.declared.Settings.{Settings}
-use Rattle.trace_stop.specs.declared.Shown.{Shown}
+use Rattle.trace_stop.specs.{Detach.signal_alone, declared.Resumption.Resumption, declared.Shown.Shown}
 use Rattle.trace_stop.specs.End.{tracer_of, meets, is_doomed, dooms, process_after, released, lwp_after, notifies_of, end_each, end_of, end}
 use Rattle.trace_stop.proofs.Every.{not_same, by_bool, choose, choose_both, none_passes, All-edit, All-filter}
 use Rattle.row_isolation.specs.Closed.{Mine, GoodProc, GoodLwp}
@@ -116,8 +116,8 @@ stop_same {u} {start} {c} {v} s n tid shown here own_tid = subst (λ o. Sim u st
     stopped : Rows → Rows
     stopped rows = change_process n (λ p. record p { state = Trace tid shown.sig false }) (change_lwp tid (λ l. record l { flags = shown.flags; child = shown.child; code = shown.code }) rows)
 
-pub resume_same : {u : ℕ} {start c v : Rows} → Sim u start c v → (settings : Settings) (n sig : ℕ) → pid_owner n ≡ u → Sim u start (resume settings n sig c) (resume settings n sig v)
-resume_same s settings n sig here = branch_rows _ _ (ap (ends_process sig) (process_same s n here)) (λ b. end_same (resumed_same s n here) settings n sig here) (λ b. resumed_same s n here)
+pub resume_same : {u : ℕ} {start c v : Rows} → Sim u start c v → (settings : Settings) (how : Resumption) (n : ℕ) → pid_owner n ≡ u → Sim u start (resume settings how n c) (resume settings how n v)
+resume_same s settings how n here = branch_rows _ _ (ap (ends_process how.pass) (process_same s n here)) (λ b. end_same (resumed_same s how n here) settings n how.pass here) (λ b. resumed_same s how n here)
 
 pub detach_same : {u : ℕ} {start c v : Rows} → Sim u start c v → (settings : Settings) (n sig : ℕ) → pid_owner n ≡ u → Sim u start (detach settings n sig c) (detach settings n sig v)
-detach_same s settings n sig here = branch_rows _ _ (ap (ends_process sig) (process_same s n here)) (λ b. end_same (resumed_same s n here) settings n sig here) (λ b. detached_same s (is_numbered n) (λ p. 0) (is_numbered_foreign n here))
+detach_same s settings n sig here = branch_rows _ _ (ap (ends_process sig) (process_same s n here)) (λ b. resume_same s settings (signal_alone sig) n here) (λ b. detached_same s (is_numbered n) (λ p. 0) (is_numbered_foreign n here))

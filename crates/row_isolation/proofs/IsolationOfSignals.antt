@@ -3,6 +3,7 @@ use Rattle.std.proofs.Common.{◌≡◌, ◌≢◌, ℕ, List, [], ◌∷◌, Bo
 use Rattle.trace_stop.proofs.CommonNames.{settled_lwp, nat_tests, AllByRecursion, list_any, IsUser, SIGCHLD, ProcData, LwpData, process_of, Rows, is_numbered, change, settled_process, settle, posted_process, posted_lwp}
 use Rattle.trace_stop.proofs.CommonNames.{notified, notifies, posted, reported, run_on, resumed, detached}
 use Rattle.pid_blocks.specs.Blocks.{pid_owner}
+use Rattle.trace_stop.specs.declared.Resumption.{Resumption}
 use Rattle.row_isolation.specs.Closed.{Mine, GoodProc, GoodLwp}
 use Rattle.trace_stop.proofs.Every.{choose}
 use Rattle.row_isolation.proofs.IsolationRelation.{Sim, KinLwp, not_own, named, process_same, at_number, each_same}
@@ -71,8 +72,8 @@ run_on_same s chosen process lwp foreign stays stays_lwp = each_same s (λ p. So
     then_lwp : (p : ProcData) (l : LwpData) (o : Option LwpData) → KinLwp l o → KinLwp l (option_map (lwp p) o)
     then_lwp p l o k = grind (arith, stays_lwp p, k)
 
-pub resumed_same : {u : ℕ} {start c v : Rows} → Sim u start c v → (n : ℕ) → pid_owner n ≡ u → Sim u start (resumed n c) (resumed n v)
-resumed_same s n here = search (rules, run_on_same, is_numbered_foreign)
+pub resumed_same : {u : ℕ} {start c v : Rows} → Sim u start c v → (how : Resumption) (n : ℕ) → pid_owner n ≡ u → Sim u start (resumed how n c) (resumed how n v)
+resumed_same s how n here = search (rules, run_on_same, is_numbered_foreign)
 
 pub detached_same : {u : ℕ} {start c v : Rows} → Sim u start c v → (chosen : ProcData → Bool) (lost : ProcData → ℕ) → ((p : ProcData) → GoodProc p → p.uid ≢ u → chosen p ≡ false) → Sim u start (detached chosen lost c) (detached chosen lost v)
 detached_same s chosen lost foreign = search (rules, run_on_same)

@@ -14,9 +14,9 @@ ghost use Rattle.trace_stop.specs.Sound.{is_live_at};
 ghost use Rattle.trace_stop.specs.Reports.{reporter, report_dropped, unreported};
 ghost use Rattle.trace_stop.specs.Stop.{stop};
 
-use crate::{Resumption, Shown, Stepping};
 use crate::edits::{Edit, edit_lwps};
 use crate::signaling::post_sigchld;
+use crate::{Resumption, Shown, Stepping};
 use event_masks::{EventMask, StopFlags};
 use lwp_table::LwpData;
 use pid_blocks::{Pid, Tid};

@@ -3,4 +3,6 @@ use Rattle.requests.proofs.Tracees.{signalled}
 use Rattle.requests.proofs.commands.resume_with.Goals as goal
 
 pub returns : goal.returns
-returns c = record { rows = let rows = c.args.tables.now.rows in signalled (resume c.args.settings c.args.process.now.pid) c.args.number c.in-Ok.pass Reply.Done rows rows _ rows c.in-Ok.ensures refl c.resume.ensures.rows; reply = search rules }
+returns c =
+    let rows = c.args.tables.now.rows in
+    record { rows = signalled (λ n. resume c.args.settings (record { adds = c.args.adds; stepping = c.args.stepping; pass = n }) c.args.process.now.pid) c.args.data c.in-Ok.pass Reply.Done rows rows _ rows c.in-Ok.ensures refl c.resume.ensures.rows; reply = search rules }
