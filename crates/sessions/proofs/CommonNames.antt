@@ -1,6 +1,6 @@
 -- The words of scripts, sessions and runs, from one place.
 pub use Rattle.host_lock.proofs.Totals.{all_of, each_of}
-pub use Rattle.host_lock.specs.Answers.{Calls, GivesBack}
+pub use Rattle.host_lock.specs.Answers.{AnswersCall, GivesBack}
 pub use Rattle.host_lock.specs.Boxed.{SmallStep, own_step}
 pub use Rattle.host_lock.specs.Journal.{IsLegal, StartsWith, asked, entries_of, entry, replay}
 pub use Rattle.host_lock.specs.Limits.{max_calls, max_sessions}
