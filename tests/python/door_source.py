@@ -83,7 +83,7 @@ def shape_of(text: str) -> str:
     """The words of control and the calls of a function's body; a call of another function without its arguments."""
     found = []
     for token in TOKEN.findall(re.sub(r'//[^\n]*|[=-]>|unreachable!\(\)', '', text)):
-        word = re.sub(r'^(?:self|of|table)\.(?=\w+[.(:])|^door\.(?=\w+\.)|\s', '', token)
+        word = re.sub(r'^(?:self|of|table)\.(?=\w+[.(:])|^door\.(?=\w+\.)|,(?=\s*\))|\s', '', token)
         is_called = re.match(rf'((?:\w+\.)*(?:{CALLED}))\(', word)
         found.append(is_called[1] if is_called else word)
     return ' '.join(found)
