@@ -3,7 +3,7 @@ use Rattle.std.specs.Prelude.{unwrap_or, option_map, ℕ, ◌-◌, ◌+◌, List
 use Rattle.{pid_blocks.specs.Users.IsUser, requests.specs.{Machine.Machine}, visibility.specs.Runs.{reply_given, MakesStep}}
 use Rattle.step_types.specs.{Plain.Asked, declared.Reply.Reply, declared.Reply.TheVariants.Lwps, declared.Reply.TheVariants.Pids}
 use Rattle.{reply_json.specs.{Objects.json_text, Replies.refusal_value}, scenario_text.specs.{declared.fault.Fault.Fault, Faults.fault_name, OneStep.IsStep}, scenario.specs.declared.style.Style.Style}
-use Rattle.scenario.specs.{declared.style.Style.TheVariants.{Words, Json}, Lines.{Answered, line}}
+use Rattle.scenario.specs.{declared.style.Style.TheVariants.{Text, Json}, Lines.{Answered, line}}
 
 -- the answer to a line: a reply to a user, or the fault for which the line is not a step
 abbrev pub LineReply : Type 0
@@ -24,7 +24,7 @@ pub data AnswersLine (text : List ℕ) (m : Machine) : LineReply → Machine →
 
 -- the line that names the fault for which a line is not a step; 10 is a line feed
 abbrev pub refusal : Style → Fault → List ℕ
-refusal Words f = codes "refused " ++ (fault_name f ++ (10 ∷ []))
+refusal Text f = codes "refused " ++ (fault_name f ++ (10 ∷ []))
 refusal Json f = json_text (refusal_value (fault_name f)) ++ (10 ∷ [])
 
 -- the line of an answer, by how many replies each user has had before it

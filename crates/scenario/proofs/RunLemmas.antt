@@ -1,6 +1,6 @@
 -- The answers of a whole run.
 use Rattle.scenario.proofs.CommonNames.{⊤, ◌≡◌, ℕ, ◌≤◌, false, List, [], ◌∷◌, length, drop, Some, None, if◌then◌else◌, sym, ap, ap₂, subst, ◌∙◌, at_drop_all, Rule, Step, PlainStep, Reply, Steps}
-use Rattle.scenario.proofs.CommonNames.{Machine, is_memory, Asked, replies, reply_given, MakesStep, did, asked, filled, answered, paired}
+use Rattle.scenario.proofs.CommonNames.{Machine, is_memory, Asked, replies, reply_given, MakesStep, did, asked, with_policies, answered, paired}
 
 -- a reply other than ENOMEM is an answer
 reply_given_made : (r : Reply) → is_memory r ≡ false → reply_given r ≡ Some r
@@ -19,5 +19,5 @@ answers_next u s r left rest m k first made steps = ap (λ xs. paired xs (replie
 
 -- no step is left
 pub none_left : (ss : List (ℕ × Step ⊤)) (i : ℕ) (ps : List (List Rule)) (m : Machine) → length ss ≤ i
-    → paired (filled (drop i ss) ps) (replies (filled (drop i ss) ps) m) ≡ []
-none_left ss i ps m past = at_drop_all (λ xs. paired (filled xs ps) (replies (filled xs ps) m)) ss i past
+    → paired (with_policies (drop i ss) ps) (replies (with_policies (drop i ss) ps) m) ≡ []
+none_left ss i ps m past = at_drop_all (λ xs. paired (with_policies xs ps) (replies (with_policies xs ps) m)) ss i past
