@@ -55,7 +55,7 @@ IsSame v w = (w.uid ≡ v.uid) × (w.number ≡ v.number) × (w.host ≡ v.host)
 abbrev pub Learns : List Entry → SessionData → SessionData → Type 0
 Learns front v w = IsSame v w × (w.calls ≡ v.calls) × (w.mine ≡ v.mine) × StartsWith w.known v.known × StartsWith w.known front
 
--- at the end: the journal begins with the part that the session saw, and its entries of the session are its own
+-- at the end: the journal begins with the part that the session knows, and its entries of the session are its own
 abbrev pub InJournal : List Entry → SessionData → Type 0
 InJournal log s = StartsWith log s.known × (entries_of s.number log ≡ s.mine)
 

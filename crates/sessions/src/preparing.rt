@@ -34,7 +34,7 @@ struct Opened<F: Decider + Send + Drop, J: CallLog + Send + Drop> {
     sessions: Vec<Session>,
 }
 
-/// An open host, a session for each script, and room for the results.
+/// An open host, a session with each script, and room for the results.
 pub(crate) struct PreparedRun<
     F: Decider + Send + Drop,
     J: CallLog + Send + Drop,
