@@ -17,7 +17,7 @@ EVENT_COUNT = 'rattle/crossbeam_utils/src/sync/event_count.rt'
 ATOMIC = 'fetch_add|fetch_sub|load|store|swap|park|wake_one|wake_all|exchange|peek'
 CALLED = (
     'try_lock|try_for_a_while|prepare_wait|wait|notify_one|enter|leave|let_go|left_in_turn|call_sleeper'
-    '|turn|take_turn|count_up|give_back|drop|make'
+    '|serve|await_ticket|count_up|give_back|drop|make'
 )
 TOKEN = re.compile(
     r'\b(?:for|if|else|match|while|loop|return|break|continue|Some|None)\b|&&|\|\||[!=<>]=|[!{}<>]'
@@ -28,7 +28,7 @@ FUNCTION = re.compile(r'^( *)(?:pub(?:\(crate\))? )?fn (\w+)\b[^\n]*(.*?)^\1\}$'
 # The shape of each function. A call's step of door.py comes after `@`; `exchange` and the count move the host, which
 # only the caller inside does, and `make` is its step.
 SHAPES: dict[str, dict[str, str]] = {
-    'host.rt': {'call': 'if ! { door.let_go return } door.enter turn door.leave'},
+    'host.rt': {'call': 'if ! { door.let_go return } door.enter serve door.leave'},
     'door.rt': {
         'enter': 'if ! && ! try_lock@enter { wait }',
         'try_lock': '! is_locked.load(SeqCst) && ! is_locked.swap(true,SeqCst)',
@@ -45,11 +45,12 @@ SHAPES: dict[str, dict[str, str]] = {
         'let_go': 'if { leave }',
     },
     'turn.rt': {
-        'turn': """fetch_add::<Draw>(seat,1,1)@draw take_turn exchange(seat,0,Slot::Away(user,Snapshot::of(plain))) else { }
-            state.make if { give_back return } count_up give_back""",
-        'take_turn': 'for { load::<Turn>(seat,0)@look-at-serving if == { return } }',
+        'serve': """fetch_add::<Draw>(seat,1,1)@draw await_ticket
+            exchange(seat,0,HostSlot::Taken(user,Snapshot::of(plain))) else { } state.make
+            if { give_back return } count_up give_back""",
+        'await_ticket': 'for { load::<Turn>(seat,0)@look-at-serving if == { return } }',
         'count_up': 'fetch_add::<Count>(seat,2,1)',
-        'give_back': 'exchange(seat,0,Slot::There(state)) fetch_add::<Release>(seat,0,1)@serve-next',
+        'give_back': 'exchange(seat,0,HostSlot::Present(state)) fetch_add::<Release>(seat,0,1)@serve-next',
     },
     'event_count.rt': {
         'prepare_wait': 'waiters.fetch_add(1,SeqCst)@count-as-waiter { epoch.load(SeqCst)@look-at-epoch }',
@@ -67,8 +68,8 @@ BEHIND: dict[str, list[tuple[str, str]]] = {
     'try_for_a_while': [('door.rt', 'try_for_a_while')],
     'sleepers.prepare_wait': [('event_count.rt', 'prepare_wait')],
     'call.wait': [('event_count.rt', 'wait'), ('event_count.rt', 'drop')],
-    'turn': [('turn.rt', 'turn')],
-    'take_turn': [('turn.rt', 'take_turn')],
+    'serve': [('turn.rt', 'serve')],
+    'await_ticket': [('turn.rt', 'await_ticket')],
     'count_up': [('turn.rt', 'count_up')],
     'give_back': [('turn.rt', 'give_back')],
     'door.leave': [('door.rt', 'leave')],
@@ -83,7 +84,7 @@ def shape_of(text: str) -> str:
     """The words of control and the calls of a function's body; a call of another function without its arguments."""
     found = []
     for token in TOKEN.findall(re.sub(r'//[^\n]*|[=-]>|unreachable!\(\)', '', text)):
-        word = re.sub(r'^(?:self|of|table)\.(?=\w+[.(:])|^door\.(?=\w+\.)|\s', '', token)
+        word = re.sub(r'^(?:self|of|table)\.(?=\w+[.(:])|^door\.(?=\w+\.)|,(?=\s*\))|\s', '', token)
         is_called = re.match(rf'((?:\w+\.)*(?:{CALLED}))\(', word)
         found.append(is_called[1] if is_called else word)
     return ' '.join(found)

@@ -110,9 +110,9 @@ def trace_names(form: Format) -> str:
     )
     return (
         f"//! The names of a scenario, as docs/FORMAT.md has them. {WRITTEN}\n"
-        "use event_masks::Call;\nuse scenario::StepShape;\nuse signals::Disposition;\nuse step_types::{Act, Request, Step};\n"
+        "use event_masks::Call;\nuse scenario::BareStep;\nuse signals::Disposition;\nuse step_types::{Act, Request, Step};\n"
         "use stop_handlers::Decision;\n\n"
-        f"pub(crate) fn op_of(step: &StepShape) -> &'static str {{\n    match step {{\n{ops}    }}\n}}\n\n"
+        f"pub(crate) fn op_of(step: &BareStep) -> &'static str {{\n    match step {{\n{ops}    }}\n}}\n\n"
     ) + "\n".join(
         [
             name_of("request_name", "request", "Request", form.requests, ""),
@@ -169,7 +169,7 @@ def case(entry: Entry, kinds: dict[str, str]) -> str:
     keys = [key(entry, of, kinds) for of in entry.keys]
     names = [of.name for of in entry.keys]
     if names == ["target", "data"]:
-        return f'    Case("{entry.name}", ASKED),\n'
+        return f'    Case("{entry.name}", TARGET_AND_DATA),\n'
     if names == ["pass"]:
         return f'    Case("{entry.name}", PASSED),\n'
     listed = ", ".join(keys)
@@ -222,7 +222,7 @@ def explained_tables(form: Format) -> str:
         '\nconst CALLER: Key = Key::Needed("caller", Kind::Number(WORD));\n\n'
         'const TARGET: Key = Key::Needed("target", Kind::Number(WORD));\n\n'
         "/// The keys of a request with a target and data.\n"
-        'const ASKED: &[Key] = &[TARGET, Key::Optional("data", Kind::Number(WORD))];\n\n'
+        'const TARGET_AND_DATA: &[Key] = &[TARGET, Key::Optional("data", Kind::Number(WORD))];\n\n'
         "/// The signal that a process goes on with.\n"
         'const PASSED: &[Key] = &[Key::Optional("pass", Kind::Number(PASS))];\n\n'
         "/// All keys of scenarios, steps and rules.\npub(crate) const KEYS: &[&str] = &[\n"

@@ -1,7 +1,7 @@
 -- What the options and the operand of a command line ask for.
 use Rattle.std.specs.{Prelude.{ℕ, ◌==◌, Bool, true, false, not, List, Option, Some, None, is_some, bytes_eq, codes, if◌then◌else◌}, Borrow.Bor}
-use Rattle.{pid_blocks.specs.Users.IsUser, command_line.specs.declared.asking.{Arguments.Arguments, Asked.Asked, Mode.{Mode, TheVariants.{Scenario, Lines}}, Shown.Shown, Style.Style}}
-use Rattle.command_line.specs.declared.asking.{Style.TheVariants.{Words, Json}, Terminals.Terminals}
+use Rattle.{pid_blocks.specs.Users.IsUser, command_line.specs.declared.asking.{Arguments.Arguments, RunRequest.RunRequest, Mode.{Mode, TheVariants.{Scenario, Lines}}, Selection.Selection, Style.Style}}
+use Rattle.command_line.specs.declared.asking.{Style.TheVariants.{Text, Json}, Terminals.Terminals}
 
 -- whether a word is given, and is this one
 abbrev pub has_value : Option (Bor (List ℕ)) → List ℕ → Bool
@@ -19,7 +19,7 @@ explains_by explain on_terminal =
 
 -- JSON with --json, whatever its word
 abbrev pub style_by : Option (Bor (List ℕ)) → Style
-style_by json = if is_some json then Json else Words
+style_by json = if is_some json then Json else Text
 
 -- whether a debugger's end kills what it traces: unless the number is 0
 abbrev pub kills_by : Option ℕ → Bool
@@ -32,7 +32,7 @@ IsUserOrNone None = Unit {0}
 IsUserOrNone (Some number) = IsUser number
 
 -- the lines of this user alone, or without --user those of all users
-abbrev pub shown_by : Arguments → Option ℕ → Shown
+abbrev pub shown_by : Arguments → Option ℕ → Selection
 shown_by arguments user =
     record { user = user; style = style_by arguments.json; threads = arguments.threads; trace = has_value arguments.json (codes "trace") }
 
@@ -42,7 +42,7 @@ mode_by arguments user = if arguments.lines
     then Lines (kills_by arguments.kill_on_debugger_exit) (style_by arguments.json)
     else Scenario (shown_by arguments user) arguments.expect
 
-abbrev pub asked_by : Arguments → Terminals → Asked
+abbrev pub asked_by : Arguments → Terminals → RunRequest
 asked_by arguments terminals = record {
   file = input_by arguments.file;
   explains = explains_by arguments.explain terminals.error;

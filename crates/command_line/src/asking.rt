@@ -31,14 +31,14 @@ pub struct Arguments<'a> {
 #[derive(Clone, Copy, Drop)]
 pub enum Style {
     /// Words, separated by spaces.
-    Words,
+    Text,
     /// A JSON object.
     Json,
 }
 
 /// Which lines of a run are printed, and in which order.
 #[derive(Clone, Copy, Drop)]
-pub struct Shown {
+pub struct Selection {
     /// The user whose lines alone are printed; none for all.
     pub user: Option<Uid>,
     pub style: Style,
@@ -53,7 +53,7 @@ pub struct Shown {
 pub enum Mode<'a> {
     /// As a scenario, which is run. The lines are printed, or compared with those of the expected file.
     Scenario {
-        shown: Shown,
+        shown: Selection,
         expected: Option<&'a str>,
     },
     /// As lines with a step each, which a host answers one by one.
@@ -66,7 +66,7 @@ pub enum Mode<'a> {
 
 /// What the command line asks for.
 #[derive(Clone, Copy, Drop)]
-pub struct Asked<'a> {
+pub struct RunRequest<'a> {
     /// The file of the input; none for standard input.
     pub file: Option<&'a str>,
     /// Refused input is explained on standard error.
@@ -118,7 +118,7 @@ fn style_of(json: Option<&str>) -> Style
     if json.is_some() {
         Style::Json
     } else {
-        Style::Words
+        Style::Text
     }
 }
 
@@ -144,7 +144,7 @@ fn mode_of<'a>(arguments: Arguments<'a>, user: Option<Uid>) -> Mode<'a>
         };
     }
     Mode::Scenario {
-        shown: Shown {
+        shown: Selection {
             user,
             style,
             threads: arguments.threads,
@@ -159,11 +159,14 @@ fn mode_of<'a>(arguments: Arguments<'a>, user: Option<Uid>) -> Mode<'a>
 /// # Errors
 ///
 /// Fails where the number of `--user` isn't from 1001 to 1064.
-pub fn asked_for<'a>(arguments: Arguments<'a>, terminals: Terminals) -> Result<Asked<'a>, BadUser>
+pub fn asked_for<'a>(
+    arguments: Arguments<'a>,
+    terminals: Terminals,
+) -> Result<RunRequest<'a>, BadUser>
     ensures { OkIff result (IsUserOrNone arguments.entry.user) (asked_by arguments.entry terminals) }
 {
     let user = shown_user(arguments.user)?;
-    Ok(Asked {
+    Ok(RunRequest {
         file: input_of(arguments.file),
         explains: explains(arguments.explain, terminals),
         mode: mode_of(arguments, user),

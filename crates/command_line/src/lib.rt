@@ -7,7 +7,7 @@ ghost use Rattle.command_line.specs.Found.{IsIn, IsNumber};
 
 mod asking;
 
-pub use asking::{Arguments, Asked, Mode, Shown, Style, Terminals, asked_for};
+pub use asking::{Arguments, Mode, RunRequest, Selection, Style, Terminals, asked_for};
 use asking::{explains, has_value};
 use clap::error::ErrorKind;
 use clap::{Arg, ArgAction, ArgMatches, Command};
@@ -282,7 +282,7 @@ pub fn asked_of<'a>(
     version: &'a str,
     words: &'a [String],
     terminals: Terminals,
-) -> Result<Asked<'a>, Refusal> {
+) -> Result<RunRequest<'a>, Refusal> {
     let matches = match matches_of(alloc, version, words) {
         Ok(matches) => matches,
         Err(error) => return Err(refused(alloc, error, words, terminals)),

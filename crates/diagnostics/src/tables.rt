@@ -26,7 +26,7 @@ const CALLER: Key = Key::Needed("caller", Kind::Number(WORD));
 const TARGET: Key = Key::Needed("target", Kind::Number(WORD));
 
 /// The keys of a request with a target and data.
-const ASKED: &[Key] = &[TARGET, Key::Optional("data", Kind::Number(WORD))];
+const TARGET_AND_DATA: &[Key] = &[TARGET, Key::Optional("data", Kind::Number(WORD))];
 
 /// The signal that a process goes on with.
 const PASSED: &[Key] = &[Key::Optional("pass", Kind::Number(PASS))];
@@ -114,26 +114,26 @@ pub(crate) const OPS: [Case; 9] = [
 
 pub(crate) const REQUESTS: [Case; 18] = [
     Case("PT_TRACE_ME", &[]),
-    Case("PT_ATTACH", ASKED),
-    Case("PT_CONTINUE", ASKED),
-    Case("PT_STEP", ASKED),
-    Case("PT_TO_SCE", ASKED),
-    Case("PT_TO_SCX", ASKED),
-    Case("PT_SYSCALL", ASKED),
-    Case("PT_DETACH", ASKED),
-    Case("PT_KILL", ASKED),
-    Case("PT_SUSPEND", ASKED),
-    Case("PT_RESUME", ASKED),
+    Case("PT_ATTACH", TARGET_AND_DATA),
+    Case("PT_CONTINUE", TARGET_AND_DATA),
+    Case("PT_STEP", TARGET_AND_DATA),
+    Case("PT_TO_SCE", TARGET_AND_DATA),
+    Case("PT_TO_SCX", TARGET_AND_DATA),
+    Case("PT_SYSCALL", TARGET_AND_DATA),
+    Case("PT_DETACH", TARGET_AND_DATA),
+    Case("PT_KILL", TARGET_AND_DATA),
+    Case("PT_SUSPEND", TARGET_AND_DATA),
+    Case("PT_RESUME", TARGET_AND_DATA),
     Case(
         "PT_SET_EVENT_MASK",
         &[TARGET, Key::Needed("mask", Kind::Names(Table::Event))],
     ),
-    Case("PT_GET_EVENT_MASK", ASKED),
-    Case("PT_FOLLOW_FORK", ASKED),
-    Case("PT_LWP_EVENTS", ASKED),
-    Case("PT_LWPINFO", ASKED),
-    Case("PT_GETNUMLWPS", ASKED),
-    Case("PT_GETLWPLIST", ASKED),
+    Case("PT_GET_EVENT_MASK", TARGET_AND_DATA),
+    Case("PT_FOLLOW_FORK", TARGET_AND_DATA),
+    Case("PT_LWP_EVENTS", TARGET_AND_DATA),
+    Case("PT_LWPINFO", TARGET_AND_DATA),
+    Case("PT_GETNUMLWPS", TARGET_AND_DATA),
+    Case("PT_GETLWPLIST", TARGET_AND_DATA),
 ];
 
 pub(crate) const EVENTS: [Case; 7] = [

@@ -5,13 +5,13 @@ pub use Rattle.host_lock.specs.History.{History, history}
 pub use Rattle.host_lock.specs.Journal.{IsLegal, StartsWith, asked, entries_of, entry, next_entry, replay}
 pub use Rattle.host_lock.specs.Limits.{max_calls, max_sessions}
 pub use Rattle.host_lock.specs.Rule.{AtTurn, Closes, Each, Fits, HasCounted, HasLearned, HasTurned, InSlot, IsAtRest, IsOut, M, Matches, SharedInvariant, Takes, TakesSlot, Tells, both, budget_of, calls_of, counted, drawn, drew}
-pub use Rattle.host_lock.specs.Rule.{first_seen, fresh, fresh_view, has_slot, has_ticket, learned, longer, mine_of, moment_view, number_of, once, opening_view, owes, parts_of, released, seen_of, session_view, shown, slot_of}
+pub use Rattle.host_lock.specs.Rule.{first_known, fresh, fresh_view, has_slot, has_ticket, learned, longer, mine_of, moment_view, number_of, once, opening_view, owes, parts_of, released, known_of, session_view, shown, slot_of}
 pub use Rattle.host_lock.specs.Rule.{snapshot_of, split_left, split_right, staged, start_of, taken, ticket_in, ticket_of, times, total, turned, view_in}
-pub use Rattle.host_lock.specs.Sessions.{InJournal, IsAt, IsBelow, Makes, SessionData, account_of, gathered, new_session, new_sessions, seen_by}
+pub use Rattle.host_lock.specs.Sessions.{InJournal, IsAt, IsBelow, Makes, SessionData, account_of, gathered, new_session, new_sessions, known_by}
 pub use Rattle.host_lock.specs.Views.{Account, Counted, Holding, Idle, Stage, View, Waiting, spent}
 pub use Rattle.host_lock.specs.declared.journal.Entry.{Entry}
-pub use Rattle.host_lock.specs.declared.view.Slot.{Slot}
-pub use Rattle.host_lock.specs.declared.view.Slot.TheVariants.{Away, There}
+pub use Rattle.host_lock.specs.declared.view.HostSlot.{HostSlot}
+pub use Rattle.host_lock.specs.declared.view.HostSlot.TheVariants.{Taken, Present}
 pub use Rattle.requests.specs.Isolation.{Users, host_after, reply_of}
 pub use Rattle.requests.specs.Machine.{Machine}
 pub use Rattle.step_types.specs.{Plain.PlainStep, Replies.is_memory, declared.Reply.Reply}

@@ -21,7 +21,7 @@ use Rattle.host_lock.specs.contracts.journal.Entry as Entry
 use Rattle.host_lock.specs.contracts.moment.Moment as Moment
 use Rattle.host_lock.specs.contracts.session.Session as Session
 use Rattle.host_lock.specs.contracts.shared_state.SharedState as SharedState
-use Rattle.host_lock.specs.contracts.view.Slot as Slot
+use Rattle.host_lock.specs.contracts.view.HostSlot as HostSlot
 use Rattle.host_lock.specs.contracts.host.SharedHost as SharedHost
 
 lwp_table_send : IsSend LwpTable.the_row
@@ -66,7 +66,7 @@ module _ (F J : RattleType) (d : Ghosts F.Denot) (l : LogGhosts J.Denot) (f : Is
   state_send : IsSend (SharedState.the_row F J d l)
   state_send = let handler = handler_send F d f in search (tables_send, crosses, sendable) depth 80 fits 100000
 
-  slot_send : IsSend (Slot.the_row F J d l)
+  slot_send : IsSend (HostSlot.the_row F J d l)
   slot_send = let state = state_send in search (crosses, sendable) depth 80 fits 100000
 
   pub host_sync : IsSync (SharedHost.the_row F J d l)

@@ -1,39 +1,39 @@
 -- One call, from step to step.
 use Rattle.host_lock.proofs.CommonNames.{get_or, ◌≡◌, ℕ, ◌-◌, Bool, true, false, List, [], ◌∷◌, ◌++◌, sym, refl, ap, ◌∙◌, subst, arith, MatchBool, eq-eqb, ◌+◌, rest, Machine, PlainStep, Reply, reply_of, is_memory, Entry, Stage, Idle}
-use Rattle.host_lock.proofs.CommonNames.{Holding, Counted, View, Slot, There, Away, History, history, replay, IsLegal, entries_of, StartsWith, entry, M, snapshot_of, has_slot, session_view, drawn, start_of, seen_of, mine_of}
+use Rattle.host_lock.proofs.CommonNames.{Holding, Counted, View, HostSlot, Present, Taken, History, history, replay, IsLegal, entries_of, StartsWith, entry, M, snapshot_of, has_slot, session_view, drawn, start_of, known_of, mine_of}
 use Rattle.host_lock.proofs.CommonNames.{TakesSlot, HasCounted, HasTurned, IsOut, IsAtRest, view_in, max_calls}
 use Rattle.host_lock.proofs.Logs.{entries_mine}
 
 module _ {F J : Type 0} where
   abbrev pub IsIdle : ℕ → (M F J) → Type 0
-  IsIdle number m = m ≡ (session_view (start_of m.0) Idle m.0.budget (seen_of m.0) number (mine_of m.0), [])
+  IsIdle number m = m ≡ (session_view (start_of m.0) Idle m.0.budget (known_of m.0) number (mine_of m.0), [])
 
   -- what is known of the host that was taken out
   abbrev pub IsFound : (M F J) → ℕ → ℕ → ℕ → PlainStep → History → (M F J) → Type 0
   IsFound m u number ticket s state m' =
-      (start_of m.0 ≡ state.start) × StartsWith state.log (seen_of m.0) × (entries_of number state.log ≡ mine_of m.0)
-      × (m' ≡ (session_view state.start (Holding ticket) (m.0.budget - 1) state.log number (mine_of m.0), (0, Away u (snapshot_of s)) ∷ []))
+      (start_of m.0 ≡ state.start) × StartsWith state.log (known_of m.0) × (entries_of number state.log ≡ mine_of m.0)
+      × (m' ≡ (session_view state.start (Holding ticket) (m.0.budget - 1) state.log number (mine_of m.0), (0, Taken u (snapshot_of s)) ∷ []))
 
   -- a slot's one value
-  one_value : (k k' : History) (x : Slot F J) (l others : List (ℕ × Slot F J)) → l ≡ (0, There k) ∷ [] → l ≡ (0, x) ∷ others → x ≡ There k' → k ≡ k'
-  one_value k k' x l others e d is = let at : There k ≡ x = ap (λ (z : List (ℕ × Slot F J)). (get_or z 0 (0, x)).1) (sym e ∙ d) in cc
+  one_value : (k k' : History) (x : HostSlot F J) (l others : List (ℕ × HostSlot F J)) → l ≡ (0, Present k) ∷ [] → l ≡ (0, x) ∷ others → x ≡ Present k' → k ≡ k'
+  one_value k k' x l others e d is = let at : Present k ≡ x = ap (λ (z : List (ℕ × HostSlot F J)). (get_or z 0 (0, x)).1) (sym e ∙ d) in cc
 
-  pub finds : (m₀ m₁ m₂ m₃ : (M F J)) (u number ticket : ℕ) (s : PlainStep) (state : History) (result : (Slot F J)) → IsIdle number m₀ → m₁ ≡ (drawn m₀.0 ticket, m₀.1) → TakesSlot m₁.0 number ticket m₂ → m₂.1 ≡ (0, result) ∷ rest m₂.1
-      → result ≡ There state → m₃ ≡ (m₂.0, (0, Away u (snapshot_of s)) ∷ rest m₂.1) → IsFound m₀ u number ticket s state m₃
+  pub finds : (m₀ m₁ m₂ m₃ : (M F J)) (u number ticket : ℕ) (s : PlainStep) (state : History) (result : (HostSlot F J)) → IsIdle number m₀ → m₁ ≡ (drawn m₀.0 ticket, m₀.1) → TakesSlot m₁.0 number ticket m₂ → m₂.1 ≡ (0, result) ∷ rest m₂.1
+      → result ≡ Present state → m₃ ≡ (m₂.0, (0, Taken u (snapshot_of s)) ∷ rest m₂.1) → IsFound m₀ u number ticket s state m₃
   finds m₀ m₁ m₂ m₃ u number ticket s state result e₀ e₁ t is₂ is e₃ =
       let t' = rw (e₁ ∙ ap (λ (m : (M F J)). (drawn m.0 ticket, m.1)) e₀) at t in
-      let held : m₂.1 ≡ (0, There (history (start_of m₀.0) t'.0)) ∷ [] = ap (λ (m : (M F J)). m.1) t'.1 in
+      let held : m₂.1 ≡ (0, Present (history (start_of m₀.0) t'.0)) ∷ [] = ap (λ (m : (M F J)). m.1) t'.1 in
       let home_is : history (start_of m₀.0) t'.0 ≡ state = one_value _ state result m₂.1 (rest m₂.1) held is₂ is in
-      subst (λ k. IsFound m₀ u number ticket s k m₃) home_is (refl, t'.2, t'.3, e₃ ∙ ap (λ (m : (M F J)). (m.0, (0, Away u (snapshot_of s)) ∷ rest m.1)) t'.1)
+      subst (λ k. IsFound m₀ u number ticket s k m₃) home_is (refl, t'.2, t'.3, e₃ ∙ ap (λ (m : (M F J)). (m.0, (0, Taken u (snapshot_of s)) ∷ rest m.1)) t'.1)
 
-  pub is_out : (number : ℕ) (m : (M F J)) (k k' : History) (g : Stage) (x : (Slot F J)) (b : ℕ) (mine : List Entry) → has_slot g ≡ 1 → m ≡ (session_view k.start g b k.log number mine, (0, x) ∷ []) → k' ≡ k → IsOut number k' m
+  pub is_out : (number : ℕ) (m : (M F J)) (k k' : History) (g : Stage) (x : (HostSlot F J)) (b : ℕ) (mine : List Entry) → has_slot g ≡ 1 → m ≡ (session_view k.start g b k.log number mine, (0, x) ∷ []) → k' ≡ k → IsOut number k' m
   is_out number m k k' g x b mine out e is =
       subst (λ (z : History). IsOut number z m) (sym is) (g, x, out, e ∙ ap (λ (z : (M F J)). (session_view k.start g z.0.budget k.log number (mine_of z.0), (0, x) ∷ [])) (sym e))
 
-  -- the call is counted, and the state is as long as what is seen
+  -- the call is counted, and the state is as long as what is known
   pub counts_out : (m₀ m₃ m₄ : (M F J)) (u number ticket : ℕ) (s : PlainStep) (state state' : History) (r : Reply) → IsFound m₀ u number ticket s state m₃ → HasCounted m₃.0 u number s ticket m₄
       → r ≡ reply_of u s (replay state.start state.log) → state' ≡ history state.start (state.log ++ entry u number s r ∷ [])
-      → m₄ ≡ (session_view state'.start (Counted ticket) (m₀.0.budget - 1) state'.log number (mine_of m₀.0 ++ entry u number s r ∷ []), (0, Away u (snapshot_of s)) ∷ [])
+      → m₄ ≡ (session_view state'.start (Counted ticket) (m₀.0.budget - 1) state'.log number (mine_of m₀.0 ++ entry u number s r ∷ []), (0, Taken u (snapshot_of s)) ∷ [])
   counts_out m₀ m₃ m₄ u number ticket s state state' r f c reply is = rw (is, reply) (rw f.3 at c)
 
   pub turned_none : (m₀ m₃ m₅ : (M F J)) (u number ticket : ℕ) (s : PlainStep) (state state' : History) (r : Reply) → IsFound m₀ u number ticket s state m₃ → is_memory r ≡ true → IsLegal state'.start state'.log → state' ≡ state
@@ -43,7 +43,7 @@ module _ {F J : Type 0} where
 
   pub turned_one : (m₀ m₃ m₄ m₅ : (M F J)) (u number ticket : ℕ) (s : PlainStep) (state state' : History) (r : Reply) → IsFound m₀ u number ticket s state m₃ → is_memory r ≡ false → IsLegal state'.start state'.log
       → state' ≡ history state.start (state.log ++ entry u number s r ∷ [])
-      → m₄ ≡ (session_view state'.start (Counted ticket) (m₀.0.budget - 1) state'.log number (mine_of m₀.0 ++ entry u number s r ∷ []), (0, Away u (snapshot_of s)) ∷ [])
+      → m₄ ≡ (session_view state'.start (Counted ticket) (m₀.0.budget - 1) state'.log number (mine_of m₀.0 ++ entry u number s r ∷ []), (0, Taken u (snapshot_of s)) ∷ [])
       → m₅ ≡ (session_view state'.start Idle m₄.0.budget state'.log number (mine_of m₄.0), []) → HasTurned m₀.0 u number s r m₅
   turned_one m₀ m₃ m₄ m₅ u number ticket s state state' r f memory legal is at e =
       let P : History → Type 0 = λ k. IsLegal k.start k.log × (m₅ ≡ (session_view k.start Idle (m₀.0.budget - 1) k.log number (mine_of m₀.0 ++ entry u number s r ∷ []), [])) in
@@ -52,7 +52,7 @@ module _ {F J : Type 0} where
 
 -- what a session's type keeps
 abbrev pub IsSettled : ℕ → ℕ → View → Type 0
-IsSettled number calls v = IsAtRest number calls v × IsLegal (start_of v) (seen_of v) × (entries_of number (seen_of v) ≡ mine_of v)
+IsSettled number calls v = IsAtRest number calls v × IsLegal (start_of v) (known_of v) × (entries_of number (known_of v) ≡ mine_of v)
 
 pub settled : (h : Machine) (b number calls : ℕ) (log mine : List Entry) (v : View) → b ≡ max_calls - calls → IsLegal h log → entries_of number log ≡ mine → v ≡ session_view h Idle b log number mine → IsSettled number calls v
 settled h b number calls log mine v is legal same e = subst (IsSettled number calls) (sym e) (ap (λ (z : ℕ). session_view h Idle z log number mine) is, legal, same)

@@ -1,7 +1,7 @@
--- Moments: a session sees what another one had seen, and its calls stand behind that.
+-- Moments: a session learns what another one knew, and its calls stand behind that.
 use Rattle.host_lock.proofs.CommonNames.{◌≡◌, ℕ, ◌+◌, ◌-◌, ◌<◌, ◌≤◌, ◌==◌, Bool, true, false, leb, if◌then◌else◌, List, [], ◌∷◌, ◌++◌, length, get_or, drop, sym, refl, ap, ap₂, ◌∙◌, subst, arith, ⊎_elim, MatchBool, length-append}
 use Rattle.host_lock.proofs.CommonNames.{append-nil, append_assoc, nil_from_length, filter-append, none, step, Entry, entries_of, StartsWith, IsLegal, entry, max_calls, Idle, View, M, both, HasLearned, learned, longer}
-use Rattle.host_lock.proofs.CommonNames.{moment_view, session_view, start_of, seen_of, mine_of, view_in, Makes}
+use Rattle.host_lock.proofs.CommonNames.{moment_view, session_view, start_of, known_of, mine_of, view_in, Makes}
 use Rattle.std.proofs.lemmas.Bool.Decides.{leb_tells}
 use Rattle.host_lock.specs.Answers.{CallsInOrder}
 use Rattle.host_lock.proofs.Journey.{IsSettled, settled}
@@ -45,32 +45,32 @@ between n log l x s t same =
     nil_from_length (entries_of n t.0) (omega (arith, ap length first ∙ length-append (entries_of n x) (entries_of n t.0), ap length whole ∙ length-append (entries_of n l) (entries_of n s.0), ap length same)) in
     first ∙ ap (λ (z : List Entry). entries_of n x ++ z) no_more ∙ append-nil (entries_of n x)
 
--- the seat has seen more
+-- the seat knows more
 abbrev pub SeesMore : List Entry → View → View → Type 0
-SeesMore front v w = StartsWith (seen_of w) (seen_of v) × StartsWith (seen_of w) front × (mine_of w ≡ mine_of v) × (start_of w ≡ start_of v)
+SeesMore front v w = StartsWith (known_of w) (known_of v) × StartsWith (known_of w) front × (mine_of w ≡ mine_of v) × (start_of w ≡ start_of v)
 
 module _ {F J : Type 0} where
   abbrev pub Joined : ℕ → (M F J) → List Entry → (M F J) → Type 0
-  Joined number m front m' = m' ≡ (both (session_view (start_of m.0) Idle m.0.budget (seen_of m.0) number (mine_of m.0)) (moment_view (start_of m.0) front), [])
+  Joined number m front m' = m' ≡ (both (session_view (start_of m.0) Idle m.0.budget (known_of m.0) number (mine_of m.0)) (moment_view (start_of m.0) front), [])
 
-  pub joined_is : (number : ℕ) (m n m' : M F J) → m ≡ (session_view (start_of m.0) Idle m.0.budget (seen_of m.0) number (mine_of m.0), []) → n ≡ (moment_view (start_of m.0) (seen_of n.0), []) → m' ≡ (both m.0 n.0, m.1) → Joined number m (seen_of n.0) m'
+  pub joined_is : (number : ℕ) (m n m' : M F J) → m ≡ (session_view (start_of m.0) Idle m.0.budget (known_of m.0) number (mine_of m.0), []) → n ≡ (moment_view (start_of m.0) (known_of n.0), []) → m' ≡ (both m.0 n.0, m.1) → Joined number m (known_of n.0) m'
   joined_is number m n m' e d is = is ∙ (λ i. (both (e i).0 (d i).0, (e i).1))
 
-  pub has_learned : (number slots found : ℕ) (front : List Entry) (m m₁ m₂ : M F J) → Joined number m front m₁ → learned (step slots 0 0 0 none) m₁ found m₂ → IsLegal (start_of m.0) (seen_of m.0) → IsLegal (start_of m.0) front → entries_of number (seen_of m.0) ≡ mine_of m.0
+  pub has_learned : (number slots found : ℕ) (front : List Entry) (m m₁ m₂ : M F J) → Joined number m front m₁ → learned (step slots 0 0 0 none) m₁ found m₂ → IsLegal (start_of m.0) (known_of m.0) → IsLegal (start_of m.0) front → entries_of number (known_of m.0) ≡ mine_of m.0
       → HasLearned m.0 number front m₂
   has_learned number slots found front m m₁ m₂ is t legal legal_front own =
       let at = rw is at t in
       let log : List Entry = at.1.0 in
-      let s : StartsWith log (seen_of m.0) = at.1.1.0 in
+      let s : StartsWith log (known_of m.0) = at.1.1.0 in
       let s' : StartsWith log front = at.1.1.1.0 in
-      let starts = longer_starts log (seen_of m.0) front s s' in
+      let starts = longer_starts log (known_of m.0) front s s' in
       let none_added : m.0.budget + 0 ≡ m.0.budget = omega arith in (
-        longer (seen_of m.0 ∷ front ∷ []),
+        longer (known_of m.0 ∷ front ∷ []),
         rw none_added at at.0,
         starts.0,
         starts.1,
-        longer_is (IsLegal (start_of m.0)) (seen_of m.0) front legal legal_front,
-        between number log _ (seen_of m.0) (longer_is (StartsWith log) (seen_of m.0) front s s') starts.0 (at.1.2.0 ∙ sym own) ∙ own,
+        longer_is (IsLegal (start_of m.0)) (known_of m.0) front legal legal_front,
+        between number log _ (known_of m.0) (longer_is (StartsWith log) (known_of m.0) front s s') starts.0 (at.1.2.0 ∙ sym own) ∙ own,
       )
 
   -- the same of a session, which keeps a badge between two calls
@@ -84,13 +84,13 @@ module _ {F J : Type 0} where
       rw (is, was) (refl, done, rw now (t.2, t.3, refl, refl))
 
 pub calls_in_order : CallsInOrder
-calls_in_order v v' w w' s t r q journal first made seen second told stands =
+calls_in_order v v' w w' s t r q journal first made known second told stands =
     let e : Entry = entry v.uid v.number s r in
     let f : Entry = entry w.uid w.number t q in
-    let earlier : Makes v s r v' = subst (λ (b : Bool). MatchBool b (StartsWith v'.seen v.seen × (v'.mine ≡ v.mine)) (Makes v s r v')) made first.1.1 in
-    let later : Makes w t q w' = subst (λ (b : Bool). MatchBool b (StartsWith w'.seen w.seen × (w'.mine ≡ w.mine)) (Makes w t q w')) told second.1.1 in
+    let earlier : Makes v s r v' = subst (λ (b : Bool). MatchBool b (StartsWith v'.known v.known × (v'.mine ≡ v.mine)) (Makes v s r v')) made first.1.1 in
+    let later : Makes w t q w' = subst (λ (b : Bool). MatchBool b (StartsWith w'.known w.known × (w'.mine ≡ w.mine)) (Makes w t q w')) told second.1.1 in
     let log : List Entry = earlier.0 in
-    let behind : StartsWith later.0 v'.seen = starts_through later.0 w.seen v'.seen later.1 seen in
+    let behind : StartsWith later.0 v'.known = starts_through later.0 w.known v'.known later.1 known in
     let mid : List Entry = behind.0 in
     let rest : List Entry = stands.0.0 in (
       log,

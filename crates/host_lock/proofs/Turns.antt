@@ -1,9 +1,9 @@
 -- Each step keeps the rule.
 use Rattle.host_lock.proofs.CommonNames.{◌≡◌, ◌≢◌, ℕ, zero, suc, ◌+◌, ◌*◌, ◌%◌, ◌^◌, ◌<◌, ◌≤◌, List, [], ◌∷◌, ◌++◌, length, set, sym, refl, ap, ◌∙◌, subst, ⊎_elim, inl, inr, arith, eq-eqb, ne_eqb, length-append, append-nil, none}
 use Rattle.host_lock.proofs.CommonNames.{some, ℕ_discrete, set_again, set_else, get_elem?, State, step, keeps, takes, gives, Allows, Splits, Joins, opening, Final, Seen, Machine, PlainStep, Entry, Stage, Idle, Waiting, Holding}
-use Rattle.host_lock.proofs.CommonNames.{Counted, Account, View, spent, Slot, There, Away, History, history, StartsWith, next_entry, M, total, Each, once, has_ticket, has_slot, owes, times, Matches, AtTurn, Fits, ticket_of}
-use Rattle.host_lock.proofs.CommonNames.{slot_of, number_of, parts_of, budget_of, calls_of, InSlot, SharedInvariant, snapshot_of, drawn, taken, drew, Takes, turned, learned, longer, shown, first_seen, ticket_in, counted, released}
-use Rattle.host_lock.proofs.CommonNames.{fresh, fresh_view, opening_view, both, session_view, Closes, Tells, start_of, seen_of, mine_of, dite, TakesSlot, max_sessions, max_calls}
+use Rattle.host_lock.proofs.CommonNames.{Counted, Account, View, spent, HostSlot, Present, Taken, History, history, StartsWith, next_entry, M, total, Each, once, has_ticket, has_slot, owes, times, Matches, AtTurn, Fits, ticket_of}
+use Rattle.host_lock.proofs.CommonNames.{slot_of, number_of, parts_of, budget_of, calls_of, InSlot, SharedInvariant, snapshot_of, drawn, taken, drew, Takes, turned, learned, longer, shown, first_known, ticket_in, counted, released}
+use Rattle.host_lock.proofs.CommonNames.{fresh, fresh_view, opening_view, both, session_view, Closes, Tells, start_of, known_of, mine_of, dite, TakesSlot, max_sessions, max_calls}
 use Rattle.std.proofs.Math.Nat.{mod-eq_of_lt}
 use mathlib.Core.Option as maybe
 use Rattle.host_lock.proofs.Logs.{entries_mine, entries_other, starts_longer}
@@ -14,18 +14,18 @@ use Rattle.host_lock.proofs.Totals.{once_same, once_else, total_set, total_snoc,
 no_wrap : (x : ℕ) → x < max_sessions * max_calls → (x + 1) % 18446744073709551616 ≡ x + 1
 no_wrap x small = let lt : x + 1 < 18446744073709551616 = omega arith in mod-eq_of_lt lt
 
--- a seat with the slot has the ticket that is served, and has seen the whole log
-holder : (serving : ℕ) (log : List Entry) (g : Stage) (seen : List (List Entry)) → has_slot g ≡ 1 → AtTurn serving log g seen → ((t : ℕ) → has_ticket t g ≡ once serving t) × (seen ≡ log ∷ [])
-holder serving log Idle seen out turn = absurd (omega arith)
-holder serving log (Waiting q) seen out turn = absurd (omega arith)
-holder serving log (Holding q) seen out turn = (λ t. ap (λ (x : ℕ). once x t) turn.0, turn.1)
-holder serving log (Counted q) seen out turn = (λ t. ap (λ (x : ℕ). once x t) turn.0, turn.1)
+-- a seat with the slot has the ticket that is served, and knows the whole log
+holder : (serving : ℕ) (log : List Entry) (g : Stage) (known : List (List Entry)) → has_slot g ≡ 1 → AtTurn serving log g known → ((t : ℕ) → has_ticket t g ≡ once serving t) × (known ≡ log ∷ [])
+holder serving log Idle known out turn = absurd (omega arith)
+holder serving log (Waiting q) known out turn = absurd (omega arith)
+holder serving log (Holding q) known out turn = (λ t. ap (λ (x : ℕ). once x t) turn.0, turn.1)
+holder serving log (Counted q) known out turn = (λ t. ap (λ (x : ℕ). once x t) turn.0, turn.1)
 
-not_holder : (serving : ℕ) (log : List Entry) (g : Stage) (seen : List (List Entry)) → has_slot g ≡ 0 → AtTurn serving log g seen
-not_holder serving log Idle seen none_out = tt
-not_holder serving log (Waiting q) seen none_out = tt
-not_holder serving log (Holding q) seen none_out = absurd (omega arith)
-not_holder serving log (Counted q) seen none_out = absurd (omega arith)
+not_holder : (serving : ℕ) (log : List Entry) (g : Stage) (known : List (List Entry)) → has_slot g ≡ 0 → AtTurn serving log g known
+not_holder serving log Idle known none_out = tt
+not_holder serving log (Waiting q) known none_out = tt
+not_holder serving log (Holding q) known none_out = absurd (omega arith)
+not_holder serving log (Counted q) known none_out = absurd (omega arith)
 
 times_append : (q : ℕ) (l m : List Account) → times q (l ++ m) ≡ times q l + times q m
 times_append q [] m = omega arith
@@ -81,11 +81,11 @@ module _ (h : Machine) (n : ℕ) where
 
 module _ {F J : Type 0} where
   module _ (h : Machine) (n : ℕ) where
-    abbrev Rule : State (Slot F J) View → Type 0
+    abbrev Rule : State (HostSlot F J) View → Type 0
     Rule = SharedInvariant h n
 
     -- the seats' totals stay, but for what the log counts
-    keeps_rule : (s : State (Slot F J) View) (r : Rule s) (log : List Entry) (homes : List (maybe.Option (Slot F J))) (views olds news : List View) → Trade s.views views olds news → Even olds news
+    keeps_rule : (s : State (HostSlot F J) View) (r : Rule s) (log : List Entry) (homes : List (maybe.Option (HostSlot F J))) (views olds news : List View) → Trade s.views views olds news → Even olds news
         → total calls_of news + length log ≡ total calls_of olds + length r.log → Each (λ (e : Entry). e.session < n) log → InSlot h log views homes
         → ((j : ℕ) (d : View) → get_elem? views j ≡ some d → Fits h n r.serving log d) → Rule record { words = r.serving ∷ r.ticket ∷ length log ∷ []; homes = homes; views = views }
     keeps_rule s r log homes views olds news trade even calls given slot seats =
@@ -109,13 +109,13 @@ module _ {F J : Type 0} where
         }
 
     -- seats share what they have otherwise
-    shares : (s : State (Slot F J) View) (r : Rule s) (views olds news : List View) → Trade s.views views olds news → Same olds news
+    shares : (s : State (HostSlot F J) View) (r : Rule s) (views olds news : List View) → Trade s.views views olds news → Same olds news
         → ((j : ℕ) (d : View) → get_elem? views j ≡ some d → Fits h n r.serving r.log d) → Rule record { words = s.words; homes = s.homes; views = views }
     shares s r views olds news trade same seats =
         let e : total slot_of views ≡ total slot_of s.views = omega (arith, trade slot_of, same.slots) in
         rw r.words (keeps_rule s r r.log s.homes views olds news trade same.even (omega (arith, same.calls)) r.given (rw e r.slot) seats)
 
-    seat_set : (s : State (Slot F J) View) (r : Rule s) (l : List View) (id : ℕ) (w : View) → Fits h n r.serving r.log w → ((j : ℕ) (d : View) → get_elem? l j ≡ some d → Fits h n r.serving r.log d)
+    seat_set : (s : State (HostSlot F J) View) (r : Rule s) (l : List View) (id : ℕ) (w : View) → Fits h n r.serving r.log w → ((j : ℕ) (d : View) → get_elem? l j ≡ some d → Fits h n r.serving r.log d)
         → (j : ℕ) (d : View) → get_elem? (set l id w) j ≡ some d → Fits h n r.serving r.log d
     seat_set s r l id w mine all = seats_set (Fits h n r.serving r.log) (Fits h n r.serving r.log) l id w mine (λ j d _ _ k. k) all
 
@@ -138,7 +138,7 @@ module _ {F J : Type 0} where
             ticket = r.ticket + 1;
             log = r.log;
             words = ap (λ (x : ℕ). r.serving ∷ x ∷ length r.log ∷ []) (no_wrap r.ticket (omega (arith, r.tickets_left, total_one budget_of s.views id v at)));
-            seats = seat_set s r s.views id w (record { start_is = f.start_is; seen_is = f.seen_is; owns_is = f.owns_is; turn_is = tt; works = omega arith }) r.seats;
+            seats = seat_set s r s.views id w (record { start_is = f.start_is; known_is = f.known_is; owns_is = f.owns_is; turn_is = tt; works = omega arith }) r.seats;
             slot = rw same r.slot;
             numbers = λ q. let e = trade (number_of q) in let o = r.numbers q in omega arith;
             parts = omega (arith, trade parts_of, r.parts);
@@ -153,14 +153,14 @@ module _ {F J : Type 0} where
           refl,
         )
 
-    at_most_one : (s : State (Slot F J) View) (r : Rule s) (t : ℕ) → total (ticket_of t) s.views ≤ 1
+    at_most_one : (s : State (HostSlot F J) View) (r : Rule s) (t : ℕ) → total (ticket_of t) s.views ≤ 1
     at_most_one s r t = grind (arith, r.later t, r.out t, r.past t)
 
     -- the slot is with no other seat, if each seat with the slot would have more of something than there is
-    is_home : (s : State (Slot F J) View) (r : Rule s) (id : ℕ) (v : View) (f : View → ℕ) → get_elem? s.views id ≡ some v → has_slot v.stage ≡ 0
-        → ((d : View) → has_slot d.stage ≡ 1 → Fits h n r.serving r.log d → total f s.views < f v + f d) → (total slot_of s.views ≡ 0) × (s.homes ≡ some (There (history h r.log)) ∷ [])
+    is_home : (s : State (HostSlot F J) View) (r : Rule s) (id : ℕ) (v : View) (f : View → ℕ) → get_elem? s.views id ≡ some v → has_slot v.stage ≡ 0
+        → ((d : View) → has_slot d.stage ≡ 1 → Fits h n r.serving r.log d → total f s.views < f v + f d) → (total slot_of s.views ≡ 0) × (s.homes ≡ some (Present (history h r.log)) ∷ [])
     is_home s r id v f at empty more =
-        ⊎_elim (λ (t : (total slot_of s.views ≡ 0) × (s.homes ≡ some (There (history h r.log)) ∷ [])). t)
+        ⊎_elim (λ (t : (total slot_of s.views ≡ 0) × (s.homes ≡ some (Present (history h r.log)) ∷ [])). t)
         (λ (t : (total slot_of s.views ≡ 1) × (s.homes ≡ none ∷ [])).
         let found = total_find slot_of s.views t.0 in
         let d : View = found.1 in
@@ -168,12 +168,12 @@ module _ {F J : Type 0} where
         absurd (omega (arith, total_two f s.views id found.0 v d other at found.2, more d found.3 (r.seats found.0 d found.2))))
         r.slot
 
-    -- where a waiting seat's ticket is served, the slot is at slot
-    is_in_slot : (s : State (Slot F J) View) (r : Rule s) (id : ℕ) (v : View) → get_elem? s.views id ≡ some v → v.stage ≡ Waiting r.serving
-        → (total slot_of s.views ≡ 0) × (s.homes ≡ some (There (history h r.log)) ∷ [])
+    -- where a waiting seat's ticket is served, the host is in its slot
+    is_in_slot : (s : State (HostSlot F J) View) (r : Rule s) (id : ℕ) (v : View) → get_elem? s.views id ≡ some v → v.stage ≡ Waiting r.serving
+        → (total slot_of s.views ≡ 0) × (s.homes ≡ some (Present (history h r.log)) ∷ [])
     is_in_slot s r id v at waits = is_home s r id v (ticket_of r.serving) at (ap has_slot waits) (λ d out fits.
         let mine : has_ticket r.serving v.stage ≡ once r.serving r.serving = ap (has_ticket r.serving) waits in
-        omega (arith, (holder r.serving r.log d.stage d.seen out fits.turn_is).0 r.serving, once_same r.serving r.serving refl, at_most_one s r r.serving))
+        omega (arith, (holder r.serving r.log d.stage d.known out fits.turn_is).0 r.serving, once_same r.serving r.serving refl, at_most_one s r r.serving))
 
     pub turns : (slots id : ℕ) (m : (M F J)) (t : ℕ) → m.0.stage ≡ Waiting t → 0 < length m.0.owns → Allows Rule slots id m 0 (λ x. x) (turned (step slots 0 0 0 none) m)
     turns slots id m t waits some_part s r _ at _ =
@@ -188,12 +188,12 @@ module _ {F J : Type 0} where
         let owed : owes v.stage ≡ 1 = ap owes waits in
         let even : Even (v ∷ []) (w ∷ []) = record { tickets = λ q. ap (λ (x : ℕ). x + 0) (sym (ap (has_ticket q) waits)); numbers = λ q. refl; parts = refl; budgets = refl } in (
           w,
-          takes 0 (There (history h r.log)),
-          ap (λ (hs : List (maybe.Option (Slot F J))). get_elem? hs 0) slot.1,
-          keeps_rule s r r.log (set s.homes 0 none) (set s.views id w) (v ∷ []) (w ∷ []) (trade_set s.views id v w at) even (omega arith) r.given (inr (omega (arith, total_set slot_of s.views id v w at, slot.0), ap (λ (hs : List (maybe.Option (Slot F J))). set hs 0 none) slot.1))
-              (seat_set s r s.views id w (record { start_is = f.start_is; seen_is = (([], sym (append-nil r.log)), tt); owns_is = f.owns_is; turn_is = (sym hit, refl); works = omega arith }) r.seats),
+          takes 0 (Present (history h r.log)),
+          ap (λ (hs : List (maybe.Option (HostSlot F J))). get_elem? hs 0) slot.1,
+          keeps_rule s r r.log (set s.homes 0 none) (set s.views id w) (v ∷ []) (w ∷ []) (trade_set s.views id v w at) even (omega arith) r.given (inr (omega (arith, total_set slot_of s.views id v w at, slot.0), ap (λ (hs : List (maybe.Option (HostSlot F J))). set hs 0 none) slot.1))
+              (seat_set s r s.views id w (record { start_is = f.start_is; known_is = (([], sym (append-nil r.log)), tt); owns_is = f.owns_is; turn_is = (sym hit, refl); works = omega arith }) r.seats),
           λ t' e. rw (eq-eqb r.serving t' (hit ∙ same_ticket t' e))
-              (h, r.log, ap (λ (x : ℕ). (taken v x r.log, (0, There (history h r.log)) ∷ m.1)) (same_ticket t' e), f.start_is, f.seen_is, each_map (Matches n r.log) (Tells r.log) v.owns (λ x k. k.0) f.owns_is),
+              (h, r.log, ap (λ (x : ℕ). (taken v x r.log, (0, Present (history h r.log)) ∷ m.1)) (same_ticket t' e), f.start_is, f.known_is, each_map (Matches n r.log) (Tells r.log) v.owns (λ x k. k.0) f.owns_is),
         ))
         (λ miss. (
           v,
@@ -203,39 +203,39 @@ module _ {F J : Type 0} where
           λ t' e. rw (ne_eqb r.serving t' (λ z. miss (z ∙ sym (same_ticket t' e)))) refl,
         )))
 
-    -- where the slot is out with a seat, it is not at slot, and no other seat has it
-    is_out : (s : State (Slot F J) View) (r : Rule s) (id : ℕ) (v : View) → get_elem? s.views id ≡ some v → has_slot v.stage ≡ 1 → (total slot_of s.views ≡ 1) × (s.homes ≡ none ∷ [])
+    -- where the slot is out with a seat, the host is not in it, and no other seat has it
+    is_out : (s : State (HostSlot F J) View) (r : Rule s) (id : ℕ) (v : View) → get_elem? s.views id ≡ some v → has_slot v.stage ≡ 1 → (total slot_of s.views ≡ 1) × (s.homes ≡ none ∷ [])
     is_out s r id v at out =
         let one = total_one slot_of s.views id v at in
-        ⊎_elim (λ (t : (total slot_of s.views ≡ 0) × (s.homes ≡ some (There (history h r.log)) ∷ [])). let z = t.0 in absurd (omega arith)) (λ (t : (total slot_of s.views ≡ 1) × (s.homes ≡ none ∷ [])). t) r.slot
+        ⊎_elim (λ (t : (total slot_of s.views ≡ 0) × (s.homes ≡ some (Present (history h r.log)) ∷ [])). let z = t.0 in absurd (omega arith)) (λ (t : (total slot_of s.views ≡ 1) × (s.homes ≡ none ∷ [])). t) r.slot
 
-    only_holder : (s : State (Slot F J) View) (r : Rule s) (id j : ℕ) (v d : View) → j ≢ id → get_elem? s.views id ≡ some v → get_elem? s.views j ≡ some d → has_slot v.stage ≡ 1 → has_slot d.stage ≡ 0
+    only_holder : (s : State (HostSlot F J) View) (r : Rule s) (id j : ℕ) (v d : View) → j ≢ id → get_elem? s.views id ≡ some v → get_elem? s.views j ≡ some d → has_slot v.stage ≡ 1 → has_slot d.stage ≡ 0
     only_holder s r id j v d ne at at_d out = let two = total_two slot_of s.views j id d v ne at_d at in let one = (is_out s r id v at out).0 in omega arith
 
     pub counts_up : (slots id b t k u : ℕ) (h₀ : Machine) (x mine : List Entry) (s₀ : PlainStep)
-        → Allows Rule slots id (session_view h₀ (Holding t) b x k mine, (0, Away u (snapshot_of s₀)) ∷ []) 2 (λ x. (x + 1) % 2 ^ 64) (counted (step slots 2 1 0 none) (session_view h₀ (Holding t) b x k mine, (0, Away u (snapshot_of s₀)) ∷ []))
+        → Allows Rule slots id (session_view h₀ (Holding t) b x k mine, (0, Taken u (snapshot_of s₀)) ∷ []) 2 (λ x. (x + 1) % 2 ^ 64) (counted (step slots 2 1 0 none) (session_view h₀ (Holding t) b x k mine, (0, Taken u (snapshot_of s₀)) ∷ []))
     counts_up slots id b t k u h₀ x mine s₀ s r _ at _ =
         let v : View = session_view h₀ (Holding t) b x k mine in
-        let c : List (ℕ × (Slot F J)) = (0, Away u (snapshot_of s₀)) ∷ [] in
+        let c : List (ℕ × (HostSlot F J)) = (0, Taken u (snapshot_of s₀)) ∷ [] in
         let e : Entry = next_entry h₀ x u k s₀ in
         let w : View = session_view h₀ (Counted t) b (x ++ e ∷ []) k (mine ++ e ∷ []) in
         let f = r.seats id v at in
-        let seen : x ≡ r.log = ap first_seen f.turn_is.1 in
+        let known : x ≡ r.log = ap first_known f.turn_is.1 in
         let log : List Entry = r.log ++ e ∷ [] in
-        let longer : x ++ e ∷ [] ≡ log = ap (λ (l : List Entry). l ++ e ∷ []) seen in
+        let longer : x ++ e ∷ [] ≡ log = ap (λ (l : List Entry). l ++ e ∷ []) known in
         let size : length log ≡ length r.log + 1 = length-append r.log (e ∷ []) in
         let away = is_out s r id v at refl in
         let seats : (j : ℕ) (d : View) → j ≢ id → get_elem? s.views j ≡ some d → Fits h n r.serving r.log d → Fits h n r.serving log d = λ j d ne at_d g.
         let none_theirs : times k d.owns ≡ 0 = omega (arith, total_two (number_of k) s.views j id d v ne at_d at, r.numbers k, once_same k k refl) in record {
           start_is = g.start_is;
-          seen_is = each_map (StartsWith r.log) (StartsWith log) d.seen (λ l q. starts_longer r.log l e q) g.seen_is;
+          known_is = each_map (StartsWith r.log) (StartsWith log) d.known (λ l q. starts_longer r.log l e q) g.known_is;
           owns_is = others_match h n r.log e d.owns none_theirs g.owns_is;
-          turn_is = not_holder r.serving log d.stage d.seen (only_holder s r id j v d ne at at_d refl);
+          turn_is = not_holder r.serving log d.stage d.known (only_holder s r id j v d ne at at_d refl);
           works = g.works;
         } in
         let mine_fits : Fits h n r.serving log w = record {
           start_is = f.start_is;
-          seen_is = (([], sym longer ∙ sym (append-nil (x ++ e ∷ []))), tt);
+          known_is = (([], sym longer ∙ sym (append-nil (x ++ e ∷ []))), tt);
           owns_is = ((entries_mine k r.log e (eq-eqb k k refl) ∙ ap (λ (l : List Entry). l ++ e ∷ []) f.owns_is.0.0, f.owns_is.0.1), tt);
           turn_is = (f.turn_is.0, ap (λ (l : List Entry). l ∷ []) longer);
           works = omega arith;
@@ -251,14 +251,14 @@ module _ {F J : Type 0} where
         ))
 
     pub releases : (slots id b k : ℕ) (h₀ : Machine) (x mine : List Entry) (g : Stage) → has_slot g ≡ 1
-        → Allows Rule slots id (session_view h₀ g b x k mine, (0, There (history h₀ x)) ∷ []) 0 (λ x. (x + 1) % 2 ^ 64) (released (step slots 0 1 0 none) (session_view h₀ g b x k mine, (0, There (history h₀ x)) ∷ []))
+        → Allows Rule slots id (session_view h₀ g b x k mine, (0, Present (history h₀ x)) ∷ []) 0 (λ x. (x + 1) % 2 ^ 64) (released (step slots 0 1 0 none) (session_view h₀ g b x k mine, (0, Present (history h₀ x)) ∷ []))
     releases slots id b k h₀ x mine g holds s r _ at _ =
         let v : View = session_view h₀ g b x k mine in
-        let c : List (ℕ × (Slot F J)) = (0, There (history h₀ x)) ∷ [] in
+        let c : List (ℕ × (HostSlot F J)) = (0, Present (history h₀ x)) ∷ [] in
         let w : View = session_view h₀ Idle b x k mine in
         let f = r.seats id v at in
         let has = holder r.serving r.log g (x ∷ []) holds f.turn_is in
-        let seen : x ≡ r.log = ap first_seen has.1 in
+        let known : x ≡ r.log = ap first_known has.1 in
         let away = is_out s r id v at holds in
         let trade = trade_set s.views id v w at in
         let moved : (q : ℕ) → total (ticket_of q) (set s.views id w) + once r.serving q ≡ total (ticket_of q) s.views = λ q. let z = trade (ticket_of q) in let y = has.0 q in omega arith in
@@ -273,11 +273,11 @@ module _ {F J : Type 0} where
             log = r.log;
             words = ap (λ (z : ℕ). z ∷ r.ticket ∷ length r.log ∷ []) (no_wrap r.serving (omega (arith, r.tickets_left)));
             seats = seats_set (Fits h n r.serving r.log) (Fits h n (r.serving + 1) r.log) s.views id w
-                (record { start_is = f.start_is; seen_is = f.seen_is; owns_is = f.owns_is; turn_is = tt; works = omega arith })
+                (record { start_is = f.start_is; known_is = f.known_is; owns_is = f.owns_is; turn_is = tt; works = omega arith })
                 (λ j d ne at_d q.
-                record { start_is = q.start_is; seen_is = q.seen_is; owns_is = q.owns_is; turn_is = not_holder (r.serving + 1) r.log d.stage d.seen (only_holder s r id j v d ne at at_d holds); works = q.works })
+                record { start_is = q.start_is; known_is = q.known_is; owns_is = q.owns_is; turn_is = not_holder (r.serving + 1) r.log d.stage d.known (only_holder s r id j v d ne at at_d holds); works = q.works })
                 r.seats;
-            slot = inl (omega (arith, trade slot_of, away.0), ap (λ (hs : List (maybe.Option (Slot F J))). set hs 0 (some (There (history h₀ x)))) away.1 ∙ ap (λ (z : Machine × List Entry). some (There (history z.0 z.1)) ∷ []) (λ i. (f.start_is i, seen i)));
+            slot = inl (omega (arith, trade slot_of, away.0), ap (λ (hs : List (maybe.Option (HostSlot F J))). set hs 0 (some (Present (history h₀ x)))) away.1 ∙ ap (λ (z : Machine × List Entry). some (Present (history z.0 z.1)) ∷ []) (λ i. (f.start_is i, known i)));
             numbers = λ q. let y = trade (number_of q) in let o = r.numbers q in omega arith;
             parts = omega (arith, trade parts_of, r.parts);
             given = r.given;
@@ -298,8 +298,8 @@ module _ {F J : Type 0} where
         let right : View = session_view r₀ Idle max_calls [] i [] in
         let f = r.seats id v at in
         shares s r (set s.views id left ++ right ∷ []) (v ∷ []) (left ∷ right ∷ []) (trade_snoc s.views id v left right at) (omega arith)
-        (seats_snoc (Fits h n r.serving r.log) (set s.views id left) right (record { start_is = f.start_is; seen_is = f.seen_is; owns_is = (f.owns_is.0, tt); turn_is = tt; works = omega arith })
-        (seat_set s r s.views id left (record { start_is = f.start_is; seen_is = f.seen_is; owns_is = f.owns_is.1; turn_is = tt; works = omega arith }) r.seats))
+        (seats_snoc (Fits h n r.serving r.log) (set s.views id left) right (record { start_is = f.start_is; known_is = f.known_is; owns_is = (f.owns_is.0, tt); turn_is = tt; works = omega arith })
+        (seat_set s r s.views id left (record { start_is = f.start_is; known_is = f.known_is; owns_is = f.owns_is.1; turn_is = tt; works = omega arith }) r.seats))
 
     pub joins : (id other : ℕ) (v w : View) → v.stage ≡ Idle → w.stage ≡ Idle → Joins Rule id v other w (both v w) spent
     joins id other v w idle_v idle_w s r at apart at_w' =
@@ -311,13 +311,13 @@ module _ {F J : Type 0} where
         let same : Same (v ∷ w ∷ []) (b ∷ spent ∷ []) = rw idle_w (omega (arith, times_append, length-append v.owns w.owns)) in
         let trade : Trade s.views (set (set s.views id b) other spent) (v ∷ w ∷ []) (b ∷ spent ∷ []) = λ f. let x = total_set f s.views id v b at in let y = total_set f (set s.views id b) other w spent at_w' in omega arith in
         shares s r (set (set s.views id b) other spent) (v ∷ w ∷ []) (b ∷ spent ∷ []) trade same
-        (seat_set s r (set s.views id b) other spent (record { start_is = tt; seen_is = tt; owns_is = tt; turn_is = tt; works = omega arith })
+        (seat_set s r (set s.views id b) other spent (record { start_is = tt; known_is = tt; owns_is = tt; turn_is = tt; works = omega arith })
         (seat_set s r s.views id b
         (record {
           start_is = f.start_is;
-          seen_is = each_append (StartsWith r.log) v.seen w.seen f.seen_is fw.seen_is;
+          known_is = each_append (StartsWith r.log) v.known w.known f.known_is fw.known_is;
           owns_is = each_append (Matches n r.log) v.owns w.owns f.owns_is fw.owns_is;
-          turn_is = not_holder r.serving r.log v.stage (v.seen ++ w.seen) none_v;
+          turn_is = not_holder r.serving r.log v.stage (v.known ++ w.known) none_v;
           works = omega arith;
         })
         r.seats))
@@ -330,31 +330,31 @@ module _ {F J : Type 0} where
         let none_v : has_slot v.stage ≡ 0 = ap has_slot idle in
         let same : Same (v ∷ []) (v ∷ w ∷ []) = rw idle (omega arith) in
         shares s r (set s.views id v ++ w ∷ []) (v ∷ []) (v ∷ w ∷ []) (trade_snoc s.views id v v w at) same
-        (seats_snoc (Fits h n r.serving r.log) (set s.views id v) w (record { start_is = f.start_is; seen_is = f.seen_is; owns_is = tt; turn_is = not_holder r.serving r.log v.stage v.seen none_v; works = omega arith })
+        (seats_snoc (Fits h n r.serving r.log) (set s.views id v) w (record { start_is = f.start_is; known_is = f.known_is; owns_is = tt; turn_is = not_holder r.serving r.log v.stage v.known none_v; works = omega arith })
         (seat_set s r s.views id v f r.seats))
 
-    -- a seat that has seen two beginnings keeps the longer one
-    pub learns : (slots id : ℕ) (m : (M F J)) (x y : List Entry) → m.0.stage ≡ Idle → m.0.seen ≡ x ∷ y ∷ [] → Allows Rule slots id m 0 (λ x. x) (learned (step slots 0 0 0 none) m)
+    -- a seat that knows two beginnings keeps the longer one
+    pub learns : (slots id : ℕ) (m : (M F J)) (x y : List Entry) → m.0.stage ≡ Idle → m.0.known ≡ x ∷ y ∷ [] → Allows Rule slots id m 0 (λ x. x) (learned (step slots 0 0 0 none) m)
     learns slots id m x y idle two s r _ at _ =
         let v : View = m.0 in
-        let l : List Entry = longer v.seen in
-        let w : View = record v { seen = l ∷ [] } in
+        let l : List Entry = longer v.known in
+        let w : View = record v { known = l ∷ [] } in
         let f = r.seats id v at in
         let none_v : has_slot v.stage ≡ 0 = ap has_slot idle in
-        let starts = subst (Each (StartsWith r.log)) two f.seen_is in
+        let starts = subst (Each (StartsWith r.log)) two f.known_is in
         let start : StartsWith r.log l = subst (λ (ls : List (List Entry)). StartsWith r.log (longer ls)) (sym two) (longer_is (StartsWith r.log) x y starts.0 starts.1.0) in
-        let seats = seat_set s r s.views id w (record { start_is = f.start_is; seen_is = (start, tt); owns_is = f.owns_is; turn_is = not_holder r.serving r.log v.stage (l ∷ []) none_v; works = f.works }) r.seats in
+        let seats = seat_set s r s.views id w (record { start_is = f.start_is; known_is = (start, tt); owns_is = f.owns_is; turn_is = not_holder r.serving r.log v.stage (l ∷ []) none_v; works = f.works }) r.seats in
         let rule = shares s r (set s.views id w) (v ∷ []) (w ∷ []) (trade_set s.views id v w at) (omega arith) seats in
         let rule' : Rule record { words = r.serving ∷ r.ticket ∷ length r.log ∷ []; homes = s.homes; views = set s.views id w } = subst (λ ws. Rule record { words = ws; homes = s.homes; views = set s.views id w }) r.words rule in
-        rw r.words (w, keeps, tt, rule', (refl, (r.log, f.seen_is, each_map (Matches n r.log) (Tells r.log) v.owns (λ x k. k.0) f.owns_is)))
+        rw r.words (w, keeps, tt, rule', (refl, (r.log, f.known_is, each_map (Matches n r.log) (Tells r.log) v.owns (λ x k. k.0) f.owns_is)))
 
-    pub opens : n ≤ max_sessions → Rule (opening (0 ∷ 0 ∷ 0 ∷ []) (There (history h []) ∷ []) (opening_view h n))
+    pub opens : n ≤ max_sessions → Rule (opening (0 ∷ 0 ∷ 0 ∷ []) (Present (history h []) ∷ []) (opening_view h n))
     opens few = let v : View = opening_view h n in record {
       serving = 0;
       ticket = 0;
       log = [];
       words = refl;
-      seats = seats_snoc (Fits h n 0 []) [] v (record { start_is = refl; seen_is = (([], refl), tt); owns_is = fresh_match h n 0 n (omega arith); turn_is = tt; works = omega arith }) (λ j d e. absurd (maybe.some-ne-none d (sym e)));
+      seats = seats_snoc (Fits h n 0 []) [] v (record { start_is = refl; known_is = (([], refl), tt); owns_is = fresh_match h n 0 n (omega arith); turn_is = tt; works = omega arith }) (λ j d e. absurd (maybe.some-ne-none d (sym e)));
       slot = inl (refl, refl);
       numbers = λ q. let o = fresh_once h n q 0 n in omega arith;
       parts = let o = fresh_length h n 0 n in omega arith;
@@ -367,41 +367,41 @@ module _ {F J : Type 0} where
       calls_left = omega arith;
     }
 
-    pub ends : (ws : List ℕ) (xs : List (Slot F J)) (id : ℕ) (v : View) → n ≤ length v.owns → v.stage ≡ Idle → Final (Seen Rule id v) ws xs → Closes h n v xs
+    pub ends : (ws : List ℕ) (xs : List (HostSlot F J)) (id : ℕ) (v : View) → n ≤ length v.owns → v.stage ≡ Idle → Final (Seen Rule id v) ws xs → Closes h n v xs
     ends ws xs id v all idle fin =
-        let s : State (Slot F J) View = fin.0 in
+        let s : State (HostSlot F J) View = fin.0 in
         let r : Rule s = fin.1.0 in
         let at : get_elem? s.views id ≡ some v = fin.1.1 in
         let f = r.seats id v at in
         let whole = r.parts in
         let slot = is_home s r id v parts_of at (ap has_slot idle) (λ d out fits. let work = fits.works in omega arith) in (
           r.log,
-          fin.4 0 (There (history h r.log)) (ap (λ (hs : List (maybe.Option (Slot F J))). get_elem? hs 0) slot.1),
+          fin.4 0 (Present (history h r.log)) (ap (λ (hs : List (maybe.Option (HostSlot F J))). get_elem? hs 0) slot.1),
           f.start_is,
-          f.seen_is,
+          f.known_is,
           f.owns_is,
           r.given,
         )
 
   -- the view and the slots of a waiting seat
   abbrev pub IsWaiting : ℕ → ℕ → (M F J) → Type 0
-  IsWaiting number ticket m = m ≡ (session_view (start_of m.0) (Waiting ticket) m.0.budget (seen_of m.0) number (mine_of m.0), [])
+  IsWaiting number ticket m = m ≡ (session_view (start_of m.0) (Waiting ticket) m.0.budget (known_of m.0) number (mine_of m.0), [])
 
   pub looks : (h : Machine) (n slots id number ticket : ℕ) (m : (M F J)) → IsWaiting number ticket m → Allows (SharedInvariant h n) slots id m 0 (λ x. x) (turned (step slots 0 0 0 none) m)
   looks h n slots id number ticket m e = let one : length m.0.owns ≡ 1 = ap (λ (z : (M F J)). length z.0.owns) e in turns h n slots id m ticket (ap (λ (z : (M F J)). z.0.stage) e) (omega arith)
 
   takes₀ : (h : Machine) (b k ticket : ℕ) (x mine : List Entry) (m' : (M F J)) → Takes (session_view h (Waiting ticket) b x k mine, []) ticket m' → TakesSlot (session_view h (Waiting ticket) b x k mine) k ticket m'
-  takes₀ h b k ticket x mine m' t = (t.1, t.2 ∙ ap (λ (z : Machine). (session_view h (Holding ticket) b t.1 k mine, (0, There (history z t.1)) ∷ [])) (sym t.3), t.4.0, t.5.0)
+  takes₀ h b k ticket x mine m' t = (t.1, t.2 ∙ ap (λ (z : Machine). (session_view h (Holding ticket) b t.1 k mine, (0, Present (history z t.1)) ∷ [])) (sym t.3), t.4.0, t.5.0)
 
   pub takes_slot : (slots number ticket found : ℕ) (m m' : (M F J)) → IsWaiting number ticket m → turned (step slots 0 0 0 none) m found m' → found ≡ ticket → TakesSlot m.0 number ticket m'
   takes_slot slots number ticket found m m' e t is =
       let took = rw (eq-eqb found ticket is) at (t ticket (ap (λ (z : (M F J)). z.0.stage) e)) in
-      subst (λ (z : (M F J)). Takes z ticket m' → TakesSlot z.0 number ticket m') (sym e) (takes₀ (start_of m.0) m.0.budget number ticket (seen_of m.0) (mine_of m.0) m') took
+      subst (λ (z : (M F J)). Takes z ticket m' → TakesSlot z.0 number ticket m') (sym e) (takes₀ (start_of m.0) m.0.budget number ticket (known_of m.0) (mine_of m.0) m') took
 
   pub waits_on : (slots number ticket found : ℕ) (m m' : (M F J)) → IsWaiting number ticket m → turned (step slots 0 0 0 none) m found m' → found ≢ ticket → m' ≡ m
   waits_on slots number ticket found m m' e t is = rw (ne_eqb found ticket is) at (t ticket (ap (λ (z : (M F J)). z.0.stage) e))
 
-  pub leaves : (h : Machine) (n slots id number : ℕ) (k : History) (g : Stage) (x : (Slot F J)) (v : View) (m : (M F J)) → has_slot g ≡ 1 → v ≡ session_view k.start g v.budget k.log number (mine_of v) → m ≡ (v, (0, There k) ∷ [])
+  pub leaves : (h : Machine) (n slots id number : ℕ) (k : History) (g : Stage) (x : (HostSlot F J)) (v : View) (m : (M F J)) → has_slot g ≡ 1 → v ≡ session_view k.start g v.budget k.log number (mine_of v) → m ≡ (v, (0, Present k) ∷ [])
       → Allows (SharedInvariant h n) slots id m 0 (λ x. (x + 1) % 2 ^ 64) (released (step slots 0 1 0 none) m)
   leaves h n slots id number k g x v m out is now =
-      rw (now ∙ ap (λ (z : View). (z, (0, There k) ∷ [])) is) (releases h n slots id v.budget number k.start k.log (mine_of v) g out)
+      rw (now ∙ ap (λ (z : View). (z, (0, Present k) ∷ [])) is) (releases h n slots id v.budget number k.start k.log (mine_of v) g out)

@@ -7,17 +7,17 @@ use Rattle.host_lock.specs.declared.host.{OpenRefusal.TheVariants.{TooMany, Memo
 use Rattle.host_lock.specs.{declared.journal.Entry.Entry, Limits.{max_sessions, max_calls}, Journal.{StartsWith, entry}, Sessions.{SessionData, HostData, Replies, IsOpenable, InJournal}}
 
 -- the answer to a call of a session, and the session after it
-abbrev pub Calls : SessionData → PlainStep → Answer → SessionData → Type 0
-Calls v s (Reply r) w = (v.calls < max_calls) × Replies v s r w
-Calls v s Spent w = (v.calls ≡ max_calls) × (w ≡ v)
+abbrev pub AnswersCall : SessionData → PlainStep → Answer → SessionData → Type 0
+AnswersCall v s (Reply r) w = (v.calls < max_calls) × Replies v s r w
+AnswersCall v s Spent w = (v.calls ≡ max_calls) × (w ≡ v)
 
--- A session makes a call, and later a session makes one that has seen what the first had then seen. In the journal at
+-- A session makes a call, and later a session makes one that knows what the first then knew. In the journal at
 -- the end, the entry of the first call comes before that of the second.
 abbrev pub CallsInOrder : Type 0
 CallsInOrder =
     (v v' w w' : SessionData) (s t : PlainStep) (r q : AnyReply) (journal : List Entry)
-    → Calls v s (Reply r) v' → is_memory r ≡ false → StartsWith w.seen v'.seen
-    → Calls w t (Reply q) w' → is_memory q ≡ false → InJournal journal w'
+    → AnswersCall v s (Reply r) v' → is_memory r ≡ false → StartsWith w.known v'.known
+    → AnswersCall w t (Reply q) w' → is_memory q ≡ false → InJournal journal w'
     → (front : List Entry) × (between : List Entry) × (rest : List Entry) × (journal ≡ front ++ entry v.uid v.number s r ∷ between ++ entry w.uid w.number t q ∷ rest)
 
 -- the reason for a refused opening, and the host that is given back

@@ -2,6 +2,6 @@
 use Rattle.std.specs.{Prelude.{List, [], Option, Some, None}, declared.snapshot.Snapshot.Snapshot}
 use Rattle.host_lock.specs.declared.journal.Entry.{Entry}
 
-abbrev pub seen_in : Option (Snapshot (List Entry)) → List Entry
-seen_in None = []
-seen_in (Some calls) = calls.value
+abbrev pub known_in : Option (Snapshot (List Entry)) → List Entry
+known_in None = []
+known_in (Some calls) = calls.value

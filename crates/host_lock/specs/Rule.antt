@@ -3,7 +3,7 @@ use Rattle.std.specs.Prelude.{◌≡◌, ◌⊎◌, ℕ, zero, suc, ◌+◌, ◌
 use Rattle.std.specs.declared.snapshot.Snapshot.{Snapshot}
 use Rattle.{atomic_table.specs.{Table.{State, Me}, Seated.TableId}, requests.specs.{Machine.{Machine, empty}}}
 use Rattle.step_types.specs.{Plain.PlainStep, Replies.is_memory, declared.Reply.Reply}
-use Rattle.host_lock.specs.{declared.{journal.Entry.Entry, view.Slot.{Slot, TheVariants.{There, Away}}}, Views.{Stage, Idle, Waiting, Holding, Counted, Account, View, spent}, History.History}
+use Rattle.host_lock.specs.{declared.{journal.Entry.Entry, view.HostSlot.{HostSlot, TheVariants.{Present, Taken}}}, Views.{Stage, Idle, Waiting, Holding, Counted, Account, View, spent}, History.History}
 use Rattle.host_lock.specs.{History.history, Limits.{max_sessions, max_calls}, Journal.{IsLegal, entries_of, StartsWith, entry, next_entry}}
 use mathlib.Core.Option.{none, some}
 use lib.ListN.{get_elem?}
@@ -54,18 +54,18 @@ times n (x ∷ xs) = once x.number n + times n xs
 abbrev pub Matches : ℕ → List Entry → Account → Type 0
 Matches sessions log x = (entries_of x.number log ≡ x.mine) × (x.number < sessions)
 
--- a seat with the slot has the ticket that is served, and has seen the whole log
+-- a seat with the slot has the ticket that is served, and knows the whole log
 abbrev pub AtTurn : ℕ → List Entry → Stage → List (List Entry) → Type 0
-AtTurn serving log Idle seen = Unit {0}
-AtTurn serving log (Waiting t) seen = Unit {0}
-AtTurn serving log (Holding t) seen = (t ≡ serving) × (seen ≡ log ∷ [])
-AtTurn serving log (Counted t) seen = (t ≡ serving) × (seen ≡ log ∷ [])
+AtTurn serving log Idle known = Unit {0}
+AtTurn serving log (Waiting t) known = Unit {0}
+AtTurn serving log (Holding t) known = (t ≡ serving) × (known ≡ log ∷ [])
+AtTurn serving log (Counted t) known = (t ≡ serving) × (known ≡ log ∷ [])
 
 pub record Fits (start : Machine) (sessions serving : ℕ) (log : List Entry) (v : View) : Type 0 where
   pub start_is : IfSome v.start (λ h. h ≡ start)
-  pub seen_is : Each (StartsWith log) v.seen
+  pub known_is : Each (StartsWith log) v.known
   pub owns_is : Each (Matches sessions log) v.owns
-  pub turn_is : AtTurn serving log v.stage v.seen
+  pub turn_is : AtTurn serving log v.stage v.known
   -- a seat that owns no session has no slot
   pub works : has_slot v.stage ≤ length v.owns
 
@@ -94,14 +94,14 @@ abbrev pub drawn : View → ℕ → View
 drawn v n = record v { stage = Waiting n; budget = v.budget - 1 }
 
 abbrev pub taken : View → ℕ → List Entry → View
-taken v t log = record v { stage = Holding t; seen = log ∷ [] }
+taken v t log = record v { stage = Holding t; known = log ∷ [] }
 
 abbrev pub Tells : List Entry → Account → Type 0
 Tells log x = entries_of x.number log ≡ x.mine
 
-abbrev pub first_seen : List (List Entry) → List Entry
-first_seen [] = []
-first_seen (x ∷ xs) = x
+abbrev pub first_known : List (List Entry) → List Entry
+first_known [] = []
+first_known (x ∷ xs) = x
 
 abbrev pub first_owned : List Account → Account
 first_owned [] = account 0 []
@@ -115,11 +115,11 @@ ticket_in (Counted n) = n
 
 abbrev pub with_entry : Entry → View → View
 with_entry e v =
-    record v { stage = Counted (ticket_in v.stage); seen = (first_seen v.seen ++ e ∷ []) ∷ []; owns = account (first_owned v.owns).number ((first_owned v.owns).mine ++ e ∷ []) ∷ [] }
+    record v { stage = Counted (ticket_in v.stage); known = (first_known v.known ++ e ∷ []) ∷ []; owns = account (first_owned v.owns).number ((first_owned v.owns).mine ++ e ∷ []) ∷ [] }
 
 abbrev pub counts : Option (Machine) → ℕ → PlainStep → View → View
 counts None u s v = v
-counts (Some h) u s v = with_entry (next_entry h (first_seen v.seen) u (first_owned v.owns).number s) v
+counts (Some h) u s v = with_entry (next_entry h (first_known v.known) u (first_owned v.owns).number s) v
 
 -- k numbers from n on, whose sessions have made no call
 abbrev pub fresh : ℕ → ℕ → List Account
@@ -127,7 +127,7 @@ fresh n zero = []
 fresh n (suc k) = account n [] ∷ fresh (n + 1) k
 
 abbrev pub fresh_view : Machine → ℕ → ℕ → View
-fresh_view h n k = record { start = Some h; stage = Idle; budget = k * max_calls; seen = [] ∷ []; owns = fresh n k }
+fresh_view h n k = record { start = Some h; stage = Idle; budget = k * max_calls; known = [] ∷ []; owns = fresh n k }
 
 abbrev pub opening_view : Machine → ℕ → View
 opening_view h sessions = fresh_view h 0 sessions
@@ -139,14 +139,14 @@ abbrev pub split_right : View → View
 split_right v = record v { budget = max_calls; owns = take 1 v.owns }
 
 abbrev pub both : View → View → View
-both v w = record v { budget = v.budget + w.budget; seen = v.seen ++ w.seen; owns = v.owns ++ w.owns }
+both v w = record v { budget = v.budget + w.budget; known = v.known ++ w.known; owns = v.owns ++ w.owns }
 
--- the view of a seat that owns no session, and has seen what this one has
+-- the view of a seat that owns no session, and knows what this one does
 abbrev pub shown : View → View
 shown v = record v { budget = 0; owns = [] }
 
 abbrev pub moment_view : Machine → List Entry → View
-moment_view h seen = record { start = Some h; stage = Idle; budget = 0; seen = seen ∷ []; owns = [] }
+moment_view h known = record { start = Some h; stage = Idle; budget = 0; known = known ∷ []; owns = [] }
 
 -- the longer one of the first two lists
 abbrev pub longer : List (List Entry) → List Entry
@@ -160,7 +160,7 @@ snapshot_of s = record { marker = record {}; value = s }
 
 -- the view of the seat of one session
 abbrev pub session_view : Machine → Stage → ℕ → List Entry → ℕ → List Entry → View
-session_view h g b seen n mine = record { start = Some h; stage = g; budget = b; seen = seen ∷ []; owns = account n mine ∷ [] }
+session_view h g b known n mine = record { start = Some h; stage = g; budget = b; known = known ∷ []; owns = account n mine ∷ [] }
 
 -- an unused host
 abbrev pub nobody : Machine
@@ -173,15 +173,15 @@ rows_or (Some h) = h
 abbrev pub start_of : View → Machine
 start_of v = rows_or v.start
 
-abbrev pub seen_of : View → List Entry
-seen_of v = first_seen v.seen
+abbrev pub known_of : View → List Entry
+known_of v = first_known v.known
 
 abbrev pub mine_of : View → List Entry
 mine_of v = (first_owned v.owns).mine
 
 -- the view of a session between two calls
 abbrev pub IsAtRest : ℕ → ℕ → View → Type 0
-IsAtRest number calls v = v ≡ session_view (start_of v) Idle (max_calls - calls) (seen_of v) number (mine_of v)
+IsAtRest number calls v = v ≡ session_view (start_of v) Idle (max_calls - calls) (known_of v) number (mine_of v)
 
 -- the view of a badge
 abbrev pub view_in : List View → View
@@ -193,18 +193,18 @@ abbrev pub IsHostTable : TableId → Type 0
 IsHostTable z = (z.words ≡ 3) × (z.slots ≡ 1)
 
 abbrev pub M : Type 0 → Type 0 → Type 0
-M F J = Me (Slot F J) View
+M F J = Me (HostSlot F J) View
 
 abbrev pub At : Type 0 → Type 0 → Type 0
-At F J = table.Step (Slot F J)
+At F J = table.Step (HostSlot F J)
 
 module _ {F J : Type 0} where
   -- the slot holds the rows at opening and the whole log; or it is out with one seat
-  abbrev pub InSlot : Machine → List Entry → List View → List (maybe.Option (Slot F J)) → Type 0
+  abbrev pub InSlot : Machine → List Entry → List View → List (maybe.Option (HostSlot F J)) → Type 0
   InSlot start log views homes =
-      ((total slot_of views ≡ 0) × (homes ≡ some (There (history start log)) ∷ [])) ⊎ ((total slot_of views ≡ 1) × (homes ≡ none ∷ []))
+      ((total slot_of views ≡ 0) × (homes ≡ some (Present (history start log)) ∷ [])) ⊎ ((total slot_of views ≡ 1) × (homes ≡ none ∷ []))
 
-  pub record SharedInvariant (start : Machine) (sessions : ℕ) (s : State (Slot F J) View) : Type 0 where
+  pub record SharedInvariant (start : Machine) (sessions : ℕ) (s : State (HostSlot F J) View) : Type 0 where
     pub serving : ℕ
     pub ticket : ℕ
     -- the longest list
@@ -230,20 +230,20 @@ module _ {F J : Type 0} where
   abbrev pub drew : At F J → M F J → ℕ → M F J → Type 0
   drew st m n m' = m' ≡ (drawn m.0 n, m.1)
 
-  -- it is the seat's turn: the host is out with it, and it has seen the log so far
+  -- it is the seat's turn: the host is out with it, and it knows the log so far
   abbrev pub Takes : M F J → ℕ → M F J → Type 0
   Takes m t m' =
-      (start : Machine) × (log : List Entry) × (m' ≡ (taken m.0 t log, (0, There (history start log)) ∷ m.1)) × IfSome m.0.start (λ h. h ≡ start) × Each (StartsWith log) m.0.seen × Each (Tells log) m.0.owns
+      (start : Machine) × (log : List Entry) × (m' ≡ (taken m.0 t log, (0, Present (history start log)) ∷ m.1)) × IfSome m.0.start (λ h. h ≡ start) × Each (StartsWith log) m.0.known × Each (Tells log) m.0.owns
 
   abbrev pub turned : At F J → M F J → ℕ → M F J → Type 0
   turned st m n m' = (t : ℕ) → m.0.stage ≡ Waiting t → MatchBool (n == t) (Takes m t m') (m' ≡ m)
 
-  abbrev pub count_slot : (Slot F J) → View → View
-  count_slot (There k) v = v
-  count_slot (Away u s) v = counts v.start u s.value v
+  abbrev pub count_slot : (HostSlot F J) → View → View
+  count_slot (Present k) v = v
+  count_slot (Taken u s) v = counts v.start u s.value v
 
   -- the call whose step is in the seat's slot
-  abbrev pub count_in : List (ℕ × (Slot F J)) → View → View
+  abbrev pub count_in : List (ℕ × (HostSlot F J)) → View → View
   count_in [] v = v
   count_in (x ∷ xs) v = count_slot x.1 v
 
@@ -256,37 +256,37 @@ module _ {F J : Type 0} where
   -- the seat keeps the longer one of its two lists: both are beginnings of one list
   abbrev pub learned : At F J → M F J → ℕ → M F J → Type 0
   learned st m n m' =
-      (m' ≡ (record m.0 { seen = longer m.0.seen ∷ [] }, m.1)) × ((log : List Entry) × Each (StartsWith log) m.0.seen × Each (Tells log) m.0.owns)
+      (m' ≡ (record m.0 { known = longer m.0.known ∷ [] }, m.1)) × ((log : List Entry) × Each (StartsWith log) m.0.known × Each (Tells log) m.0.owns)
 
   -- the knowledge at the end about a seat that was joined with all others
-  abbrev pub Closes : Machine → ℕ → View → List (Slot F J) → Type 0
+  abbrev pub Closes : Machine → ℕ → View → List (HostSlot F J) → Type 0
   Closes h n v xs =
-      (log : List Entry) × (get_elem? xs 0 ≡ some (There (history h log))) × IfSome v.start (λ z. z ≡ h) × Each (StartsWith log) v.seen × Each (Matches n log) v.owns × Each (λ (e : Entry). e.session < n) log
+      (log : List Entry) × (get_elem? xs 0 ≡ some (Present (history h log))) × IfSome v.start (λ z. z ≡ h) × Each (StartsWith log) v.known × Each (Matches n log) v.owns × Each (λ (e : Entry). e.session < n) log
 
-  -- the slot is out with the seat, which has seen the log so far
+  -- the slot is out with the seat, which knows the log so far
   abbrev pub TakesSlot : View → ℕ → ℕ → M F J → Type 0
   TakesSlot v number ticket m' =
-      (log : List Entry) × (m' ≡ (session_view (start_of v) (Holding ticket) v.budget log number (mine_of v), (0, There (history (start_of v) log)) ∷ [])) × StartsWith log (seen_of v) × (entries_of number log ≡ mine_of v)
+      (log : List Entry) × (m' ≡ (session_view (start_of v) (Holding ticket) v.budget log number (mine_of v), (0, Present (history (start_of v) log)) ∷ [])) × StartsWith log (known_of v) × (entries_of number log ≡ mine_of v)
 
   -- the call is counted
   abbrev pub HasCounted : View → ℕ → ℕ → PlainStep → ℕ → M F J → Type 0
   HasCounted v u number s ticket m' =
-      let e = next_entry (start_of v) (seen_of v) u number s in
-      m' ≡ (session_view (start_of v) (Counted ticket) v.budget (seen_of v ++ e ∷ []) number (mine_of v ++ e ∷ []), (0, Away u (snapshot_of s)) ∷ [])
+      let e = next_entry (start_of v) (known_of v) u number s in
+      m' ≡ (session_view (start_of v) (Counted ticket) v.budget (known_of v ++ e ∷ []) number (mine_of v ++ e ∷ []), (0, Taken u (snapshot_of s)) ∷ [])
 
   -- one turn is over: after the log, no entry or one, which is the call's
   abbrev pub HasTurned : View → ℕ → ℕ → PlainStep → Reply → M F J → Type 0
   HasTurned v u number s r m' =
-      (log : List Entry) × StartsWith log (seen_of v) × (entries_of number log ≡ mine_of v)
+      (log : List Entry) × StartsWith log (known_of v) × (entries_of number log ≡ mine_of v)
       × MatchBool (is_memory r) (IsLegal (start_of v) log × (m' ≡ (session_view (start_of v) Idle (v.budget - 1) log number (mine_of v), [])))
       (let e = entry u number s r in
       IsLegal (start_of v) (log ++ e ∷ []) × (m' ≡ (session_view (start_of v) Idle (v.budget - 1) (log ++ e ∷ []) number (mine_of v ++ e ∷ []), [])))
 
-  -- the seat has now also seen these entries
+  -- the seat now also knows these entries
   abbrev pub HasLearned : View → ℕ → List Entry → M F J → Type 0
   HasLearned v number front m' =
-      (seen : List Entry) × (m' ≡ (session_view (start_of v) Idle v.budget seen number (mine_of v), [])) × StartsWith seen (seen_of v) × StartsWith seen front × IsLegal (start_of v) seen × (entries_of number seen ≡ mine_of v)
+      (known : List Entry) × (m' ≡ (session_view (start_of v) Idle v.budget known number (mine_of v), [])) × StartsWith known (known_of v) × StartsWith known front × IsLegal (start_of v) known × (entries_of number known ≡ mine_of v)
 
   -- the slot is out with the seat, and the seat's last list is that of k
   abbrev pub IsOut : ℕ → History → M F J → Type 0
-  IsOut number k m = (g : Stage) × (x : (Slot F J)) × (has_slot g ≡ 1) × (m ≡ (session_view k.start g m.0.budget k.log number (mine_of m.0), (0, x) ∷ []))
+  IsOut number k m = (g : Stage) × (x : (HostSlot F J)) × (has_slot g ≡ 1) × (m ≡ (session_view k.start g m.0.budget k.log number (mine_of m.0), (0, x) ∷ []))

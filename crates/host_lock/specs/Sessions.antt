@@ -8,13 +8,13 @@ pub record SessionData : Type 0 where
   pub uid : ℕ
   pub number : ℕ
   pub calls : ℕ
-  pub seen : List Entry
+  pub known : List Entry
   pub mine : List Entry
   pub host : TableId
   pub start : Machine
 
 pub record MomentData : Type 0 where
-  pub seen : List Entry
+  pub known : List Entry
   pub host : TableId
   pub start : Machine
 
@@ -31,37 +31,37 @@ IsOf h s = (s.host ≡ h.id) × (s.start ≡ h.start)
 abbrev pub IsMomentOf : HostData → MomentData → Type 0
 IsMomentOf h m = (m.host ≡ h.id) × (m.start ≡ h.start)
 
--- the seen part of the journal is legal, and its entries of this session are the session's own
+-- the known part of the journal is legal, and its entries of this session are the session's own
 abbrev pub IsTrue : SessionData → Type 0
-IsTrue s = IsLegal s.start s.seen × (entries_of s.number s.seen ≡ s.mine)
+IsTrue s = IsLegal s.start s.known × (entries_of s.number s.known ≡ s.mine)
 
 -- the same session, one call later
 abbrev pub Goes : SessionData → SessionData → Type 0
 Goes v w = (w.uid ≡ v.uid) × (w.number ≡ v.number) × (w.calls ≡ v.calls + 1) × (w.host ≡ v.host) × (w.start ≡ v.start)
 
--- the seen part of the journal begins with the part seen before, and ends with the call, a new one of the session
+-- the known part of the journal begins with the part known before, and ends with the call, a new one of the session
 abbrev pub Makes : SessionData → PlainStep → Reply → SessionData → Type 0
 Makes v s r w =
-    (log : List Entry) × StartsWith log v.seen × (w.seen ≡ log ++ entry v.uid v.number s r ∷ []) × (w.mine ≡ v.mine ++ entry v.uid v.number s r ∷ [])
+    (log : List Entry) × StartsWith log v.known × (w.known ≡ log ++ entry v.uid v.number s r ∷ []) × (w.mine ≡ v.mine ++ entry v.uid v.number s r ∷ [])
 
 -- the effect of an answered call
 abbrev pub Replies : SessionData → PlainStep → Reply → SessionData → Type 0
-Replies v s r w = Goes v w × MatchBool (is_memory r) (StartsWith w.seen v.seen × (w.mine ≡ v.mine)) (Makes v s r w)
+Replies v s r w = Goes v w × MatchBool (is_memory r) (StartsWith w.known v.known × (w.mine ≡ v.mine)) (Makes v s r w)
 
 abbrev pub IsSame : SessionData → SessionData → Type 0
 IsSame v w = (w.uid ≡ v.uid) × (w.number ≡ v.number) × (w.host ≡ v.host) × (w.start ≡ v.start)
 
--- the session is as it was, but has now also seen these entries
+-- the session is as it was, but now also knows these entries
 abbrev pub Learns : List Entry → SessionData → SessionData → Type 0
-Learns front v w = IsSame v w × (w.calls ≡ v.calls) × (w.mine ≡ v.mine) × StartsWith w.seen v.seen × StartsWith w.seen front
+Learns front v w = IsSame v w × (w.calls ≡ v.calls) × (w.mine ≡ v.mine) × StartsWith w.known v.known × StartsWith w.known front
 
--- at the end: the journal begins with the part that the session saw, and its entries of the session are its own
+-- at the end: the journal begins with the part that the session knows, and its entries of the session are its own
 abbrev pub InJournal : List Entry → SessionData → Type 0
-InJournal log s = StartsWith log s.seen × (entries_of s.number log ≡ s.mine)
+InJournal log s = StartsWith log s.known × (entries_of s.number log ≡ s.mine)
 
 -- a session that has made no call
 abbrev pub new_session : ℕ → ℕ → TableId → Machine → SessionData
-new_session u n z h = record { uid = u; number = n; calls = 0; seen = []; mine = []; host = z; start = h }
+new_session u n z h = record { uid = u; number = n; calls = 0; known = []; mine = []; host = z; start = h }
 
 -- one for each uid, numbered from n
 abbrev pub new_sessions : ℕ → TableId → Machine → List ℕ → List SessionData
@@ -80,9 +80,9 @@ IsBelow n e = e.session < n
 abbrev pub account_of : SessionData → Account
 account_of s = account s.number s.mine
 
-abbrev pub seen_by : SessionData → List Entry
-seen_by s = s.seen
+abbrev pub known_by : SessionData → List Entry
+known_by s = s.known
 
 -- a seat that owns all these sessions
 abbrev pub gathered : Machine → List SessionData → ℕ → View
-gathered h order b = record { start = Some h; stage = Idle; budget = b; seen = map seen_by order; owns = map account_of order }
+gathered h order b = record { start = Some h; stage = Idle; budget = b; known = map known_by order; owns = map account_of order }

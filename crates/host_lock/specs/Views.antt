@@ -24,10 +24,10 @@ pub record View : Type 0 where
   -- how many calls it may still make
   pub budget : ℕ
   -- beginnings of the journal; a seat that was joined with others has theirs too
-  pub seen : List (List Entry)
+  pub known : List (List Entry)
   -- the sessions that it owns
   pub owns : List Account
 
 -- a seat that was joined into another
 abbrev pub spent : View
-spent = record { start = None; stage = Idle; budget = 0; seen = []; owns = [] }
+spent = record { start = None; stage = Idle; budget = 0; known = []; owns = [] }

@@ -90,23 +90,23 @@ impl CallLog for Vec<Entry> {
 
 /// A call, and the calls before it, which only contracts see.
 #[derive(Drop)]
-struct Calls {
-    before: Option<Snapshot<Calls>>,
+struct EarlierCalls {
+    before: Option<Snapshot<EarlierCalls>>,
     uid: Uid,
     session: usize,
     step: Snapshot<PlainStep>,
     reply: Snapshot<Reply>,
 }
 
-impl Model for Calls {
+impl Model for EarlierCalls {
     ghost use Rattle.std.specs.Prelude.{List, ◌++◌, ◌∷◌, [], length};
     ghost use Rattle.host_lock.specs.declared.journal.Entry.{Entry};
-    ghost use Rattle.host_lock.specs.CallLog.{seen_in};
+    ghost use Rattle.host_lock.specs.CallLog.{known_in};
     ghost use Rattle.host_lock.specs.Journal.{entry};
 
     ghost Value = { List Entry };
 
-    ghost view = { λ c. seen_in c.before ++ entry c.uid c.session c.step.value c.reply.value ∷ [] };
+    ghost view = { λ c. known_in c.before ++ entry c.uid c.session c.step.value c.reply.value ∷ [] };
 
     ghost size = { length };
 }
@@ -114,17 +114,17 @@ impl Model for Calls {
 /// Keeps no call. Only contracts see the calls.
 #[derive(Drop)]
 pub struct Unkept {
-    calls: Option<Snapshot<Calls>>,
+    calls: Option<Snapshot<EarlierCalls>>,
 }
 
 impl Model for Unkept {
     ghost use Rattle.std.specs.Prelude.{List};
     ghost use Rattle.host_lock.specs.declared.journal.Entry.{Entry};
-    ghost use Rattle.host_lock.specs.CallLog.{seen_in};
+    ghost use Rattle.host_lock.specs.CallLog.{known_in};
 
     ghost Value = { List Entry };
 
-    ghost view = { λ u. seen_in u.calls };
+    ghost view = { λ u. known_in u.calls };
 }
 
 impl CallLog for Unkept {
@@ -152,7 +152,7 @@ impl CallLog for Unkept {
         step: &PlainStep,
         reply: &Reply,
     ) -> Result<(), AllocError> {
-        let calls = Calls {
+        let calls = EarlierCalls {
             before: self.calls.take(),
             uid: user,
             session,

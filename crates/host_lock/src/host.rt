@@ -2,7 +2,7 @@
 
 ghost use Rattle.std.specs.Prelude.{◌≡◌, ℕ, ◌+◌, ◌<◌, ◌≤◌, [], ◌∷◌, ◌++◌, List, length, true, false, IfOk, IfErr, OnOk, All, vec_len, reverse, MatchResult, IsErr, ◌↔◌};
 ghost use Rattle.requests.specs.Isolation.{Users};
-ghost use Rattle.host_lock.specs.Answers.{Calls, RefusesFor, GivesBack};
+ghost use Rattle.host_lock.specs.Answers.{AnswersCall, RefusesFor, GivesBack};
 ghost use Rattle.host_lock.specs.Journal.{asked, IsLegal, replay, StartsWith};
 ghost use Rattle.host_lock.specs.History.{history};
 ghost use Rattle.host_lock.specs.Rule.{Each, IsHostTable, fresh_view, opening_view, session_view, start_of, Matches};
@@ -19,8 +19,8 @@ use crate::rule::{HostSeat, HostTable, JoinTwo, SplitOne, TableKey};
 use crate::session::{Session, budget_left};
 use crate::shared_state::SharedState;
 use crate::step::{OwnHandler, plain};
-use crate::turn::turn;
-use crate::view::Slot;
+use crate::turn::serve;
+use crate::view::HostSlot;
 use atomic_table::{Badge, Table};
 use pid_blocks::Uid;
 use requests::{Host, Reply, Step};
@@ -202,7 +202,7 @@ impl<F: Decider + Send + Drop, J: CallLog + Send + Drop> SharedHost<F, J> {
         step: Step<H>,
     ) -> Answer
         requires { IsOf self.now session.old }
-        ensures call { Calls session.old (H.plain step) result session.new }
+        ensures call { AnswersCall session.old (H.plain step) result session.new }
         ensures same { IsSame session.old session.new }
         ensures told { IsTrue session.new }
     {
@@ -214,7 +214,7 @@ impl<F: Decider + Send + Drop, J: CallLog + Send + Drop> SharedHost<F, J> {
         let mut seat = badge.into_seat();
         let plain = plain(&step);
         self.door.enter(rt, &session.announced);
-        let reply = turn(
+        let reply = serve(
             rt,
             alloc,
             &self.table.shared,
@@ -230,12 +230,12 @@ impl<F: Decider + Send + Drop, J: CallLog + Send + Drop> SharedHost<F, J> {
         Answer::Reply(reply)
     }
 
-    /// Returns what the session has seen of the journal, its own calls included, for another session to learn. It makes
+    /// Returns what the session knows of the journal, its own calls included, for another session to learn. It makes
     /// no step of the machine, does not wait and takes no memory.
     pub fn moment(&self, session: &mut Session) -> Moment
         requires { IsOf self.now session.old }
         ensures session { session.new ≡ session.old }
-        ensures moment { (result.seen ≡ session.old.seen) × IsMomentOf self.now result }
+        ensures moment { (result.known ≡ session.old.known) × IsMomentOf self.now result }
     {
         let badge = mem::replace(&mut session.badge, Badge::blank());
         let mut seat = badge.into_seat();
@@ -246,12 +246,12 @@ impl<F: Decider + Send + Drop, J: CallLog + Send + Drop> SharedHost<F, J> {
         }
     }
 
-    /// Lets the session see what another one had seen at the moment. From then on, each call of the session stands in
+    /// Lets the session know what another one knew at the moment. From then on, each call of the session stands in
     /// the journal behind all of that. It makes no step of the machine, does not wait and takes no memory.
     pub fn learn(&self, session: &mut Session, moment: Moment)
         requires session { IsOf self.now session.old }
         requires moment { IsMomentOf self.now moment }
-        ensures learns { Learns moment.seen session.old session.new }
+        ensures learns { Learns moment.known session.old session.new }
         ensures told { IsTrue session.new }
     {
         let shown = moment.into_seat();
@@ -279,7 +279,7 @@ fn make_table<F: Decider + Send + Drop, J: CallLog + Send + Drop>(
     };
     let state = opening_state(alloc, host, calls)?;
     let mut slots = Vec::with_capacity(alloc, 1)?;
-    slots.push_reserved(Slot::There(state));
+    slots.push_reserved(HostSlot::Present(state));
     match Table::new(alloc, &[0, 0, 0], slots, &about) {
         Ok(made) => Ok(made),
         Err(_) => Err(AllocError),
@@ -391,7 +391,7 @@ fn take_state<F: Decider + Send + Drop, J: CallLog + Send + Drop>(
     requires table { IsHostTable table.shared.table_id × (seat.table_id ≡ table.shared.table_id) }
     requires all { (seat.me.0.stage ≡ Idle) × (table.shared.key.sessions ≤ length seat.me.0.owns) }
     ensures start { result.start ≡ table.shared.key.start.value }
-    ensures seen { Each (StartsWith result.log) seat.me.0.seen }
+    ensures known { Each (StartsWith result.log) seat.me.0.known }
     ensures owns { Each (Matches table.shared.key.sessions result.log) seat.me.0.owns }
     ensures entries { Each (IsBelow table.shared.key.sessions) result.log }
 {
@@ -399,7 +399,7 @@ fn take_state<F: Decider + Send + Drop, J: CallLog + Send + Drop>(
     let slot = closed.take(0);
     closed.free();
     match slot {
-        Slot::There(state) => state,
-        Slot::Away(_, _) => unreachable!(),
+        HostSlot::Present(state) => state,
+        HostSlot::Taken(_, _) => unreachable!(),
     }
 }

@@ -2,7 +2,7 @@
 
 ghost use Rattle.std.specs.Prelude.{◌≡◌, []};
 ghost use Rattle.host_lock.specs.Journal.{IsLegal, entries_of};
-ghost use Rattle.host_lock.specs.Rule.{HasLearned, IsHostTable, mine_of, moment_view, seen_of, session_view, shown, start_of};
+ghost use Rattle.host_lock.specs.Rule.{HasLearned, IsHostTable, mine_of, moment_view, known_of, session_view, shown, start_of};
 ghost use Rattle.host_lock.specs.Views.{Idle};
 
 use crate::call_log::CallLog;
@@ -12,7 +12,7 @@ use atomic_table::Badge;
 use std::marker::Model;
 use stop_handlers::Decider;
 
-/// What a session had seen of the journal: its own answered calls, and all calls before them. Any thread may be given
+/// What a session knew of the journal: its own answered calls, and all calls before them. Any thread may be given
 /// it. Contracts see these entries.
 #[derive(Drop)]
 pub struct Moment {
@@ -22,34 +22,34 @@ pub struct Moment {
 impl Model for Moment {
     ghost use Rattle.std.specs.Prelude.{◌≡◌, [], ◌∷◌};
     ghost use Rattle.host_lock.specs.Sessions.{MomentData};
-    ghost use Rattle.host_lock.specs.Rule.{start_of, seen_of, view_in, moment_view};
+    ghost use Rattle.host_lock.specs.Rule.{start_of, known_of, view_in, moment_view};
     ghost use Rattle.host_lock.specs.Journal.{IsLegal};
 
     ghost Value = { MomentData };
 
     ghost view = { λ m. record {
-      seen = seen_of (view_in m.badge.views);
+      known = known_of (view_in m.badge.views);
       host = m.badge.table_id;
       start = start_of (view_in m.badge.views);
     } };
 
     ghost invariant = { λ m.
-        (m.badge.views ≡ moment_view (start_of (view_in m.badge.views)) (seen_of (view_in m.badge.views)) ∷ [])
-        × IsLegal (start_of (view_in m.badge.views)) (seen_of (view_in m.badge.views)) };
+        (m.badge.views ≡ moment_view (start_of (view_in m.badge.views)) (known_of (view_in m.badge.views)) ∷ [])
+        × IsLegal (start_of (view_in m.badge.views)) (known_of (view_in m.badge.views)) };
 }
 
 impl Moment {
     pub(crate) fn into_seat<F: Decider + Send + Drop, J: CallLog + Send + Drop>(
         self,
     ) -> HostSeat<F, J>
-        ensures { (result.table_id ≡ self.host) × (result.me ≡ (moment_view self.start self.seen, [])) × IsLegal self.start self.seen }
+        ensures { (result.table_id ≡ self.host) × (result.me ≡ (moment_view self.start self.known, [])) × IsLegal self.start self.known }
     {
         let Moment { badge } = self;
         badge.into_seat()
     }
 }
 
-/// Splits off a seat that has seen the same, and owns no session.
+/// Splits off a seat that knows the same, and owns no session.
 pub(crate) fn show<F: Decider + Send + Drop, J: CallLog + Send + Drop>(
     table: &SharedTable<F, J>,
     seat: &mut HostSeat<F, J>,
@@ -63,7 +63,7 @@ pub(crate) fn show<F: Decider + Send + Drop, J: CallLog + Send + Drop>(
     table.split_seat::<Show>(seat)
 }
 
-/// Lets the seat of a session see what another seat has seen, which is given up. No word of the table changes.
+/// Lets the seat of a session know what another seat knows, which is given up. No word of the table changes.
 pub(crate) fn learn<F: Decider + Send + Drop, J: CallLog + Send + Drop>(
     table: &SharedTable<F, J>,
     seat: &mut HostSeat<F, J>,
@@ -71,12 +71,12 @@ pub(crate) fn learn<F: Decider + Send + Drop, J: CallLog + Send + Drop>(
     shown: HostSeat<F, J>,
 )
     requires table { IsHostTable table.now.table_id × (seat.old.table_id ≡ table.now.table_id) × (shown.table_id ≡ table.now.table_id) }
-    requires rests { seat.old.me ≡ (session_view (start_of seat.old.me.0) Idle seat.old.me.0.budget (seen_of seat.old.me.0) number (mine_of seat.old.me.0), []) }
-    requires shown { shown.me ≡ (moment_view (start_of seat.old.me.0) (seen_of shown.me.0), []) }
-    requires legal { IsLegal (start_of seat.old.me.0) (seen_of seat.old.me.0) × IsLegal (start_of seat.old.me.0) (seen_of shown.me.0) }
-    requires own { entries_of number (seen_of seat.old.me.0) ≡ mine_of seat.old.me.0 }
+    requires rests { seat.old.me ≡ (session_view (start_of seat.old.me.0) Idle seat.old.me.0.budget (known_of seat.old.me.0) number (mine_of seat.old.me.0), []) }
+    requires shown { shown.me ≡ (moment_view (start_of seat.old.me.0) (known_of shown.me.0), []) }
+    requires legal { IsLegal (start_of seat.old.me.0) (known_of seat.old.me.0) × IsLegal (start_of seat.old.me.0) (known_of shown.me.0) }
+    requires own { entries_of number (known_of seat.old.me.0) ≡ mine_of seat.old.me.0 }
     ensures table { seat.new.table_id ≡ seat.old.table_id }
-    ensures learned { HasLearned seat.old.me.0 number (seen_of shown.me.0) seat.new.me }
+    ensures learned { HasLearned seat.old.me.0 number (known_of shown.me.0) seat.new.me }
 {
     table.join_seat::<JoinTwo>(seat, shown);
     table.load::<Learn>(seat, 0);

@@ -3,7 +3,7 @@
 ghost use Rattle.host_lock.specs.Rule.{drew, turned, counted, released, learned};
 
 use crate::call_log::CallLog;
-use crate::view::{Slot, View};
+use crate::view::{HostSlot, View};
 use atomic_table::{Join, Play, Seat, Shared, Split, Table, TableRule};
 use requests::Host;
 use std::alloc::Global;
@@ -19,8 +19,11 @@ pub struct TableKey<F: Decider + Send + Drop> {
 
 pub struct HostRule;
 
-impl<F: Decider + Send + Drop, J: CallLog + Send + Drop> TableRule<Slot<F, J>, View, TableKey<F>>
-    for HostRule {
+impl<F: Decider + Send + Drop, J: CallLog + Send + Drop> TableRule<
+    HostSlot<F, J>,
+    View,
+    TableKey<F>,
+> for HostRule {
     ghost use Rattle.host_lock.specs.Rule.{SharedInvariant, opening_view};
 
     ghost holds = { λ o s. SharedInvariant o.start.value o.sessions s };
@@ -28,48 +31,48 @@ impl<F: Decider + Send + Drop, J: CallLog + Send + Drop> TableRule<Slot<F, J>, V
     ghost first = { λ o. opening_view o.start.value o.sessions };
 }
 
-pub type HostTable<F, J> = Table<Slot<F, J>, View, TableKey<F>, HostRule, Global>;
+pub type HostTable<F, J> = Table<HostSlot<F, J>, View, TableKey<F>, HostRule, Global>;
 
-pub type SharedTable<F, J> = Shared<Slot<F, J>, View, TableKey<F>, HostRule>;
+pub type SharedTable<F, J> = Shared<HostSlot<F, J>, View, TableKey<F>, HostRule>;
 
-pub type HostSeat<F, J> = Seat<Slot<F, J>, View>;
+pub type HostSeat<F, J> = Seat<HostSlot<F, J>, View>;
 
 /// Addition to ticket.
 pub(crate) struct Draw;
 
-impl<F: Decider + Send + Drop, J: CallLog + Send + Drop> Play<Slot<F, J>, View> for Draw {
+impl<F: Decider + Send + Drop, J: CallLog + Send + Drop> Play<HostSlot<F, J>, View> for Draw {
     ghost then = { drew };
 }
 
 /// Load of serving. If it is the seat's ticket, the slot is then out with the seat.
 pub(crate) struct Turn;
 
-impl<F: Decider + Send + Drop, J: CallLog + Send + Drop> Play<Slot<F, J>, View> for Turn {
+impl<F: Decider + Send + Drop, J: CallLog + Send + Drop> Play<HostSlot<F, J>, View> for Turn {
     ghost then = { turned };
 }
 
 /// Addition to count: the step of the machine.
 pub(crate) struct Count;
 
-impl<F: Decider + Send + Drop, J: CallLog + Send + Drop> Play<Slot<F, J>, View> for Count {
+impl<F: Decider + Send + Drop, J: CallLog + Send + Drop> Play<HostSlot<F, J>, View> for Count {
     ghost then = { counted };
 }
 
 /// Addition to serving. The state is in the slot again.
 pub(crate) struct Release;
 
-impl<F: Decider + Send + Drop, J: CallLog + Send + Drop> Play<Slot<F, J>, View> for Release {
+impl<F: Decider + Send + Drop, J: CallLog + Send + Drop> Play<HostSlot<F, J>, View> for Release {
     ghost then = { released };
 }
 
-/// Load of serving, by a seat that has seen two beginnings of the journal: it keeps the longer one.
+/// Load of serving, by a seat that knows two beginnings of the journal: it keeps the longer one.
 pub(crate) struct Learn;
 
-impl<F: Decider + Send + Drop, J: CallLog + Send + Drop> Play<Slot<F, J>, View> for Learn {
+impl<F: Decider + Send + Drop, J: CallLog + Send + Drop> Play<HostSlot<F, J>, View> for Learn {
     ghost then = { learned };
 }
 
-/// Splits a seat off, which owns no session and has seen the same.
+/// Splits a seat off, which owns no session and knows the same.
 pub(crate) struct Show;
 
 impl Split<View> for Show {

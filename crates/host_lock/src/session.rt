@@ -16,7 +16,7 @@ use std::marker::Model;
 use stop_handlers::Decider;
 
 /// A session of one user on a shared host. Besides the values of its methods, contracts see the part of the journal
-/// that the session has seen, and the session's own entries.
+/// that the session knows, and the session's own entries.
 #[derive(Drop)]
 pub struct Session {
     pub(crate) uid: Uid,
@@ -30,7 +30,7 @@ pub struct Session {
 impl Model for Session {
     ghost use Rattle.std.specs.Prelude.{◌≡◌, [], ◌∷◌};
     ghost use Rattle.host_lock.specs.Sessions.{SessionData};
-    ghost use Rattle.host_lock.specs.Rule.{start_of, seen_of, mine_of, view_in, IsAtRest};
+    ghost use Rattle.host_lock.specs.Rule.{start_of, known_of, mine_of, view_in, IsAtRest};
     ghost use Rattle.host_lock.specs.Journal.{IsLegal, entries_of};
 
     ghost Value = { SessionData };
@@ -39,7 +39,7 @@ impl Model for Session {
       uid = s.uid;
       number = s.number;
       calls = s.calls_made;
-      seen = seen_of (view_in s.badge.views);
+      known = known_of (view_in s.badge.views);
       mine = mine_of (view_in s.badge.views);
       host = s.badge.table_id;
       start = start_of (view_in s.badge.views);
@@ -48,15 +48,15 @@ impl Model for Session {
     ghost invariant = { λ s.
         (s.badge.views ≡ view_in s.badge.views ∷ [])
         × IsAtRest s.number s.calls_made (view_in s.badge.views)
-        × IsLegal (start_of (view_in s.badge.views)) (seen_of (view_in s.badge.views))
-        × (entries_of s.number (seen_of (view_in s.badge.views)) ≡ mine_of (view_in s.badge.views)) };
+        × IsLegal (start_of (view_in s.badge.views)) (known_of (view_in s.badge.views))
+        × (entries_of s.number (known_of (view_in s.badge.views)) ≡ mine_of (view_in s.badge.views)) };
 }
 
 impl Session {
     pub(crate) fn into_seat<F: Decider + Send + Drop, J: CallLog + Send + Drop>(
         self,
     ) -> HostSeat<F, J>
-        ensures { (result.table_id ≡ self.host) × (result.me ≡ (session_view self.start Idle (max_calls - self.calls) self.seen self.number self.mine, [])) }
+        ensures { (result.table_id ≡ self.host) × (result.me ≡ (session_view self.start Idle (max_calls - self.calls) self.known self.number self.mine, [])) }
     {
         let Session {
             uid: _,

@@ -21,7 +21,7 @@ impl Model for View {
 
 /// The content of slot 0: the host, or the step that is being made, which only contracts see.
 #[derive(Drop)]
-pub enum Slot<F: Decider + Send + Drop, J: CallLog + Send + Drop> {
-    There(SharedState<F, J>),
-    Away(Uid, Snapshot<PlainStep>),
+pub enum HostSlot<F: Decider + Send + Drop, J: CallLog + Send + Drop> {
+    Present(SharedState<F, J>),
+    Taken(Uid, Snapshot<PlainStep>),
 }

@@ -1,11 +1,11 @@
 //! The names of a scenario, as docs/FORMAT.md has them. Written by `tools/format` from format/scenario.toml.
 use event_masks::Call;
-use scenario::StepShape;
+use scenario::BareStep;
 use signals::Disposition;
 use step_types::{Act, Request, Step};
 use stop_handlers::Decision;
 
-pub(crate) fn op_of(step: &StepShape) -> &'static str {
+pub(crate) fn op_of(step: &BareStep) -> &'static str {
     match step {
         Step::Spawn => "spawn",
         Step::Ptrace { .. } => "ptrace",

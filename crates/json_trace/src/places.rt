@@ -1,6 +1,6 @@
 //! The steps of each user.
 use pid_blocks::Uid;
-use scenario::{Scenario, StepShape, USERS};
+use scenario::{BareStep, Scenario, USERS};
 use std::alloc::{AllocError, Global};
 use step_types::Step;
 use stop_handlers::Policy;
@@ -25,7 +25,7 @@ pub(crate) struct Places<'a> {
 pub(crate) struct Place<'a> {
     /// Its number among all users' steps, from 1.
     pub(crate) index: u32,
-    pub(crate) step: &'a StepShape,
+    pub(crate) step: &'a BareStep,
     /// The policy that it installs.
     pub(crate) policy: Option<&'a Policy>,
 }
@@ -33,7 +33,7 @@ pub(crate) struct Place<'a> {
 /// Returns the index of each user's first step, and for each step the index of the same user's step after it.
 fn links_of(
     alloc: Global,
-    steps: &[(Uid, StepShape)],
+    steps: &[(Uid, BareStep)],
 ) -> Result<([u32; USERS], Vec<u32>), AllocError> {
     let mut next = [NO_STEP; USERS];
     let mut after = Vec::from_elem(alloc, NO_STEP, steps.len())?;
@@ -48,7 +48,7 @@ fn links_of(
 }
 
 /// Returns the indices of the installs.
-fn installs_of(alloc: Global, steps: &[(Uid, StepShape)]) -> Result<Vec<u32>, AllocError> {
+fn installs_of(alloc: Global, steps: &[(Uid, BareStep)]) -> Result<Vec<u32>, AllocError> {
     let mut installs = Vec::new(alloc);
     for (index, step) in steps.iter().enumerate() {
         if let Step::Install { .. } = step.1 {
@@ -61,12 +61,12 @@ fn installs_of(alloc: Global, steps: &[(Uid, StepShape)]) -> Result<Vec<u32>, Al
 impl<'a> Places<'a> {
     /// The steps of the scenario. An error means out of memory.
     pub(crate) fn new(alloc: Global, scenario: &'a Scenario) -> Result<Places<'a>, AllocError> {
-        let (next, after) = links_of(alloc, scenario.shapes())?;
+        let (next, after) = links_of(alloc, scenario.bare_steps())?;
         Ok(Places {
             scenario,
             next,
             after,
-            installs: installs_of(alloc, scenario.shapes())?,
+            installs: installs_of(alloc, scenario.bare_steps())?,
         })
     }
 
@@ -75,7 +75,7 @@ impl<'a> Places<'a> {
         let scenario = self.scenario;
         let slot = user.slot();
         let index = self.next[slot];
-        let step = scenario.shapes().get(index as usize)?;
+        let step = scenario.bare_steps().get(index as usize)?;
         self.next[slot] = *self.after.get(index as usize)?;
         let policy = match self.installs.binary_search(&index) {
             Ok(place) => scenario.policies().get(place),

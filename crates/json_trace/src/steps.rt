@@ -4,7 +4,7 @@ use crate::members::{push_flags, push_name, push_nonzero, push_number, push_sign
 use crate::names::{act_name, action_name, call_name, decision_name, op_of, request_name};
 use event_masks::{Call, EventMask};
 use json::Writer;
-use scenario::StepShape;
+use scenario::BareStep;
 use signals::Disposition;
 use std::alloc::AllocError;
 use step_types::{Act, Options, Request, Step};
@@ -116,7 +116,7 @@ fn push_turn(out: &mut Writer, lwp: u32, act: &Act) -> Result<(), AllocError> {
 }
 
 /// Writes the number of the process that makes the call. A turn and a spawn have none.
-fn push_caller(out: &mut Writer, step: &StepShape) -> Result<(), AllocError> {
+fn push_caller(out: &mut Writer, step: &BareStep) -> Result<(), AllocError> {
     match step {
         Step::List { caller }
         | Step::Sigaction { caller, .. }
@@ -130,11 +130,7 @@ fn push_caller(out: &mut Writer, step: &StepShape) -> Result<(), AllocError> {
 }
 
 /// Writes the keys of the step's op after its caller.
-fn push_keys(
-    out: &mut Writer,
-    step: &StepShape,
-    policy: Option<&Policy>,
-) -> Result<(), AllocError> {
+fn push_keys(out: &mut Writer, step: &BareStep, policy: Option<&Policy>) -> Result<(), AllocError> {
     match step {
         Step::Spawn | Step::List { .. } | Step::Handle { .. } => Ok(()),
         Step::Sigaction {
@@ -161,7 +157,7 @@ fn push_keys(
 /// Writes the step as an object, with the policy that it installs.
 pub(crate) fn push_step(
     out: &mut Writer,
-    step: &StepShape,
+    step: &BareStep,
     policy: Option<&Policy>,
 ) -> Result<(), AllocError> {
     out.begin_object()?;

@@ -3,7 +3,7 @@ use Rattle.std.{proofs.Common.{◌≡◌, ℕ, ◌+◌, ◌==◌, count_by, List
 use Rattle.open_sessions.proofs.LineLemmas.{one_result}
 use Rattle.{std.specs.{Prelude.if◌then◌else◌, List.AllByRecursion}, requests.specs.{Isolation.{Ran, Users, host_after, reply_of}, Machine.{Machine}}}
 use Rattle.step_types.specs.{Plain.Asked, declared.Reply.Reply}
-use Rattle.{requests.specs.Run.{replies}, visibility.{specs.Runs.{told, Did}}}
+use Rattle.{requests.specs.Run.{replies}, visibility.{specs.Runs.{reply_given, MakesStep}}}
 use Rattle.{scenario_text.specs.{OneStep.{IsStep}}, scenario.specs.declared.style.Style.Style}
 use Rattle.{scenario.specs.{Lines.{Answered, line, lines_after, text_of}, Runs.paired}, open_sessions.specs.Answers.{LineReply, AnswersLine, step, refused}, line_sessions.specs.Sessions.AnswersLines}
 use Rattle.line_sessions.specs.{Sessions.text_after, Laws.{AreSteps, IsMade, StepsIn, replies_in, none as no_step, step as a_step, refused as no_step_here}}
@@ -16,7 +16,7 @@ record Made (a : Asked) (m : Machine) (r : LineReply) (k : Machine) : Type 0 whe
 made : (text : List ℕ) (a : Asked) (m : Machine) (r : LineReply) (k : Machine) → IsStep text (Ok a) → AnswersLine text m r k → IsMade r → Made a m r k
 made text a m r k is (step b reply after was user did) left =
     let same : b ≡ a = cc (one_result text (Ok b) (Ok a) was is) in
-    let both : Did (Some reply) b.uid b.step m after = subst (λ x. Did (if x then None else Some reply) b.uid b.step m after) left did in
+    let both : MakesStep (Some reply) b.uid b.step m after = subst (λ x. MakesStep (if x then None else Some reply) b.uid b.step m after) left did in
     record { reply = rw (← same) (ap (λ x. Ok (record { uid = b.uid; reply = x })) both.0); host = rw (← same) both.1 }
 made text a m r k is (refused f was) left = cc (one_result text (Ok a) (Err f) is was)
 
@@ -36,9 +36,9 @@ pub record Found (lines : List (List ℕ)) (m : Machine) (rs : List LineReply) (
   pub steps : List Asked
   pub are : StepsIn lines steps
   pub users : Users steps
-  pub ran : Ran steps (map (λ r. told r) (replies_in rs)) m k
+  pub ran : Ran steps (map (λ r. reply_given r) (replies_in rs)) m k
 
-ran_more : (a : Asked) (steps : List Asked) (o : Option Reply) (os : List (Option Reply)) (m n k : Machine) → Did o a.uid a.step m n → Ran steps os n k → Ran (a ∷ steps) (o ∷ os) m k
+ran_more : (a : Asked) (steps : List Asked) (o : Option Reply) (os : List (Option Reply)) (m n k : Machine) → MakesStep o a.uid a.step m n → Ran steps os n k → Ran (a ∷ steps) (o ∷ os) m k
 ran_more a steps None os m n k did ran = rw did.0 at ran
 ran_more a steps (Some r) os m n k did ran = (did.0, rw did.1 at ran)
 
@@ -47,7 +47,7 @@ found_more l lines m n k r rs (step a reply after is user did) rest = record {
   steps = a ∷ rest.steps;
   are = a_step l lines a rest.steps is rest.are;
   users = (user, rest.users);
-  ran = ran_more a rest.steps (told reply) (map (λ r. told r) (replies_in rs)) m after k did rest.ran;
+  ran = ran_more a rest.steps (reply_given reply) (map (λ r. reply_given r) (replies_in rs)) m after k did rest.ran;
 }
 found_more l lines m n k r rs (refused f is) rest = record { steps = rest.steps; are = no_step_here l lines f rest.steps is rest.are; users = rest.users; ran = rest.ran }
 

@@ -1,6 +1,6 @@
 -- The answers of a session, compared with those of scenarios and of hosts that users share.
 use Rattle.std.specs.{Prelude.{◌≡◌, false, List, [], ◌∷◌, ℕ, map, filter_map, option_map, Ok, Err, IfOk}, List.{AllByRecursion, AllZip}, Result.result_ok}
-use Rattle.{requests.specs.{Isolation.Private, Machine.{Machine, empty}}, visibility.specs.Runs.told}
+use Rattle.{requests.specs.{Isolation.Private, Machine.{Machine, empty}}, visibility.specs.Runs.reply_given}
 use Rattle.step_types.specs.{Plain.Asked, Replies.is_memory, declared.Reply.Reply, declared.Settings.Settings}
 use Rattle.{scenario_text.specs.{declared.fault.Fault.Fault, OneStep.IsStep}, scenario.specs.{declared.style.Style.Style, Lines.text, Runs.answers_of}, open_sessions.specs.Answers.LineReply}
 use Rattle.line_sessions.specs.Sessions.{AnswersLines, text_of}
@@ -32,4 +32,4 @@ replies_in answers = filter_map (λ answer. option_map (λ a. a.reply) (result_o
 -- each user's replies, and the user's view at the end, are those of the user's own steps without any other user
 abbrev pub SessionsArePrivate : Type 0
 SessionsArePrivate = (settings : Settings) (lines : List (List ℕ)) (rs : List LineReply) (k : Machine) → AnswersLines lines (empty settings) rs k
-    → (steps : List Asked) × StepsIn lines steps × Private steps (map (λ r. told r) (replies_in rs)) (empty settings) k
+    → (steps : List Asked) × StepsIn lines steps × Private steps (map (λ r. reply_given r) (replies_in rs)) (empty settings) k

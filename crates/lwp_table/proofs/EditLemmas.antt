@@ -1,30 +1,30 @@
 -- A walk along a process's list that changes each row.
 use Rattle.lwp_table.proofs.CommonNames.{◌≡◌, ◌≢◌, ℕ, zero, suc, ◌+◌, ◌-◌, ◌<◌, ◌≤◌, inl, inr, ◌⊎◌, Bool, true, false, rules, List, [], ◌∷◌, Option, Some, None, is_some, count_by, slice_index_or}
-use Rattle.lwp_table.proofs.CommonNames.{slice_set, map, refl, arith, cond, nat_eq, option_map, cases_eq, cases_Bool, nat_tests, same_Some, sum_by-cons, Slab, get, slab_len, with_value, LwpData, Slot}
-use Rattle.lwp_table.proofs.CommonNames.{lwp_of, own_lwp, ComputesRows, LeavesQuiet, IsNearest, up, anywhere, above, Ends, own_node, seen_by, born_row, rows_of, IsIndexed, LwpTableInvariant}
+use Rattle.lwp_table.proofs.CommonNames.{slice_set, map, refl, arith, cond, nat_eq, option_map, cases_eq, cases_Bool, nat_tests, same_Some, sum_by-cons, Slab, get, slab_len, with_value, LwpData, RowNode}
+use Rattle.lwp_table.proofs.CommonNames.{lwp_of, own_lwp, ComputesRows, LeavesQuiet, IsNearest, up, anywhere, above, ListHead, own_node, seen_by, born_row, rows_of, IsIndexed, LwpTableInvariant}
 use Rattle.lwp_table.proofs.WordLemmas.{test_same}
 use Rattle.lwp_table.proofs.KeptLemmas.{LwpTableInvariant-set}
 use Rattle.lwp_table.proofs.IndexLemmas.{came, born_in, born_of, lwp_of-slot, option_same}
 use Rattle.lwp_table.proofs.ListLemmas.{listing-mapped}
 
 -- a slot before and now: its row is changed if it is the process's and was born before `upto`
-pub record IsTurned (returns : LwpData → LwpData → Type 0) (pid upto : ℕ) (a b : Slot) : Type 0 where
+pub record IsTurned (returns : LwpData → LwpData → Type 0) (pid upto : ℕ) (a b : RowNode) : Type 0 where
   pub born : b.born ≡ a.born
   pub own : b.row.pid ≡ a.row.pid
   pub row : ((a.row.pid ≡ pid) × (a.born < upto) × returns a.row b.row) ⊎ ((a.row.pid ≡ pid → upto ≤ a.born) × (b.row ≡ a.row))
 
 -- where the walk is: it has changed the process's rows that were born before `upto`, and is at the link to the next one
-pub record IsEditing (was now : ℕ → Option Slot) (returns : LwpData → LwpData → Type 0) (pid upto : ℕ) (link : Option ℕ) : Type 0 where
+pub record IsEditing (was now : ℕ → Option RowNode) (returns : LwpData → LwpData → Type 0) (pid upto : ℕ) (link : Option ℕ) : Type 0 where
   pub near : IsNearest up (seen_by own_node now) pid (λ k. upto ≤ k) link
-  pub forth : (s : ℕ) (a : Slot) → was s ≡ Some a → (b : Slot) × (now s ≡ Some b) × IsTurned returns pid upto a b
-  pub back : (s : ℕ) (b : Slot) → now s ≡ Some b → (a : Slot) × (was s ≡ Some a)
+  pub forth : (s : ℕ) (a : RowNode) → was s ≡ Some a → (b : RowNode) × (now s ≡ Some b) × IsTurned returns pid upto a b
+  pub back : (s : ℕ) (b : RowNode) → now s ≡ Some b → (a : RowNode) × (was s ≡ Some a)
 
-pub editing-first : (f : ℕ → Option Slot) (returns : LwpData → LwpData → Type 0) (pid : ℕ) (link : Option ℕ) → IsNearest up (seen_by own_node f) pid anywhere link → IsEditing f f returns pid 0 link
+pub editing-first : (f : ℕ → Option RowNode) (returns : LwpData → LwpData → Type 0) (pid : ℕ) (link : Option ℕ) → IsNearest up (seen_by own_node f) pid anywhere link → IsEditing f f returns pid 0 link
 editing-first f returns pid link near = grind (arith, nat_tests)
 
 -- the process's rows that were born before `upto` have no pending signals, unless `may` says so
-abbrev pub IsSeen : (ℕ → Option Slot) → ℕ → ℕ → Bool → Type 0
-IsSeen now pid upto may = may ≡ false → (s : ℕ) (slot : Slot) → now s ≡ Some slot → slot.row.pid ≡ pid → slot.born < upto → slot.row.pending ≡ 0
+abbrev pub IsSeen : (ℕ → Option RowNode) → ℕ → ℕ → Bool → Type 0
+IsSeen now pid upto may = may ≡ false → (s : ℕ) (slot : RowNode) → now s ≡ Some slot → slot.row.pid ≡ pid → slot.born < upto → slot.row.pending ≡ 0
 
 -- nothing is said of the process that is walked
 pub unsaid : (pid : ℕ) (may : ℕ → Bool) (p : ℕ) → cond (nat_eq pid p) true (may p) ≡ false → may p ≡ false
@@ -34,31 +34,31 @@ pub unsaid-own : (pid p : ℕ) (may : ℕ → Bool) → p ≡ pid → cond (nat_
 unsaid-own pid p may is = rw (is, test_same pid) refl
 
 -- how many births are left from a link on
-abbrev pub left_in : ℕ → Option Slot → ℕ
+abbrev pub left_in : ℕ → Option RowNode → ℕ
 left_in births None = 0
 left_in births (Some slot) = births - slot.born
 
-abbrev pub left_at : (ℕ → Option Slot) → ℕ → Option ℕ → ℕ
+abbrev pub left_at : (ℕ → Option RowNode) → ℕ → Option ℕ → ℕ
 left_at f births None = 0
 left_at f births (Some s) = left_in births (f s)
 
-module _ (was now : ℕ → Option Slot) (returns : LwpData → LwpData → Type 0) (pid upto s : ℕ) (walk : IsEditing was now returns pid upto (Some s)) where
+module _ (was now : ℕ → Option RowNode) (returns : LwpData → LwpData → Type 0) (pid upto s : ℕ) (walk : IsEditing was now returns pid upto (Some s)) where
   -- the slot at which the walk is
-  pub editing-there : (b : Slot) × (now s ≡ Some b)
+  pub editing-there : (b : RowNode) × (now s ≡ Some b)
   editing-there = let slot = came own_node (now s) walk.near.0 walk.near.1 in (slot.0, slot.1)
 
-  module _ (b : Slot) (had : now s ≡ Some b) where
+  module _ (b : RowNode) (had : now s ≡ Some b) where
     pub here : (b.row.pid ≡ pid) × (upto ≤ b.born)
     here = grind (arith, nat_tests, came, same_Some)
 
     -- its row is as it was
-    pub untouched : (a : Slot) → was s ≡ Some a → b.row ≡ a.row
+    pub untouched : (a : RowNode) → was s ≡ Some a → b.row ≡ a.row
     untouched a there = grind (arith, nat_tests, same_Some, here)
 
     -- the row is changed, and the walk goes on
-    module _ (new : LwpData) (g : ℕ → Option Slot) (its : new.pid ≡ b.row.pid) (gave : returns b.row new) (has : g s ≡ Some (record b { row = new })) (others : (j : ℕ) → j ≢ s → g j ≡ now j)
-        (apart : (i j : ℕ) (a b : Slot) → now i ≡ Some a → now j ≡ Some b → a.born ≡ b.born → i ≡ j) (next : IsNearest up (seen_by own_node now) pid (above b.born) b.own.next) where
-      forth_on : (j : ℕ) (a : Slot) → was j ≡ Some a → (c : Slot) × (g j ≡ Some c) × IsTurned returns pid (b.born + 1) a c
+    module _ (new : LwpData) (g : ℕ → Option RowNode) (its : new.pid ≡ b.row.pid) (gave : returns b.row new) (has : g s ≡ Some (record b { row = new })) (others : (j : ℕ) → j ≢ s → g j ≡ now j)
+        (apart : (i j : ℕ) (a b : RowNode) → now i ≡ Some a → now j ≡ Some b → a.born ≡ b.born → i ≡ j) (next : IsNearest up (seen_by own_node now) pid (above b.born) b.own.next) where
+      forth_on : (j : ℕ) (a : RowNode) → was j ≡ Some a → (c : RowNode) × (g j ≡ Some c) × IsTurned returns pid (b.born + 1) a c
       forth_on j a there =
           let to = walk.forth j a there in
           elim (cases_eq j s) [
@@ -81,37 +81,37 @@ module _ (was now : ℕ → Option Slot) (returns : LwpData → LwpData → Type
     old_row es births rows indexed seen = grind (arith, nat_tests, walk.back s b, lwp_of-slot was es births indexed s, untouched)
 
 -- a table with another row in a slot, of the same number and process
-module _ {f : ℕ → Option Slot} {es : List (ℕ × ℕ)} {hs : List (ℕ × Ends)} {all : Ends} {births : ℕ} {users : List ℕ} {may : ℕ → Bool} (kept : LwpTableInvariant f es hs all births users may) where
-  pub LwpTableInvariant-edited : (s : ℕ) (b : Slot) (new : LwpData) (g : ℕ → Option Slot) → (may new.pid ≡ false → new.pending ≡ 0) → f s ≡ Some b → (new.tid ≡ b.row.tid) × (new.pid ≡ b.row.pid) → g s ≡ Some (record b { row = new }) → ((j : ℕ) → j ≢ s → g j ≡ f j) → LwpTableInvariant g es hs all births users may
+module _ {f : ℕ → Option RowNode} {es : List (ℕ × ℕ)} {hs : List (ℕ × ListHead)} {all : ListHead} {births : ℕ} {users : List ℕ} {may : ℕ → Bool} (kept : LwpTableInvariant f es hs all births users may) where
+  pub LwpTableInvariant-edited : (s : ℕ) (b : RowNode) (new : LwpData) (g : ℕ → Option RowNode) → (may new.pid ≡ false → new.pending ≡ 0) → f s ≡ Some b → (new.tid ≡ b.row.tid) × (new.pid ≡ b.row.pid) → g s ≡ Some (record b { row = new }) → ((j : ℕ) → j ≢ s → g j ≡ f j) → LwpTableInvariant g es hs all births users may
   LwpTableInvariant-edited s b new g calm had its has others = grind (arith, nat_tests, lwp_of-slot f es births kept.indexed s b had, LwpTableInvariant-set kept new s b g)
 
 -- a write in place leaves as many values
-len-set : (xs : List (Option Slot)) (key : ℕ) (old new : Slot) → slice_index_or xs key None ≡ Some old → count_by is_some (slice_set xs key (Some new)) ≡ count_by is_some xs
+len-set : (xs : List (Option RowNode)) (key : ℕ) (old new : RowNode) → slice_index_or xs key None ≡ Some old → count_by is_some (slice_set xs key (Some new)) ≡ count_by is_some xs
 len-set [] key old new is = search (rules)
 len-set (x ∷ xs) zero old new is = search (rules, sum_by-cons)
 len-set (x ∷ xs) (suc key) old new is = search (rules, len-set xs key old new is, sum_by-cons)
 
-pub len-same : (slab : Slab Slot) (key : ℕ) (old new : Slot) → get slab key ≡ Some old → slab_len (with_value slab key new) ≡ slab_len slab
+pub len-same : (slab : Slab RowNode) (key : ℕ) (old new : RowNode) → get slab key ≡ Some old → slab_len (with_value slab key new) ≡ slab_len slab
 len-same slab key old new is = len-set slab.slots key old new is
 
 -- fewer births are left at the next link
-pub editing-less : (was g : ℕ → Option Slot) (returns : LwpData → LwpData → Type 0) (pid births born : ℕ) (link : Option ℕ) → IsEditing was g returns pid (born + 1) link → born < births → left_at g births link < births - born
+pub editing-less : (was g : ℕ → Option RowNode) (returns : LwpData → LwpData → Type 0) (pid births born : ℕ) (link : Option ℕ) → IsEditing was g returns pid (born + 1) link → born < births → left_at g births link < births - born
 editing-less was g returns pid births born link walk less = grind (arith, nat_tests, came)
 
 -- at the end of the list, each row of the process was seen
-pub seen-all : (was now : ℕ → Option Slot) (returns : LwpData → LwpData → Type 0) (pid upto : ℕ) (may : Bool) → IsEditing was now returns pid upto None → IsSeen now pid upto may
-    → may ≡ false → (s : ℕ) (slot : Slot) → now s ≡ Some slot → slot.row.pid ≡ pid → slot.row.pending ≡ 0
+pub seen-all : (was now : ℕ → Option RowNode) (returns : LwpData → LwpData → Type 0) (pid upto : ℕ) (may : Bool) → IsEditing was now returns pid upto None → IsSeen now pid upto may
+    → may ≡ false → (s : ℕ) (slot : RowNode) → now s ≡ Some slot → slot.row.pid ≡ pid → slot.row.pending ≡ 0
 seen-all was now returns pid upto may walk seen none s slot there on = grind (arith, nat_tests, walk.near s (own_node slot), seen)
 
 -- where no row of the process has pending signals, a change leaves the rows if it leaves such rows
-module _ (f : ℕ → Option Slot) (es : List (ℕ × ℕ)) (births pid : ℕ) (quiet : (s : ℕ) (slot : Slot) → f s ≡ Some slot → slot.row.pid ≡ pid → slot.row.pending ≡ 0) (change : LwpData → LwpData) (leaves : LeavesQuiet change) where
+module _ (f : ℕ → Option RowNode) (es : List (ℕ × ℕ)) (births pid : ℕ) (quiet : (s : ℕ) (slot : RowNode) → f s ≡ Some slot → slot.row.pid ≡ pid → slot.row.pending ≡ 0) (change : LwpData → LwpData) (leaves : LeavesQuiet change) where
   pub rows-quiet : rows_of f es births ≡ map (own_lwp pid change) (rows_of f es births)
   rows-quiet = grind (arith, nat_tests, listing-mapped, born_in)
 
 -- at the end of the list, the rows are those by the definition
-module _ (was now : ℕ → Option Slot) (es : List (ℕ × ℕ)) (births : ℕ) (before : IsIndexed was es births) (after : IsIndexed now es births) (returns : LwpData → LwpData → Type 0) (pid upto : ℕ)
+module _ (was now : ℕ → Option RowNode) (es : List (ℕ × ℕ)) (births : ℕ) (before : IsIndexed was es births) (after : IsIndexed now es births) (returns : LwpData → LwpData → Type 0) (pid upto : ℕ)
     (walk : IsEditing was now returns pid upto None) (change : LwpData → LwpData) (computes : ComputesRows returns (rows_of was es births) change) where
-  turned : (s : ℕ) (a b : Slot) → was s ≡ Some a → now s ≡ Some b → IsTurned returns pid upto a b → b.row ≡ own_lwp pid change a.row
+  turned : (s : ℕ) (a b : RowNode) → was s ≡ Some a → now s ≡ Some b → IsTurned returns pid upto a b → b.row ≡ own_lwp pid change a.row
   turned s a b there is to = grind (arith, nat_tests, computes a.row b.row, lwp_of-slot was es births before s a there, walk.near s (own_node b))
 
   pub rows_of-edited : rows_of now es births ≡ map (own_lwp pid change) (rows_of was es births)

@@ -1,8 +1,8 @@
 -- What a table keeps after each change, and the rows that it then has.
 use Rattle.lwp_table.proofs.CommonNames.{◌≡◌, ◌≢◌, ℕ, ◌+◌, ◌-◌, ◌<◌, ◌≤◌, Bool, true, false, ◌&&◌, ◌||◌, not, List, [], ◌∷◌, ◌++◌, Option, Some, None, IsSome, IfSome, is_some, refl, sym, ap, subst}
 use Rattle.lwp_table.proofs.CommonNames.{◌∙◌, arith, inl, inr, cond, nat_eq, is_none, length, count_by, get_or, set, unwrap_or, replicate, rules, lookup, option_map, option_or, IsSomeAnd, eqb_tells}
-use Rattle.lwp_table.proofs.CommonNames.{nat_tests, same_Some, get_or-replicate, length-map, LwpData, Slot, Ends, lwp_of, put_lwp, with_lwp, without_lwp, Differ, Node, IsNearest, IsChain}
-use Rattle.lwp_table.proofs.CommonNames.{up, down, anywhere, joined, own_node, seen_by, all_node, is_of, is_at, place_of, linked, closed_up, ends_at, may_pend, marked, no_ends}
+use Rattle.lwp_table.proofs.CommonNames.{nat_tests, same_Some, get_or-replicate, length-map, LwpData, RowNode, ListHead, lwp_of, put_lwp, with_lwp, without_lwp, Differ, Node, IsNearest, IsChain}
+use Rattle.lwp_table.proofs.CommonNames.{up, down, anywhere, joined, own_node, seen_by, all_node, is_of, is_at, place_of, linked, closed_up, ends_at, may_pend, marked, empty_head}
 use Rattle.lwp_table.proofs.CommonNames.{born_row, rows_of, IsIndexed, LwpTableInvariant}
 use Rattle.lwp_table.specs.declared.links.Link.TheVariants.{NextOwn, NextAll}
 use Rattle.lwp_table.proofs.WordLemmas.{both_calm, test_same, test_apart}
@@ -15,23 +15,23 @@ use Rattle.lwp_table.proofs.IndexLemmas.{some_and, came, carried, differ, face, 
 use Rattle.lwp_table.proofs.IndexLemmas.{rows_of-set}
 
 -- a slot that has a value keeps one
-pub onto : (f g : ℕ → Option Slot) (l : ℕ → Slot → Slot) → ((s : ℕ) → g s ≡ option_map (l s) (f s)) → (o : Option ℕ) → IfSome o (λ s. IsSome (f s)) → IfSome o (λ s. IsSome (g s))
+pub onto : (f g : ℕ → Option RowNode) (l : ℕ → RowNode → RowNode) → ((s : ℕ) → g s ≡ option_map (l s) (f s)) → (o : Option ℕ) → IfSome o (λ s. IsSome (f s)) → IfSome o (λ s. IsSome (g s))
 onto f g l links o there = grind (arith, nat_tests)
 
 -- what a list sees of slots: their births differ, and all are below the next one
-module _ (f : ℕ → Option Slot) (node : Slot → Node) (keys : (slot : Slot) → (node slot).key ≡ slot.born) where
-  pub nodes_apart : ((i j : ℕ) (a b : Slot) → f i ≡ Some a → f j ≡ Some b → a.born ≡ b.born → i ≡ j) → AreApart (seen_by node f)
+module _ (f : ℕ → Option RowNode) (node : RowNode → Node) (keys : (slot : RowNode) → (node slot).key ≡ slot.born) where
+  pub nodes_apart : ((i j : ℕ) (a b : RowNode) → f i ≡ Some a → f j ≡ Some b → a.born ≡ b.born → i ≡ j) → AreApart (seen_by node f)
   nodes_apart apart i j a b there_a there_b same = search (rules, came, keys)
 
-  pub nodes_earlier : (births : ℕ) → ((s : ℕ) (slot : Slot) → f s ≡ Some slot → slot.born < births) → (s : ℕ) (was : Node) → option_map node (f s) ≡ Some was → was.key < births
+  pub nodes_earlier : (births : ℕ) → ((s : ℕ) (slot : RowNode) → f s ≡ Some slot → slot.born < births) → (s : ℕ) (was : Node) → option_map node (f s) ≡ Some was → was.key < births
   nodes_earlier births earlier s was there = let x = came node (f s) was there in omega (arith, earlier s x.0 x.1, ap (λ n. n.key) x.2, keys x.0)
 
 -- one slot is taken or vacated, and then each slot is changed on its own: what is seen of the others
-module _ (f mid g : ℕ → Option Slot) (q : ℕ) (others : (s : ℕ) → s ≢ q → mid s ≡ f s) (l : ℕ → Slot → Slot) (links : (s : ℕ) → g s ≡ option_map (l s) (mid s)) where
-  pub seen : {X : Type 0} (h : Slot → X) (k : ℕ → X → X) → ((s : ℕ) (slot : Slot) → h (l s slot) ≡ k s (h slot)) → (s : ℕ) → s ≢ q → option_map h (g s) ≡ option_map (k s) (option_map h (f s))
+module _ (f mid g : ℕ → Option RowNode) (q : ℕ) (others : (s : ℕ) → s ≢ q → mid s ≡ f s) (l : ℕ → RowNode → RowNode) (links : (s : ℕ) → g s ≡ option_map (l s) (mid s)) where
+  pub seen : {X : Type 0} (h : RowNode → X) (k : ℕ → X → X) → ((s : ℕ) (slot : RowNode) → h (l s slot) ≡ k s (h slot)) → (s : ℕ) → s ≢ q → option_map h (g s) ≡ option_map (k s) (option_map h (f s))
   seen h k same s off = grind (arith, nat_tests)
 
-  pub seen_same : {X : Type 0} (h : Slot → X) → ((s : ℕ) (slot : Slot) → h (l s slot) ≡ h slot) → (s : ℕ) → s ≢ q → option_map h (g s) ≡ option_map h (f s)
+  pub seen_same : {X : Type 0} (h : RowNode → X) → ((s : ℕ) (slot : RowNode) → h (l s slot) ≡ h slot) → (s : ℕ) → s ≢ q → option_map h (g s) ≡ option_map h (f s)
   seen_same h same s off = grind (arith, nat_tests)
 
 -- a list with no first node has no last one
@@ -39,16 +39,16 @@ no_last : (f : ℕ → Option Node) (t : ℕ) (o : Option ℕ) → IsNearest dow
 no_last f t o last first = grind (arith, nat_tests)
 
 -- a list with a slot has a first one
-pub first_there : (f : ℕ → Option Slot) (p : ℕ) (o : Option ℕ) → IsNearest up (seen_by own_node f) p anywhere o → (s : ℕ) (slot : Slot) → f s ≡ Some slot → slot.row.pid ≡ p → is_some o ≡ true
+pub first_there : (f : ℕ → Option RowNode) (p : ℕ) (o : Option ℕ) → IsNearest up (seen_by own_node f) p anywhere o → (s : ℕ) (slot : RowNode) → f s ≡ Some slot → slot.row.pid ≡ p → is_some o ≡ true
 first_there f p None near s slot there on = absurd (near s (own_node slot) (ap (option_map own_node) there) on tt)
 first_there f p (Some a) near s slot there on = refl
 
 -- where processes are said to have no pending signals, one slot changes, and no more of them are said to
-pub quiet_kept : (f g : ℕ → Option Slot) (may more : ℕ → Bool) (q : ℕ) → ((s : ℕ) → s ≢ q → option_map face (g s) ≡ option_map face (f s))
-    → ((s : ℕ) (slot : Slot) → f s ≡ Some slot → may slot.row.pid ≡ false → slot.row.pending ≡ 0)
-    → ((s : ℕ) (slot : Slot) → g s ≡ Some slot → more slot.row.pid ≡ false → may slot.row.pid ≡ false)
-    → ((slot : Slot) → g q ≡ Some slot → more slot.row.pid ≡ false → slot.row.pending ≡ 0)
-    → (s : ℕ) (slot : Slot) → g s ≡ Some slot → more slot.row.pid ≡ false → slot.row.pending ≡ 0
+pub quiet_kept : (f g : ℕ → Option RowNode) (may more : ℕ → Bool) (q : ℕ) → ((s : ℕ) → s ≢ q → option_map face (g s) ≡ option_map face (f s))
+    → ((s : ℕ) (slot : RowNode) → f s ≡ Some slot → may slot.row.pid ≡ false → slot.row.pending ≡ 0)
+    → ((s : ℕ) (slot : RowNode) → g s ≡ Some slot → more slot.row.pid ≡ false → may slot.row.pid ≡ false)
+    → ((slot : RowNode) → g q ≡ Some slot → more slot.row.pid ≡ false → slot.row.pending ≡ 0)
+    → (s : ℕ) (slot : RowNode) → g s ≡ Some slot → more slot.row.pid ≡ false → slot.row.pending ≡ 0
 quiet_kept f g may more q faces quiet lower own s slot there none = grind (arith, nat_tests, carried g f s slot, faces s, quiet s, lower s slot there, own slot)
 
 -- nodes that are the same make the same lists
@@ -56,13 +56,13 @@ IsChain-same : (f g : ℕ → Option Node) (t : ℕ) (first last : Option ℕ) �
 IsChain-same f g t first last same chain = subst (λ h. IsChain h t first last) (λ i s. same s i) chain
 
 -- a row more: its slot is taken, the slots before it are linked to it, and its number finds it
-pub record HasJoined (f : ℕ → Option Slot) (es : List (ℕ × ℕ)) (hs : List (ℕ × Ends)) (all : Ends) (births : ℕ) (row : LwpData) (q : ℕ) (own : Ends) (g : ℕ → Option Slot) (es' : List (ℕ × ℕ)) : Type 0 where
+pub record HasJoined (f : ℕ → Option RowNode) (es : List (ℕ × ℕ)) (hs : List (ℕ × ListHead)) (all : ListHead) (births : ℕ) (row : LwpData) (q : ℕ) (own : ListHead) (g : ℕ → Option RowNode) (es' : List (ℕ × ℕ)) : Type 0 where
   pub own_is : own ≡ ends_at hs row.pid
   pub vacant : f q ≡ None
-  pub taken : ℕ → Option Slot
+  pub taken : ℕ → Option RowNode
   pub put : taken q ≡ Some (record { row = row; born = births; own = record { prev = own.last; next = None }; all = record { prev = all.last; next = None } })
   pub others : (s : ℕ) → s ≢ q → taken s ≡ f s
-  pub listed : ℕ → Option Slot
+  pub listed : ℕ → Option RowNode
   pub links_own : (s : ℕ) → listed s ≡ option_map (linked NextOwn own.last (Some q) s) (taken s)
   pub links_all : (s : ℕ) → g s ≡ option_map (linked NextAll all.last (Some q) s) (listed s)
   pub change : (p : ℕ) → lookup (nat_eq p) es' ≡ cond (nat_eq row.tid p) (Some q) (lookup (nat_eq p) es)
@@ -70,10 +70,10 @@ pub record HasJoined (f : ℕ → Option Slot) (es : List (ℕ × ℕ)) (hs : Li
 
 -- a row less: the one with the number has left its slot, its neighbours are linked, and these are the ends of its
 -- process's list
-pub record HasLeft (f : ℕ → Option Slot) (es : List (ℕ × ℕ)) (hs : List (ℕ × Ends)) (tid q : ℕ) (old : Slot) (g : ℕ → Option Slot) (es' : List (ℕ × ℕ)) (left : Ends) : Type 0 where
+pub record HasLeft (f : ℕ → Option RowNode) (es : List (ℕ × ℕ)) (hs : List (ℕ × ListHead)) (tid q : ℕ) (old : RowNode) (g : ℕ → Option RowNode) (es' : List (ℕ × ℕ)) (left : ListHead) : Type 0 where
   pub at : lookup (nat_eq tid) es ≡ Some q
   pub had : f q ≡ Some old
-  pub rest : ℕ → Option Slot
+  pub rest : ℕ → Option RowNode
   pub gone : rest q ≡ None
   pub others : (s : ℕ) → s ≢ q → rest s ≡ f s
   pub closed : (s : ℕ) → g s ≡ option_map (closed_up old s) (rest s)
@@ -83,7 +83,7 @@ pub record HasLeft (f : ℕ → Option Slot) (es : List (ℕ × ℕ)) (hs : List
   pub count : left.count + 1 ≡ (ends_at hs old.row.pid).count
   pub pends : left.may_pend ≡ (is_some left.first && (ends_at hs old.row.pid).may_pend)
 
-module _ {f : ℕ → Option Slot} {es : List (ℕ × ℕ)} {hs : List (ℕ × Ends)} {all : Ends} {births : ℕ} {users : List ℕ} {may : ℕ → Bool} (kept : LwpTableInvariant f es hs all births users may) where
+module _ {f : ℕ → Option RowNode} {es : List (ℕ × ℕ)} {hs : List (ℕ × ListHead)} {all : ListHead} {births : ℕ} {users : List ℕ} {may : ℕ → Bool} (kept : LwpTableInvariant f es hs all births users may) where
   -- no count is greater than the number of births
   pub own_count : (pid : ℕ) → (ends_at hs pid).count ≤ births
   own_count pid = omega (arith, kept.counted pid, count-below (is_of pid) (born_row f es) 0 births)
@@ -92,16 +92,16 @@ module _ {f : ℕ → Option Slot} {es : List (ℕ × ℕ)} {hs : List (ℕ × E
   all_count = omega (arith, kept.total, length-listing (born_row f es) 0 births)
 
   -- a row more
-  module _ (row : LwpData) (q : ℕ) (own : Ends) (g : ℕ → Option Slot) (es' : List (ℕ × ℕ)) (joins : HasJoined f es hs all births row q own g es') where
-    abbrev new : Slot
+  module _ (row : LwpData) (q : ℕ) (own : ListHead) (g : ℕ → Option RowNode) (es' : List (ℕ × ℕ)) (joins : HasJoined f es hs all births row q own g es') where
+    abbrev new : RowNode
     new = record { row = row; born = births; own = record { prev = own.last; next = None }; all = record { prev = all.last; next = None } }
 
     -- what becomes of each slot
-    abbrev both : ℕ → Slot → Slot
+    abbrev both : ℕ → RowNode → RowNode
     both s slot = linked NextAll all.last (Some q) s (linked NextOwn own.last (Some q) s slot)
 
     own_chain : IsChain (seen_by own_node f) row.pid own.first own.last
-    own_chain = subst (λ (e : Ends). IsChain (seen_by own_node f) row.pid e.first e.last) (sym joins.own_is) (kept.own row.pid)
+    own_chain = subst (λ (e : ListHead). IsChain (seen_by own_node f) row.pid e.first e.last) (sym joins.own_is) (kept.own row.pid)
 
     has : g q ≡ Some new
     has = grind (arith, nat_tests, test_apart, own_chain)
@@ -121,7 +121,7 @@ module _ {f : ℕ → Option Slot} {es : List (ℕ × ℕ)} {hs : List (ℕ × E
     pub rows-added : rows_of g es' (births + 1) ≡ rows_of f es births ++ row ∷ []
     rows-added = rows_of-added f es births kept.indexed g es' q faces new joins.vacant has refl vacant_es joins.change
 
-    module _ (hs' : List (ℕ × Ends)) (first first_all : Option ℕ) (pend : Bool) (first_is : first ≡ option_or own.first (Some q)) (all_is : first_all ≡ option_or all.first (Some q))
+    module _ (hs' : List (ℕ × ListHead)) (first first_all : Option ℕ) (pend : Bool) (first_is : first ≡ option_or own.first (Some q)) (all_is : first_all ≡ option_or all.first (Some q))
         (heads : (p : ℕ) → lookup (nat_eq p) hs' ≡ cond (nat_eq row.pid p) (Some (record { first = first; last = Some q; count = own.count + 1; may_pend = pend })) (lookup (nat_eq p) hs))
         (owner : ℕ) (owner_is : owner ≡ place_of row.tid) (within : owner < 64) (long : length users ≡ 64)
         (told : (p : ℕ) → may_pend hs p ≡ false → may p ≡ false) (calm : pend ≡ false → (own.may_pend ≡ false) × (row.pending ≡ 0)) where
@@ -132,7 +132,7 @@ module _ {f : ℕ → Option Slot} {es : List (ℕ × ℕ)} {hs : List (ℕ × E
       pend_is : (p : ℕ) → row.pid ≡ p → may_pend hs' p ≡ pend
       pend_is p is = grind (arith, nat_tests, ends p)
 
-      lower : (s : ℕ) (slot : Slot) → g s ≡ Some slot → may_pend hs' slot.row.pid ≡ false → may slot.row.pid ≡ false
+      lower : (s : ℕ) (slot : RowNode) → g s ≡ Some slot → may_pend hs' slot.row.pid ≡ false → may slot.row.pid ≡ false
       lower s slot there none = grind (arith, nat_tests, pend_is, ends)
 
       pub LwpTableInvariant-added : LwpTableInvariant g es' hs' (record { first = first_all; last = Some q; count = all.count + 1; may_pend = false }) (births + 1) (set users owner (get_or users owner 0 + 1)) (may_pend hs')
@@ -151,7 +151,7 @@ module _ {f : ℕ → Option Slot} {es : List (ℕ × ℕ)} {hs : List (ℕ × E
             rw all_is (IsChain-appended (seen_by all_node f) (seen_by all_node g) (nodes_apart f all_node (λ slot. refl) kept.indexed.apart) 0 all.first all.last kept.whole q (all_node new) (ap (option_map all_node) joins.vacant) (ap (option_map all_node) has) refl refl refl all_g
             (nodes_earlier f all_node (λ slot. refl) births kept.indexed.earlier));
         counted = λ p. rw (rows-added, count-end (is_of p) (rows_of f es births) row, ends p) (elim (eqb_tells row.pid p) [
-          | inl h ↦ rw h.0 (omega (arith, kept.counted row.pid, ap (λ (e : Ends). e.count) joins.own_is, ap (λ n. count_by (is_of n) (rows_of f es births)) h.1))
+          | inl h ↦ rw h.0 (omega (arith, kept.counted row.pid, ap (λ (e : ListHead). e.count) joins.own_is, ap (λ n. count_by (is_of n) (rows_of f es births)) h.1))
           | inr h ↦ rw h.0 (omega (arith, kept.counted p))
         ]);
         total = rw (rows-added, length-end (rows_of f es births) row) (ap (λ n. n + 1) kept.total);
@@ -161,11 +161,11 @@ module _ {f : ℕ → Option Slot} {es : List (ℕ × ℕ)} {hs : List (ℕ × E
             kept.homes;
         quiet = quiet_kept f g may (may_pend hs') q faces kept.quiet lower
             (λ slot there none. let same = same_Some slot new (sym there ∙ has) in
-            ap (λ (x : Slot). x.row.pending) same ∙ (calm (sym (pend_is slot.row.pid (ap (λ (x : Slot). x.row.pid) (sym same))) ∙ none)).1);
+            ap (λ (x : RowNode). x.row.pending) same ∙ (calm (sym (pend_is slot.row.pid (ap (λ (x : RowNode). x.row.pid) (sym same))) ∙ none)).1);
       }
 
   -- the row of a number's slot is replaced by one of the same LWP
-  module _ (row : LwpData) (q : ℕ) (old : Slot) (g : ℕ → Option Slot) (its : IsSomeAnd (lwp_of row.tid (rows_of f es births)) (λ was. was.pid ≡ row.pid)) (at : lookup (nat_eq row.tid) es ≡ Some q) (had : f q ≡ Some old)
+  module _ (row : LwpData) (q : ℕ) (old : RowNode) (g : ℕ → Option RowNode) (its : IsSomeAnd (lwp_of row.tid (rows_of f es births)) (λ was. was.pid ≡ row.pid)) (at : lookup (nat_eq row.tid) es ≡ Some q) (had : f q ≡ Some old)
       (has : g q ≡ Some (record old { row = row })) (same_g : (s : ℕ) → s ≢ q → g s ≡ f s) where
     found : (old.row.tid ≡ row.tid) × (lwp_of row.tid (rows_of f es births) ≡ Some old.row)
     found = lwp_of-found f es births kept.indexed row.tid q old at had
@@ -177,7 +177,7 @@ module _ {f : ℕ → Option Slot} {es : List (ℕ × ℕ)} {hs : List (ℕ × E
     set_faces s off = ap (option_map face) (same_g s off)
 
     -- neither list sees a change
-    set_nodes : (node : Slot → Node) → node old ≡ node (record old { row = row }) → (s : ℕ) → option_map node (f s) ≡ option_map node (g s)
+    set_nodes : (node : RowNode → Node) → node old ≡ node (record old { row = row }) → (s : ℕ) → option_map node (f s) ≡ option_map node (g s)
     set_nodes node same s = grind (arith, nat_tests, has)
 
     pub rows-set : rows_of g es births ≡ with_lwp row (rows_of f es births)
@@ -203,8 +203,8 @@ module _ {f : ℕ → Option Slot} {es : List (ℕ × ℕ)} {hs : List (ℕ × E
   LwpTableInvariant-may more told = grind (arith, nat_tests)
 
   -- it is noted of one process whether its rows may have pending signals
-  pub LwpTableInvariant-marked : (pid : ℕ) (b : Bool) (hs' : List (ℕ × Ends)) → ((p : ℕ) → ends_at hs' p ≡ cond (nat_eq pid p) (marked b (ends_at hs p)) (ends_at hs p))
-      → (b ≡ false → (s : ℕ) (slot : Slot) → f s ≡ Some slot → slot.row.pid ≡ pid → slot.row.pending ≡ 0)
+  pub LwpTableInvariant-marked : (pid : ℕ) (b : Bool) (hs' : List (ℕ × ListHead)) → ((p : ℕ) → ends_at hs' p ≡ cond (nat_eq pid p) (marked b (ends_at hs p)) (ends_at hs p))
+      → (b ≡ false → (s : ℕ) (slot : RowNode) → f s ≡ Some slot → slot.row.pid ≡ pid → slot.row.pending ≡ 0)
       → ((p : ℕ) → nat_eq pid p ≡ false → may_pend hs p ≡ false → may p ≡ false) → LwpTableInvariant f es hs' all births users (may_pend hs')
   LwpTableInvariant-marked pid b hs' marks calm told = record {
     indexed = kept.indexed;
@@ -217,16 +217,16 @@ module _ {f : ℕ → Option Slot} {es : List (ℕ × ℕ)} {hs : List (ℕ × E
   }
 
   -- it is noted that a row's process may have pending signals, if it may already or the row has some
-  module _ (row : LwpData) (hs' : List (ℕ × Ends)) (told : (p : ℕ) → may_pend hs p ≡ false → may p ≡ false)
+  module _ (row : LwpData) (hs' : List (ℕ × ListHead)) (told : (p : ℕ) → may_pend hs p ≡ false → may p ≡ false)
       (marks : (p : ℕ) → ends_at hs' p ≡ cond (nat_eq row.pid p) (marked (may_pend hs row.pid || not (nat_eq row.pending 0)) (ends_at hs p)) (ends_at hs p)) where
     pub LwpTableInvariant-noted : LwpTableInvariant f es hs' all births users (may_pend hs')
     LwpTableInvariant-noted = grind (arith, nat_tests, LwpTableInvariant-marked, both_calm)
 
-    pub noted : (s : ℕ) (slot : Slot) → f s ≡ Some slot → slot.row.pid ≡ row.pid → may_pend hs' row.pid ≡ false → row.pending ≡ 0
+    pub noted : (s : ℕ) (slot : RowNode) → f s ≡ Some slot → slot.row.pid ≡ row.pid → may_pend hs' row.pid ≡ false → row.pending ≡ 0
     noted s slot there on none = grind (arith, nat_tests, marks row.pid, first_there f row.pid (ends_at hs row.pid).first (kept.own row.pid).first_is s slot there on, both_calm)
 
   -- what is known of a row that goes
-  module _ (q : ℕ) (old : Slot) (had : f q ≡ Some old) where
+  module _ (q : ℕ) (old : RowNode) (had : f q ≡ Some old) where
     -- the counts are those of the other rows and of this one
     counts_without : (p : LwpData → Bool) → count_by p (without_lwp old.row.tid (rows_of f es births)) + cond (p old.row) 1 0 ≡ count_by p (rows_of f es births)
     counts_without p = count-without (λ (l : LwpData). l.tid) p old.row.tid old.row (rows_of f es births) (differ f es births kept.indexed) (lwp_of-slot f es births kept.indexed q old had)
@@ -239,15 +239,15 @@ module _ {f : ℕ → Option Slot} {es : List (ℕ × ℕ)} {hs : List (ℕ × E
     user_positive owner is within = omega (arith, kept.homes owner within, counts_without (is_at owner), ap one (at_yes owner old.row is))
 
     -- its neighbours are in their slots when it has left
-    module _ (rest : ℕ → Option Slot) (others : (s : ℕ) → s ≢ q → rest s ≡ f s) where
-      still : (node : Slot → Node) (le : ℕ → ℕ → Type 0) (t : ℕ) (P : ℕ → Type 0) (o : Option ℕ) → ((n : Slot) → (node n).key ≡ n.born) → (P old.born → ⊥) → IsNearest le (seen_by node f) t P o → IfSome o (λ s. IsSome (rest s))
+    module _ (rest : ℕ → Option RowNode) (others : (s : ℕ) → s ≢ q → rest s ≡ f s) where
+      still : (node : RowNode → Node) (le : ℕ → ℕ → Type 0) (t : ℕ) (P : ℕ → Type 0) (o : Option ℕ) → ((n : RowNode) → (node n).key ≡ n.born) → (P old.born → ⊥) → IsNearest le (seen_by node f) t P o → IfSome o (λ s. IsSome (rest s))
       still node le t P o keys not near = grind (arith, nat_tests, came, same_Some)
 
       pub neighbours : IfSome old.own.prev (λ s. IsSome (rest s)) × IfSome old.own.next (λ s. IsSome (rest s)) × IfSome old.all.prev (λ s. IsSome (rest s)) × IfSome old.all.next (λ s. IsSome (rest s))
       neighbours = grind (arith, nat_tests, still, (kept.own old.row.pid).prev_is q (own_node old), (kept.own old.row.pid).next_is q (own_node old), kept.whole.prev_is q (all_node old), kept.whole.next_is q (all_node old))
 
   -- a row goes
-  module _ (tid q : ℕ) (old : Slot) (g : ℕ → Option Slot) (es' : List (ℕ × ℕ)) (left : Ends) (leaves : HasLeft f es hs tid q old g es' left) where
+  module _ (tid q : ℕ) (old : RowNode) (g : ℕ → Option RowNode) (es' : List (ℕ × ℕ)) (left : ListHead) (leaves : HasLeft f es hs tid q old g es' left) where
     change : (p : ℕ) → lookup (nat_eq p) es' ≡ cond (nat_eq old.row.tid p) None (lookup (nat_eq p) es)
     change = grind (arith, nat_tests, lwp_of-found)
 
@@ -280,17 +280,17 @@ module _ {f : ℕ → Option Slot} {es : List (ℕ × ℕ)} {hs : List (ℕ × E
         (ap (option_map own_node) leaves.had) refl (ap (option_map own_node) gone_g) left_own)
 
     -- a list with no first row is empty
-    pub left_empty : left.first ≡ None → left ≡ no_ends
+    pub left_empty : left.first ≡ None → left ≡ empty_head
     left_empty none = grind (arith, nat_tests, no_last (seen_by own_node g) old.row.pid left.last, chain_left, fewer (is_of old.row.pid), leaves.count, kept.counted old.row.pid, leaves.pends, count-none (is_of old.row.pid) (rows_of g es' births) (grind (arith, nat_tests, first-row g es' births indexed old.row.pid None, chain_left)))
 
-    module _ (hs' : List (ℕ × Ends)) (all' : Ends) (ends : (p : ℕ) → ends_at hs' p ≡ cond (nat_eq old.row.pid p) left (ends_at hs p))
+    module _ (hs' : List (ℕ × ListHead)) (all' : ListHead) (ends : (p : ℕ) → ends_at hs' p ≡ cond (nat_eq old.row.pid p) left (ends_at hs p))
         (all_first : all'.first ≡ cond (is_none old.all.prev) old.all.next all.first) (all_last : all'.last ≡ cond (is_none old.all.next) old.all.prev all.last) (all_fewer : all'.count + 1 ≡ all.count)
         (owner : ℕ) (owner_is : owner ≡ place_of tid) (within : owner < 64) (long : length users ≡ 64) (told : (p : ℕ) → may_pend hs p ≡ false → may p ≡ false) where
       its_owner : owner ≡ place_of old.row.tid
       its_owner = grind (arith, nat_tests, lwp_of-found)
 
       -- a row is left in the list, so the ends tell of pending signals as before
-      lower_left : (s : ℕ) (slot : Slot) → g s ≡ Some slot → may_pend hs' slot.row.pid ≡ false → may slot.row.pid ≡ false
+      lower_left : (s : ℕ) (slot : RowNode) → g s ≡ Some slot → may_pend hs' slot.row.pid ≡ false → may slot.row.pid ≡ false
       lower_left s slot there none = grind (arith, nat_tests, eqb_tells old.row.pid slot.row.pid, first_there g slot.row.pid left.first, ends slot.row.pid, chain_left)
 
       pub LwpTableInvariant-removed : LwpTableInvariant g es' hs' all' births (set users owner (get_or users owner 0 - 1)) (may_pend hs')
@@ -318,7 +318,7 @@ module _ {f : ℕ → Option Slot} {es : List (ℕ × ℕ)} {hs : List (ℕ × E
 IsChain-none : (f : ℕ → Option Node) (t : ℕ) → ((s : ℕ) → f s ≡ None) → IsChain f t None None
 IsChain-none f t none = grind (arith, nat_tests)
 
-pub LwpTableInvariant-none : (f : ℕ → Option Slot) (es : List (ℕ × ℕ)) (hs : List (ℕ × Ends)) → ((s : ℕ) → f s ≡ None) → es ≡ [] → hs ≡ [] → LwpTableInvariant f es hs no_ends 0 (replicate 64 0) (may_pend hs)
+pub LwpTableInvariant-none : (f : ℕ → Option RowNode) (es : List (ℕ × ℕ)) (hs : List (ℕ × ListHead)) → ((s : ℕ) → f s ≡ None) → es ≡ [] → hs ≡ [] → LwpTableInvariant f es hs empty_head 0 (replicate 64 0) (may_pend hs)
 LwpTableInvariant-none f es hs none no_es no_hs = record {
   indexed = grind (arith, nat_tests);
   own = λ p. grind (arith, nat_tests, IsChain-none);
@@ -330,5 +330,5 @@ LwpTableInvariant-none f es hs none no_es no_hs = record {
 }
 
 -- the rows that contracts see have numbers that differ
-pub differ_seen : {f : ℕ → Option Slot} {es : List (ℕ × ℕ)} {births : ℕ} {rows : List LwpData} → IsIndexed f es births → rows_of f es births ≡ rows → Differ rows
+pub differ_seen : {f : ℕ → Option RowNode} {es : List (ℕ × ℕ)} {births : ℕ} {rows : List LwpData} → IsIndexed f es births → rows_of f es births ≡ rows → Differ rows
 differ_seen {f} {es} {births} {rows} indexed seen = subst Differ seen (differ f es births indexed)

@@ -5,9 +5,9 @@ use Rattle.std.specs.Option.{option_and_then, option_map, option_map_or}
 use Rattle.std.specs.Map.{lookup}
 use Rattle.pid_blocks.specs.Blocks.{slot, tid_owner}
 use Rattle.lwp_table.specs.declared.LwpData.{LwpData}
-use Rattle.lwp_table.specs.declared.links.Slot.{Slot}
+use Rattle.lwp_table.specs.declared.links.RowNode.{RowNode}
 use Rattle.lwp_table.specs.declared.links.Links.{Links}
-use Rattle.lwp_table.specs.declared.links.Ends.{Ends}
+use Rattle.lwp_table.specs.declared.links.ListHead.{ListHead}
 use Rattle.lwp_table.specs.declared.links.Link.{Link}
 use Rattle.lwp_table.specs.declared.links.Link.TheVariants.{NextOwn, PrevOwn, NextAll, PrevAll}
 use Rattle.lwp_table.specs.Chain.{Node, IsChain, IsNearest, up, above, leads_to}
@@ -25,14 +25,14 @@ abbrev pub is_at : ℕ → LwpData → Bool
 is_at place row = place_of row.tid == place
 
 -- the slot as its process's list sees it, and as the list of all rows does
-abbrev pub own_node : Slot → Node
+abbrev pub own_node : RowNode → Node
 own_node slot = record { key = slot.born; list = slot.row.pid; prev = slot.own.prev; next = slot.own.next }
 
-abbrev pub all_node : Slot → Node
+abbrev pub all_node : RowNode → Node
 all_node slot = record { key = slot.born; list = 0; prev = slot.all.prev; next = slot.all.next }
 
 -- the slots as a list sees them
-abbrev pub seen_by : (Slot → Node) → (ℕ → Option Slot) → ℕ → Option Node
+abbrev pub seen_by : (RowNode → Node) → (ℕ → Option RowNode) → ℕ → Option Node
 seen_by node f s = option_map node (f s)
 
 -- a link of the slot s, after that of the slot `at` was changed
@@ -40,7 +40,7 @@ abbrev pub turned : Option ℕ → Option ℕ → ℕ → Option ℕ → Option 
 turned at to s link = if leads_to at s then to else link
 
 -- the slot s, after the link of the slot `at` was changed
-abbrev pub linked : Link → Option ℕ → Option ℕ → ℕ → Slot → Slot
+abbrev pub linked : Link → Option ℕ → Option ℕ → ℕ → RowNode → RowNode
 linked NextOwn at to s slot = record slot { own = record slot.own { next = turned at to s slot.own.next } }
 linked PrevOwn at to s slot = record slot { own = record slot.own { prev = turned at to s slot.own.prev } }
 linked NextAll at to s slot = record slot { all = record slot.all { next = turned at to s slot.all.next } }
@@ -51,27 +51,27 @@ abbrev pub passed_by : Links → ℕ → Links → Links
 passed_by gone s links = record { prev = turned gone.next gone.prev s links.prev; next = turned gone.prev gone.next s links.next }
 
 -- the slot s, after its neighbour has left both lists
-abbrev pub closed_up : Slot → ℕ → Slot → Slot
+abbrev pub closed_up : RowNode → ℕ → RowNode → RowNode
 closed_up gone s slot = record slot { own = passed_by gone.own s slot.own; all = passed_by gone.all s slot.all }
 
 -- the ends of an empty list
-abbrev pub no_ends : Ends
-no_ends = record { first = None; last = None; count = 0; may_pend = false }
+abbrev pub empty_head : ListHead
+empty_head = record { first = None; last = None; count = 0; may_pend = false }
 
 -- the ends of the list of a process
-abbrev pub ends_at : List (ℕ × Ends) → ℕ → Ends
-ends_at hs pid = unwrap_or (lookup (nat_eq pid) hs) no_ends
+abbrev pub ends_at : List (ℕ × ListHead) → ℕ → ListHead
+ends_at hs pid = unwrap_or (lookup (nat_eq pid) hs) empty_head
 
 -- whether rows of this process may have pending signals
-abbrev pub may_pend : List (ℕ × Ends) → ℕ → Bool
+abbrev pub may_pend : List (ℕ × ListHead) → ℕ → Bool
 may_pend hs pid = (ends_at hs pid).may_pend
 
 -- the ends of a list, after it was noted whether its rows may have pending signals; the empty list has no such row
-abbrev pub marked : Bool → Ends → Ends
+abbrev pub marked : Bool → ListHead → ListHead
 marked may ends = record ends { may_pend = if is_some ends.first then may else ends.may_pend }
 
 -- the row with this birth number
-abbrev pub born_row : (ℕ → Option Slot) → List (ℕ × ℕ) → ℕ → Option LwpData
+abbrev pub born_row : (ℕ → Option RowNode) → List (ℕ × ℕ) → ℕ → Option LwpData
 born_row f es birth = option_map (λ slot. slot.row) (find (λ slot. nat_eq slot.born birth) (filter_map (λ e. f e.1) es))
 
 -- the rows that this many numbers find, starting at `from`
@@ -80,32 +80,32 @@ listing f from zero = []
 listing f from (suc count) = cons_option (f from) (listing f (from + 1) count)
 
 -- the rows in order of birth
-abbrev pub rows_of : (ℕ → Option Slot) → List (ℕ × ℕ) → ℕ → List LwpData
+abbrev pub rows_of : (ℕ → Option RowNode) → List (ℕ × ℕ) → ℕ → List LwpData
 rows_of f es births = listing (born_row f es) 0 births
 
 -- each number has a slot, each row has a number, and each row has its own birth number
-pub record IsIndexed (f : ℕ → Option Slot) (es : List (ℕ × ℕ)) (births : ℕ) : Type 0 where
-  pub listed : (s : ℕ) (slot : Slot) → f s ≡ Some slot → lookup (nat_eq slot.row.tid) es ≡ Some s
-  pub named : (tid s : ℕ) → lookup (nat_eq tid) es ≡ Some s → (slot : Slot) × (f s ≡ Some slot) × (slot.row.tid ≡ tid)
-  pub earlier : (s : ℕ) (slot : Slot) → f s ≡ Some slot → slot.born < births
-  pub apart : (i j : ℕ) (a b : Slot) → f i ≡ Some a → f j ≡ Some b → a.born ≡ b.born → i ≡ j
+pub record IsIndexed (f : ℕ → Option RowNode) (es : List (ℕ × ℕ)) (births : ℕ) : Type 0 where
+  pub listed : (s : ℕ) (slot : RowNode) → f s ≡ Some slot → lookup (nat_eq slot.row.tid) es ≡ Some s
+  pub named : (tid s : ℕ) → lookup (nat_eq tid) es ≡ Some s → (slot : RowNode) × (f s ≡ Some slot) × (slot.row.tid ≡ tid)
+  pub earlier : (s : ℕ) (slot : RowNode) → f s ≡ Some slot → slot.born < births
+  pub apart : (i j : ℕ) (a b : RowNode) → f i ≡ Some a → f j ≡ Some b → a.born ≡ b.born → i ≡ j
 
 -- what a table maintains, where `may` tells of each process whether its rows may have pending signals
-pub record LwpTableInvariant (f : ℕ → Option Slot) (es : List (ℕ × ℕ)) (hs : List (ℕ × Ends)) (all : Ends) (births : ℕ) (users : List ℕ) (may : ℕ → Bool) : Type 0 where
+pub record LwpTableInvariant (f : ℕ → Option RowNode) (es : List (ℕ × ℕ)) (hs : List (ℕ × ListHead)) (all : ListHead) (births : ℕ) (users : List ℕ) (may : ℕ → Bool) : Type 0 where
   pub indexed : IsIndexed f es births
   pub own : (pid : ℕ) → IsChain (seen_by own_node f) pid (ends_at hs pid).first (ends_at hs pid).last
   pub whole : IsChain (seen_by all_node f) 0 all.first all.last
   pub counted : (pid : ℕ) → (ends_at hs pid).count ≡ count_by (is_of pid) (rows_of f es births)
   pub total : all.count ≡ length (rows_of f es births)
   pub homes : (place : ℕ) → place < 64 → slice_index users place ≡ count_by (is_at place) (rows_of f es births)
-  pub quiet : (s : ℕ) (slot : Slot) → f s ≡ Some slot → may slot.row.pid ≡ false → slot.row.pending ≡ 0
+  pub quiet : (s : ℕ) (slot : RowNode) → f s ≡ Some slot → may slot.row.pid ≡ false → slot.row.pending ≡ 0
 
 -- the rows from a link on
-abbrev pub rows_from : (ℕ → Option Slot) → List (ℕ × ℕ) → ℕ → Option ℕ → List LwpData
+abbrev pub rows_from : (ℕ → Option RowNode) → List (ℕ × ℕ) → ℕ → Option ℕ → List LwpData
 rows_from f es births link = option_map_or (λ slot. listing (born_row f es) slot.born (births - slot.born)) (option_and_then f link) []
 
 -- what a walk along a list of slots maintains, where `node` is the slot as this list sees it
-pub record IsWalk (f : ℕ → Option Slot) (es : List (ℕ × ℕ)) (births : ℕ) (node : Slot → Node) (list : ℕ) (link : Option ℕ) : Type 0 where
+pub record IsWalk (f : ℕ → Option RowNode) (es : List (ℕ × ℕ)) (births : ℕ) (node : RowNode → Node) (list : ℕ) (link : Option ℕ) : Type 0 where
   pub indexed : IsIndexed f es births
-  pub next_is : (s : ℕ) (slot : Slot) → f s ≡ Some slot → (node slot).list ≡ list → IsNearest up (seen_by node f) list (above (node slot).key) (node slot).next
+  pub next_is : (s : ℕ) (slot : RowNode) → f s ≡ Some slot → (node slot).list ≡ list → IsNearest up (seen_by node f) list (above (node slot).key) (node slot).next
   pub there : IfSome link (λ s. IsSomeAnd (f s) (λ slot. (node slot).list ≡ list))

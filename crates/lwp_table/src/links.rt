@@ -4,7 +4,7 @@ ghost use Rattle.std.specs.Prelude.{◌≡◌, ℕ, ◌+◌, ◌<◌, ◌≤◌,
 ghost use Rattle.std.specs.Option.{option_map};
 ghost use Rattle.slab.specs.Slab.{get, slab_len, ContainsKey};
 ghost use Rattle.std.specs.Map.{lookup};
-ghost use Rattle.lwp_table.specs.Kept.{linked, closed_up, ends_at, marked, no_ends, place_of};
+ghost use Rattle.lwp_table.specs.Kept.{linked, closed_up, ends_at, marked, empty_head, place_of};
 
 use crate::LwpData;
 use number_map::NumberMap;
@@ -20,7 +20,7 @@ pub struct Links {
 
 /// The first and the last slot of a list, and the number of its slots.
 #[derive(Clone, Copy, Debug)]
-pub struct Ends {
+pub struct ListHead {
     pub first: Option<usize>,
     pub last: Option<usize>,
     pub count: usize,
@@ -28,12 +28,12 @@ pub struct Ends {
     pub may_pend: bool,
 }
 
-impl Ends {
+impl ListHead {
     /// Returns the ends of an empty list.
-    pub fn empty() -> Ends
-        ensures { result ≡ no_ends }
+    pub fn empty() -> ListHead
+        ensures { result ≡ empty_head }
     {
-        Ends {
+        ListHead {
             first: None,
             last: None,
             count: 0,
@@ -44,7 +44,7 @@ impl Ends {
 
 /// A row with its birth number, and its links in its process's list and in the list of all rows.
 #[derive(Clone, Copy, Debug)]
-pub struct Slot {
+pub struct RowNode {
     pub row: LwpData,
     pub born: usize,
     pub own: Links,
@@ -61,7 +61,7 @@ pub enum Link {
 }
 
 /// Changes a link of the slot `at`, if any.
-pub fn set_link(slots: &mut Slab<Slot>, link: Link, at: Option<usize>, to: Option<usize>)
+pub fn set_link(slots: &mut Slab<RowNode>, link: Link, at: Option<usize>, to: Option<usize>)
     requires { IfSome at (λ s. ContainsKey slots.old s) }
     ensures linked { (s : ℕ) → get slots.new s ≡ option_map (linked link at to s) (get slots.old s) }
     ensures len { slab_len slots.new ≡ slab_len slots.old }
@@ -81,7 +81,7 @@ pub fn set_link(slots: &mut Slab<Slot>, link: Link, at: Option<usize>, to: Optio
 
 /// Links the neighbours of a slot that has left both of its lists to each other.
 #[tactic(auto, using(crate::proofs::KeptLemmas::onto))]
-pub fn close_up(slots: &mut Slab<Slot>, gone: &Slot)
+pub fn close_up(slots: &mut Slab<RowNode>, gone: &RowNode)
     requires own_prev { IfSome gone.now.own.prev (λ s. ContainsKey slots.old s) }
     requires own_next { IfSome gone.now.own.next (λ s. ContainsKey slots.old s) }
     requires all_prev { IfSome gone.now.all.prev (λ s. ContainsKey slots.old s) }
@@ -97,26 +97,26 @@ pub fn close_up(slots: &mut Slab<Slot>, gone: &Slot)
 }
 
 /// Returns the ends of the list of a process.
-pub fn ends_of(heads: &NumberMap<Ends>, pid: u32) -> Ends
+pub fn ends_of(heads: &NumberMap<ListHead>, pid: u32) -> ListHead
     ensures { result ≡ ends_at heads.now.entries pid }
 {
     match heads.get(pid) {
         Some(ends) => ends,
-        None => Ends::empty(),
+        None => ListHead::empty(),
     }
 }
 
 /// Returns the slot of the first row of a process.
-pub fn first_slot(heads: &NumberMap<Ends>, pid: u32) -> Option<usize>
+pub fn first_slot(heads: &NumberMap<ListHead>, pid: u32) -> Option<usize>
     ensures { result ≡ (ends_at heads.now.entries pid).first }
 {
     ends_of(heads, pid).first
 }
 
 /// Changes the ends of the list of a process that has some. Removes the entry if the list is now empty.
-pub fn put_ends(heads: &mut NumberMap<Ends>, pid: u32, ends: Ends)
+pub fn put_ends(heads: &mut NumberMap<ListHead>, pid: u32, ends: ListHead)
     requires there { IsSome (lookup (nat_eq pid) heads.old.entries) }
-    requires empty { ends.first ≡ None → ends ≡ no_ends }
+    requires empty { ends.first ≡ None → ends ≡ empty_head }
     ensures ends { (q : ℕ) → ends_at heads.new.entries q ≡ (if nat_eq pid q then ends else ends_at heads.old.entries q) }
     ensures spare { heads.new.spare ≡ heads.old.spare }
 {
@@ -135,18 +135,18 @@ pub fn may_pend_with(before: bool, row: &LwpData) -> bool
 }
 
 /// Notes whether a row of a process may have pending signals. Changes nothing if the process has no rows.
-pub fn mark(heads: &mut NumberMap<Ends>, pid: u32, may_pend: bool)
+pub fn mark(heads: &mut NumberMap<ListHead>, pid: u32, may_pend: bool)
     ensures ends { (q : ℕ) → ends_at heads.new.entries q ≡ (if nat_eq pid q then marked may_pend (ends_at heads.old.entries q) else ends_at heads.old.entries q) }
     ensures spare { heads.new.spare ≡ heads.old.spare }
 {
     let ends = ends_of(heads, pid);
     if ends.first.is_some() && ends.may_pend != may_pend {
-        heads.set(pid, Ends { may_pend, ..ends });
+        heads.set(pid, ListHead { may_pend, ..ends });
     }
 }
 
 /// Notes that a row of its process may have pending signals, if this one has some.
-pub fn note(heads: &mut NumberMap<Ends>, row: &LwpData)
+pub fn note(heads: &mut NumberMap<ListHead>, row: &LwpData)
     ensures ends { (q : ℕ) → ends_at heads.new.entries q ≡ (if nat_eq row.now.pid q then marked ((ends_at heads.old.entries row.now.pid).may_pend || not (row.now.pending == 0)) (ends_at heads.old.entries q) else ends_at heads.old.entries q) }
     ensures spare { heads.new.spare ≡ heads.old.spare }
 {
@@ -156,7 +156,7 @@ pub fn note(heads: &mut NumberMap<Ends>, row: &LwpData)
 }
 
 /// Returns the ends of a list after a slot with these links has left it.
-pub fn without(ends: Ends, gone: Links) -> Ends
+pub fn without(ends: ListHead, gone: Links) -> ListHead
     requires { 0 < ends.count }
     ensures first { result.first ≡ (if is_none gone.prev then gone.next else ends.first) }
     ensures last { result.last ≡ (if is_none gone.next then gone.prev else ends.last) }
@@ -168,7 +168,7 @@ pub fn without(ends: Ends, gone: Links) -> Ends
     } else {
         ends.first
     };
-    Ends {
+    ListHead {
         first,
         last: if gone.next.is_none() {
             gone.prev

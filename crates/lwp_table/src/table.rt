@@ -11,8 +11,8 @@ ghost use Rattle.lwp_table.specs.Lwps.{lwp_of, lwps_of, first_lwp, next_lwp, has
 
 use crate::LwpData;
 use crate::links::{
-    Ends, Link, Links, Slot, close_up, ends_of, first_slot, mark, may_pend_with, note, put_ends,
-    set_link, user_place, without,
+    Link, Links, ListHead, RowNode, close_up, ends_of, first_slot, mark, may_pend_with, note,
+    put_ends, set_link, user_place, without,
 };
 use crate::walks::{Iter, OfProcess};
 use number_map::NumberMap;
@@ -26,10 +26,10 @@ use std::marker::Model;
 /// Every operation but `at` takes the same time in a table of any length.
 #[derive(Drop)]
 pub struct LwpTable {
-    rows: Slab<Slot>,
+    rows: Slab<RowNode>,
     slots: NumberMap<usize>,
-    heads: NumberMap<Ends>,
-    all: Ends,
+    heads: NumberMap<ListHead>,
+    all: ListHead,
     births: usize,
     users: [usize; 64],
 }
@@ -78,7 +78,7 @@ impl LwpTable {
             rows: Slab::new(alloc),
             slots: NumberMap::new(alloc)?,
             heads: NumberMap::new(alloc)?,
-            all: Ends::empty(),
+            all: ListHead::empty(),
             births: 0,
             users,
         })
@@ -109,7 +109,7 @@ impl LwpTable {
         let pid = row.pid.get();
         let own = ends_of(&self.heads, pid);
         let all = self.all;
-        let slot = self.rows.insert_reserved(Slot {
+        let slot = self.rows.insert_reserved(RowNode {
             row,
             born: self.births,
             own: Links {
@@ -124,14 +124,14 @@ impl LwpTable {
         set_link(&mut self.rows, Link::NextOwn, own.last, Some(slot));
         set_link(&mut self.rows, Link::NextAll, all.last, Some(slot));
         self.slots.insert(tid, slot);
-        let ends = Ends {
+        let ends = ListHead {
             first: own.first.or(Some(slot)),
             last: Some(slot),
             count: own.count + 1,
             may_pend: may_pend_with(own.may_pend, &row),
         };
         self.heads.insert(pid, ends);
-        self.all = Ends {
+        self.all = ListHead {
             first: all.first.or(Some(slot)),
             last: Some(slot),
             count: all.count + 1,

@@ -1,7 +1,7 @@
 //! Walks over the rows of a table.
 
 use crate::LwpData;
-use crate::links::Slot;
+use crate::links::RowNode;
 use number_map::NumberMap;
 use slab::Slab;
 use std::marker::Model;
@@ -9,7 +9,7 @@ use std::marker::Model;
 /// An iterator over the rows of one process in order of birth. Contracts see the list of rows that are left.
 #[derive(Drop)]
 pub struct OfProcess<'a> {
-    pub(crate) rows: &'a Slab<Slot>,
+    pub(crate) rows: &'a Slab<RowNode>,
     pub(crate) slots: &'a NumberMap<usize>,
     pub(crate) births: usize,
     pub(crate) pid: u32,
@@ -48,7 +48,7 @@ impl<'a> Iterator for OfProcess<'a> {
 /// An iterator over all rows of a table in order of birth. Contracts see the list of rows that are left.
 #[derive(Drop)]
 pub struct Iter<'a> {
-    pub(crate) rows: &'a Slab<Slot>,
+    pub(crate) rows: &'a Slab<RowNode>,
     pub(crate) slots: &'a NumberMap<usize>,
     pub(crate) births: usize,
     pub(crate) link: Option<usize>,

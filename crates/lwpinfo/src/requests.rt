@@ -17,7 +17,7 @@ pub fn info(tables: &Tables, pid: Pid, tid: Tid) -> Option<LwpInfo>
     ensures { result ≡ info_of pid tid tables.now.rows }
 {
     match tables.process(pid) {
-        Some(process) => told(reports(&process, tid), tables.lwp(tid)),
+        Some(process) => reported_info(reports(&process, tid), tables.lwp(tid)),
         None => None,
     }
 }
@@ -33,7 +33,7 @@ fn reports(process: &ProcData, tid: Tid) -> bool
 }
 
 /// Returns what is shown of an LWP, if there is one.
-fn told(reports: bool, lwp: Option<LwpData>) -> Option<LwpInfo>
+fn reported_info(reports: bool, lwp: Option<LwpData>) -> Option<LwpInfo>
     ensures { result ≡ option_map (lwp_info reports) lwp }
 {
     match &lwp {

@@ -8,9 +8,9 @@ use reply_json::refusal_json;
 use scenario::{Fault, ObjectWriter, Style, USERS, push_line};
 use std::alloc::{AllocError, Global};
 
-/// Adds a refusal in words: the line that names the fault for which a line is not a step.
-fn push_words(fault: Fault, text: &mut String) -> Result<(), AllocError>
-    ensures { OnOk result (string_bytes text.new ≡ string_bytes text.old ++ refusal style.Words fault) }
+/// Adds a refusal as text: the line that names the fault for which a line is not a step.
+fn push_fault(fault: Fault, text: &mut String) -> Result<(), AllocError>
+    ensures { OnOk result (string_bytes text.new ≡ string_bytes text.old ++ refusal style.Text fault) }
 {
     let name = fault.name();
     writeln!(text, "refused {name}")?;
@@ -36,7 +36,7 @@ fn push_refusal(
     ensures { OnOk result (string_bytes text.new ≡ string_bytes text.old ++ refusal style fault) }
 {
     match style {
-        Style::Words => push_words(fault, text),
+        Style::Text => push_fault(fault, text),
         Style::Json => push_object(alloc, fault, text),
     }
 }

@@ -34,7 +34,7 @@ pub use Rattle.proc_table.specs.Seen.{owns, seen_lwp}
 pub use Rattle.proc_table.specs.Slots.{IsSlotted, IsStored, IsTally, all_rows, look}
 pub use Rattle.proc_table.specs.Walks.{DecidesRows, find_child, find_tracee, next_child, next_of, next_tracee}
 pub use Rattle.proc_table.specs.declared.ProcData.{ProcData}
-pub use Rattle.proc_table.specs.declared.links.Links.{Links}
+pub use Rattle.proc_table.specs.declared.links.ListLinks.{ListLinks}
 pub use Rattle.proc_table.specs.declared.links.ListKind.{ListKind}
 pub use Rattle.proc_table.specs.declared.links.ListKind.TheVariants.{Children, Tracees}
-pub use Rattle.proc_table.specs.declared.links.Slot.{Slot}
+pub use Rattle.proc_table.specs.declared.links.RowNode.{RowNode}

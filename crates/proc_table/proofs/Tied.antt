@@ -1,7 +1,7 @@
 -- What is kept of rows, lists and counts together.
 use Rattle.proc_table.proofs.CommonNames.{◌≡◌, ◌≢◌, ℕ, ◌+◌, ◌-◌, ◌<◌, true, false, List, [], Option, Some, None, is_some, refl, sym, ap, ◌∙◌, ◌∷◌, nat_eq, cond, arith, length, get_or, set, map}
 use Rattle.proc_table.proofs.CommonNames.{replicate, rules, filter, not, ltb, ◌&&◌, IsSomeAnd, list_any, lookup, option_map, cases_Bool, nat_tests, same_Some, IsUser, slot, ProcData, ListKind}
-use Rattle.proc_table.proofs.CommonNames.{Tracees, Children, Slot, process_of, placed, is_this, next_child, Rows, InOwnBlock, Named, IsRow, put_process, all_rows, look, keys, IsNext, pick}
+use Rattle.proc_table.proofs.CommonNames.{Tracees, Children, RowNode, process_of, placed, is_this, next_child, Rows, InOwnBlock, Named, IsRow, put_process, all_rows, look, keys, IsNext, pick}
 use Rattle.proc_table.proofs.CommonNames.{parent_named, list_owner, node_of, nodes_of, rows_of, AreLinked, IsTied, next_named, unlinked}
 use Rattle.proc_table.proofs.Every.{some_of, some_and, every_found, every_untested}
 use Rattle.proc_table.proofs.Rows.{same_number, row_found, found_row}
@@ -24,7 +24,7 @@ pub picked : (row : ProcData) (tracer parent : Option ℕ) → tracer ≡ row.tr
 picked row tracer parent traced parted k = ap (λ u. pick k u parent) traced ∙ ap (pick k row.tracer) parted
 
 -- a row was put in a vacant slot, in no list, and its number finds it
-pub record IsBorn (f : ℕ → Option Slot) (es : List (ℕ × ℕ)) (new : ProcData) (at : ℕ) (f1 : ℕ → Option Slot) (es' : List (ℕ × ℕ)) : Type 0 where
+pub record IsBorn (f : ℕ → Option RowNode) (es : List (ℕ × ℕ)) (new : ProcData) (at : ℕ) (f1 : ℕ → Option RowNode) (es' : List (ℕ × ℕ)) : Type 0 where
   pub vacant : f at ≡ None
   pub has : f1 at ≡ Some (unlinked new)
   pub others : (s : ℕ) → s ≢ at → f1 s ≡ f s
@@ -33,20 +33,20 @@ pub record IsBorn (f : ℕ → Option Slot) (es : List (ℕ × ℕ)) (new : Proc
   pub home : InOwnBlock new
 
 -- a slot's row was moved to the lists of these two
-pub record IsRehung (f g : ℕ → Option Slot) (es : List (ℕ × ℕ)) (at : ℕ) (tracer parent : Option ℕ) : Type 0 where
+pub record IsRehung (f g : ℕ → Option RowNode) (es : List (ℕ × ℕ)) (at : ℕ) (tracer parent : Option ℕ) : Type 0 where
   pub are_linked : AreLinked g es
   pub rows : (s : ℕ) → rows_of g s ≡ rows_of f s
-  pub here : (k : ListKind) → keys (nodes_of k g) at ≡ option_map (λ (was : Slot). (was.row.pid, pick k tracer parent)) (f at)
+  pub here : (k : ListKind) → keys (nodes_of k g) at ≡ option_map (λ (was : RowNode). (was.row.pid, pick k tracer parent)) (f at)
   pub others : (k : ListKind) (s : ℕ) → s ≢ at → keys (nodes_of k g) s ≡ keys (nodes_of k f) s
 
 -- what is kept once the row with the number, of this user, is gone
-pub record IsWithout (f : ℕ → Option Slot) (es : List (ℕ × ℕ)) (counts : List ℕ) (pid uid : ℕ) (g : ℕ → Option Slot) (es' : List (ℕ × ℕ)) : Type 0 where
+pub record IsWithout (f : ℕ → Option RowNode) (es : List (ℕ × ℕ)) (counts : List ℕ) (pid uid : ℕ) (g : ℕ → Option RowNode) (es' : List (ℕ × ℕ)) : Type 0 where
   pub user : IsUser uid
   pub some : 0 < get_or counts (slot uid) 0
   pub tied : IsTied g es' (set counts (slot uid) (get_or counts (slot uid) 0 - 1))
   pub rows : all_rows (look (rows_of g) es') ≡ filter (λ p. not (nat_eq p.pid pid)) (all_rows (look (rows_of f) es))
 
-module _ {f : ℕ → Option Slot} {es : List (ℕ × ℕ)} {counts : List ℕ} (tied : IsTied f es counts) where
+module _ {f : ℕ → Option RowNode} {es : List (ℕ × ℕ)} {counts : List ℕ} (tied : IsTied f es counts) where
   -- a row's number has a slot
   pub head-row : (t : ℕ) → list_any (λ p. nat_eq p.pid t) (all_rows (look (rows_of f) es)) ≡ true → HasHead f es t
   head-row t any = search (rules, row_found, some_of, slot_of, is_some, find-all_rows, finds, row_slot)
@@ -56,13 +56,13 @@ module _ {f : ℕ → Option Slot} {es : List (ℕ × ℕ)} {counts : List ℕ} 
   no-slot t none = grind (arith, nat_tests, found_row t, find-all_rows (look (rows_of f) es) (finds (rows_of f) es counts tied.slotted) t, tied.slotted.stored.named t)
 
   -- a slot's row is in the list of all
-  pub row-of : (s : ℕ) (slot : Slot) → f s ≡ Some slot → process_of slot.row.pid (all_rows (look (rows_of f) es)) ≡ Some slot.row
+  pub row-of : (s : ℕ) (slot : RowNode) → f s ≡ Some slot → process_of slot.row.pid (all_rows (look (rows_of f) es)) ≡ Some slot.row
   row-of s slot is = search (rules, find-all_rows, finds, look-slot)
 
-  pub home-of : (s : ℕ) (slot : Slot) → f s ≡ Some slot → InOwnBlock slot.row
-  home-of s slot is = tied.slotted.stored.home slot.row.pid slot.row (look-slot (rows_of f) es slot.row.pid s (tied.are_linked.listed s slot is) ∙ ap (option_map (λ (x : Slot). x.row)) is)
+  pub home-of : (s : ℕ) (slot : RowNode) → f s ≡ Some slot → InOwnBlock slot.row
+  home-of s slot is = tied.slotted.stored.home slot.row.pid slot.row (look-slot (rows_of f) es slot.row.pid s (tied.are_linked.listed s slot is) ∙ ap (option_map (λ (x : RowNode). x.row)) is)
 
-  pub below : (s : ℕ) (slot : Slot) → f s ≡ Some slot → slot.row.pid < 65000
+  pub below : (s : ℕ) (slot : RowNode) → f s ≡ Some slot → slot.row.pid < 65000
   below s slot is = let home = home-of s slot is in omega (arith, home.block.1, home.user.0, home.user.1)
 
   -- a row that names t is a member of its list
@@ -71,7 +71,7 @@ module _ {f : ℕ → Option Slot} {es : List (ℕ × ℕ)} {counts : List ℕ} 
       let at = some_of _ (slot_of (rows_of f) es r.pid (ap is_some (sym (find-all_rows _ (finds (rows_of f) es counts tied.slotted) r.pid) ∙ there))) in
       (at.0, grind (arith, nat_tests, tied.list_owners kin at.0, find-all_rows, finds, at.1))
 
-  pub list_owner-of : (kin : ListKind) (s : ℕ) (slot : Slot) (t : ℕ) → f s ≡ Some slot → (node_of kin slot).list_owner ≡ Some t → list_owner kin slot.row ≡ Some t
+  pub list_owner-of : (kin : ListKind) (s : ℕ) (slot : RowNode) (t : ℕ) → f s ≡ Some slot → (node_of kin slot).list_owner ≡ Some t → list_owner kin slot.row ≡ Some t
   list_owner-of kin s slot t is names = grind (arith, nat_tests, tied.list_owners kin s)
 
   -- what the links find is what the list of rows has
@@ -79,7 +79,7 @@ module _ {f : ℕ → Option Slot} {es : List (ℕ × ℕ)} {counts : List ℕ} 
     pub walk-none : IsNext (keys (nodes_of kin f)) t after None → next_named kin t after (all_rows (look (rows_of f) es)) ≡ None
     walk-none next = grind (arith, nat_tests, next-none (λ (p : ProcData). is_this t (list_owner kin p)) after, finds (rows_of f) es counts tied.slotted, key-of-row kin t, this-is t, Rise-all_rows)
 
-    pub walk-some : (s : ℕ) (slot : Slot) → f s ≡ Some slot → IsNext (keys (nodes_of kin f)) t after (Some s) → next_named kin t after (all_rows (look (rows_of f) es)) ≡ Some slot.row
+    pub walk-some : (s : ℕ) (slot : RowNode) → f s ≡ Some slot → IsNext (keys (nodes_of kin f)) t after (Some s) → next_named kin t after (all_rows (look (rows_of f) es)) ≡ Some slot.row
     walk-some s slot there next =
         let own = tied.list_owners kin s in
         let names = list_owner-of kin s slot t there (grind (arith, nat_tests, next.1)) in
@@ -95,7 +95,7 @@ module _ {f : ℕ → Option Slot} {es : List (ℕ × ℕ)} {counts : List ℕ} 
         grind (arith, nat_tests, tied.are_linked.headed kin j its.0 t its.1))
 
   -- where no row names a number, no slot's list is its
-  pub nobody-names : (kin : ListKind) (t : ℕ) → next_named kin t 0 (all_rows (look (rows_of f) es)) ≡ None → (s : ℕ) (slot : Slot) → f s ≡ Some slot → (node_of kin slot).list_owner ≢ Some t
+  pub nobody-names : (kin : ListKind) (t : ℕ) → next_named kin t 0 (all_rows (look (rows_of f) es)) ≡ None → (s : ℕ) (slot : RowNode) → f s ≡ Some slot → (node_of kin slot).list_owner ≢ Some t
   nobody-names kin t none s slot is names =
       let home = home-of s slot is in
       let it = list_owner-of kin s slot t is names in
@@ -107,7 +107,7 @@ module _ {f : ℕ → Option Slot} {es : List (ℕ × ℕ)} {counts : List ℕ} 
   nobody-key kin t none s p there = search (rules, key_node, slot_at, nobody-names)
 
   -- a row more: its slot is taken, and then linked
-  module _ {f1 : ℕ → Option Slot} {es' : List (ℕ × ℕ)} {at : ℕ} {new : ProcData} (born : IsBorn f es new at f1 es') where
+  module _ {f1 : ℕ → Option RowNode} {es' : List (ℕ × ℕ)} {at : ℕ} {new : ProcData} (born : IsBorn f es new at f1 es') where
     pub added-are_linked : AreLinked f1 es'
     added-are_linked = are_linked-born f f1 es es' at tied.are_linked born.others (unlinked new) born.vacant born.has (each_kin (λ k. (node_of k (unlinked new)).list_owner ≡ None) Tracees refl refl)
         (each_kin (λ k. (node_of k (unlinked new)).first ≡ None) Tracees refl refl) (each_kin (λ k. (node_of k (unlinked new)).last ≡ None) Tracees refl refl) (omega (arith, born.home.block.0)) (no-slot new.pid born.fresh) born.change
@@ -115,12 +115,12 @@ module _ {f : ℕ → Option Slot} {es : List (ℕ × ℕ)} {counts : List ℕ} 
     pub added-head : (t : ℕ) → HasHead f es t → HasHead f1 es' t
     added-head t head = grind (arith, nat_tests, some_and, no-slot, head-apart)
 
-    pub added : {g : ℕ → Option Slot} {tracer parent : Option ℕ} → IsRehung f1 g es' at tracer parent → tracer ≡ new.tracer → parent ≡ parent_named new.parent → length counts ≡ 64
+    pub added : {g : ℕ → Option RowNode} {tracer parent : Option ℕ} → IsRehung f1 g es' at tracer parent → tracer ≡ new.tracer → parent ≡ parent_named new.parent → length counts ≡ 64
         → IsTied g es' (set counts (slot new.uid) (get_or counts (slot new.uid) 0 + 1)) × (all_rows (look (rows_of g) es') ≡ placed new (all_rows (look (rows_of f) es)))
     added {g} {tracer} {parent} rehung traced parted long =
         let row_at : rows_of g at ≡ Some new = grind (arith, nat_tests, rehung.rows at, born.has) in
         let row_off : (s : ℕ) → s ≢ at → rows_of g s ≡ rows_of f s = λ s apart. grind (arith, nat_tests, rehung.rows s, born.others s) in
-        let all = IsSlotted-added (rows_of f) es counts tied.slotted (rows_of g) es' at row_off new (ap (option_map (λ (x : Slot). x.row)) born.vacant) row_at born.change born.fresh born.home long in (
+        let all = IsSlotted-added (rows_of f) es counts tied.slotted (rows_of g) es' at row_off new (ap (option_map (λ (x : RowNode). x.row)) born.vacant) row_at born.change born.fresh born.home long in (
           record {
             slotted = all.0;
             are_linked = rehung.are_linked;
@@ -130,7 +130,7 @@ module _ {f : ℕ → Option Slot} {es : List (ℕ × ℕ)} {counts : List ℕ} 
         )
 
   -- another row in a number's slot, which was linked anew
-  module _ {f1 g : ℕ → Option Slot} {at : ℕ} {new : ProcData} {mid : Slot} {tracer parent : Option ℕ} (rehung : IsRehung f f1 es at tracer parent) (traced : tracer ≡ new.tracer) (parted : parent ≡ parent_named new.parent)
+  module _ {f1 g : ℕ → Option RowNode} {at : ℕ} {new : ProcData} {mid : RowNode} {tracer parent : Option ℕ} (rehung : IsRehung f f1 es at tracer parent) (traced : tracer ≡ new.tracer) (parted : parent ≡ parent_named new.parent)
       (has1 : f1 at ≡ Some mid) (has : g at ≡ Some (record mid { row = new })) (others : (s : ℕ) → s ≢ at → g s ≡ f1 s) (number : lookup (nat_eq new.pid) es ≡ Some at) where
     same_pid : mid.row.pid ≡ new.pid
     same_pid = grind (arith, nat_tests, same_Some)
@@ -153,7 +153,7 @@ module _ {f : ℕ → Option Slot} {es : List (ℕ × ℕ)} {counts : List ℕ} 
         )
 
   -- a row with other pending signals, which stays in its lists
-  module _ {g : ℕ → Option Slot} {at : ℕ} {mid : Slot} (pending : ℕ) (has : f at ≡ Some mid) (has' : g at ≡ Some (record mid { row = record mid.row { pending = pending } })) (others : (s : ℕ) → s ≢ at → g s ≡ f s) where
+  module _ {g : ℕ → Option RowNode} {at : ℕ} {mid : RowNode} (pending : ℕ) (has : f at ≡ Some mid) (has' : g at ≡ Some (record mid { row = record mid.row { pending = pending } })) (others : (s : ℕ) → s ≢ at → g s ≡ f s) where
     in_place : IsRehung f f es at mid.row.tracer (parent_named mid.row.parent)
     in_place = grind (arith, nat_tests)
 
@@ -165,7 +165,7 @@ module _ {f : ℕ → Option Slot} {es : List (ℕ × ℕ)} {counts : List ℕ} 
     pending-listed pid row number there = grind (arith, nat_tests, same_Some, look-slot, find-all_rows, finds, pending-written)
 
   -- one row less, which was taken out of its lists and whose number no row names
-  pub removed : {f1 g : ℕ → Option Slot} {es' : List (ℕ × ℕ)} {at : ℕ} {mid : Slot} (pid : ℕ) → IsRehung f f1 es at None None → f1 at ≡ Some mid → g at ≡ None → ((s : ℕ) → s ≢ at → g s ≡ f1 s) → lookup (nat_eq pid) es ≡ Some at
+  pub removed : {f1 g : ℕ → Option RowNode} {es' : List (ℕ × ℕ)} {at : ℕ} {mid : RowNode} (pid : ℕ) → IsRehung f f1 es at None None → f1 at ≡ Some mid → g at ≡ None → ((s : ℕ) → s ≢ at → g s ≡ f1 s) → lookup (nat_eq pid) es ≡ Some at
       → ((n : ℕ) → lookup (nat_eq n) es' ≡ cond (nat_eq pid n) None (lookup (nat_eq n) es)) → ((k : ListKind) → next_named k pid 0 (all_rows (look (rows_of f) es)) ≡ None) → length counts ≡ 64
       → IsWithout f es counts pid mid.row.uid g es'
   removed {f1} {g} {es'} {at} {mid} pid rehung has1 gone others number change unnamed long =
@@ -175,7 +175,7 @@ module _ {f : ℕ → Option Slot} {es : List (ℕ × ℕ)} {counts : List ℕ} 
       let own = tied.slotted.stored.named pid at number in
       let its : mid.row.pid ≡ pid = grind (arith, nat_tests, own.1, own.2, row_was) in
       let free : (k : ListKind) → (node_of k mid).list_owner ≡ None = λ k. grind (arith, nat_tests, rehung.here k, rehung.rows at) in
-      let unnamed1 : (k : ListKind) (s : ℕ) (x : Slot) → f1 s ≡ Some x → (node_of k x).list_owner ≢ Some mid.row.pid =
+      let unnamed1 : (k : ListKind) (s : ℕ) (x : RowNode) → f1 s ≡ Some x → (node_of k x).list_owner ≢ Some mid.row.pid =
       λ k s x is names. grind (arith, nat_tests, free k, rehung.others k s, nobody-key k pid (unnamed k) s x.row.pid, its) in record {
         user = all.0;
         some = all.1;
@@ -188,7 +188,7 @@ module _ {f : ℕ → Option Slot} {es : List (ℕ × ℕ)} {counts : List ℕ} 
       }
 
 -- no slot
-pub tied-none : (f : ℕ → Option Slot) (es : List (ℕ × ℕ)) → ((s : ℕ) → f s ≡ None) → es ≡ [] → IsTied f es (replicate 64 0) × (all_rows (look (rows_of f) es) ≡ [])
+pub tied-none : (f : ℕ → Option RowNode) (es : List (ℕ × ℕ)) → ((s : ℕ) → f s ≡ None) → es ≡ [] → IsTied f es (replicate 64 0) × (all_rows (look (rows_of f) es) ≡ [])
 tied-none f es vacant none = grind (arith, nat_tests, IsSlotted-none (rows_of f) es none, are_linked-none f es vacant)
 
 -- each process that a row names is a row

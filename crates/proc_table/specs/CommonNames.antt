@@ -10,10 +10,10 @@ pub use Rattle.pid_blocks.specs.Users.{IsUser}
 pub use Rattle.proc_table.specs.declared.ProcData.{ProcData}
 pub use Rattle.proc_table.specs.declared.State.{State}
 pub use Rattle.proc_table.specs.declared.State.TheVariants.{Job, Run, Trace, Zombie}
-pub use Rattle.proc_table.specs.declared.links.Links.{Links}
+pub use Rattle.proc_table.specs.declared.links.ListLinks.{ListLinks}
 pub use Rattle.proc_table.specs.declared.links.ListKind.{ListKind}
 pub use Rattle.proc_table.specs.declared.links.ListKind.TheVariants.{Children, Tracees}
-pub use Rattle.proc_table.specs.declared.links.Slot.{Slot}
+pub use Rattle.proc_table.specs.declared.links.RowNode.{RowNode}
 pub use Rattle.signals.specs.Table.{all_default}
 pub use Rattle.std.specs.List.{AllByRecursion, list_any}
 pub use Rattle.std.specs.Map.{lookup}

@@ -24,7 +24,7 @@ pub enum ListKind {
 
 /// The links of a row's slot in the lists of one kind.
 #[derive(Clone, Copy, Debug, PartialEq, Eq, Drop)]
-pub struct Links {
+pub struct ListLinks {
     /// The process whose list contains the row.
     pub list_owner: Option<u32>,
     /// The slot of the first row of the process's own list.
@@ -39,10 +39,10 @@ pub struct Links {
 
 /// A row with its links.
 #[derive(Clone, Copy, Debug, Drop)]
-pub struct Slot {
+pub struct RowNode {
     pub row: ProcData,
-    pub tracees: Links,
-    pub children: Links,
+    pub tracees: ListLinks,
+    pub children: ListLinks,
 }
 
 /// A place in a list: between the rows in these slots, if any.
@@ -52,12 +52,12 @@ pub struct Place {
     pub next: Option<usize>,
 }
 
-impl Links {
+impl ListLinks {
     /// Returns the links of a row in no list, whose own list is empty.
-    pub fn none() -> Links
+    pub fn none() -> ListLinks
         ensures { result ≡ no_links }
     {
-        Links {
+        ListLinks {
             list_owner: None,
             first: None,
             last: None,
@@ -68,7 +68,7 @@ impl Links {
 }
 
 /// Returns the links of one kind.
-pub fn links_of(kin: ListKind, slot: &Slot) -> Links
+pub fn links_of(kin: ListKind, slot: &RowNode) -> ListLinks
     ensures { result ≡ links_in kin slot.now }
 {
     match kin {
@@ -79,9 +79,9 @@ pub fn links_of(kin: ListKind, slot: &Slot) -> Links
 
 /// Writes the links of one kind.
 #[tactic(auto, using(crate::proofs::ListNodes::put_laws))]
-fn set_links(nodes: &mut Slab<Slot>, kin: ListKind, at: usize, links: Links)
+fn set_links(nodes: &mut Slab<RowNode>, kin: ListKind, at: usize, links: ListLinks)
     requires { ContainsKey nodes.old at }
-    ensures here { (slot : Slot) → get nodes.old at ≡ Some slot → get nodes.new at ≡ Some (put_links kin links slot) }
+    ensures here { (slot : RowNode) → get nodes.old at ≡ Some slot → get nodes.new at ≡ Some (put_links kin links slot) }
     ensures others { (s : ℕ) → s ≢ at → get nodes.new s ≡ get nodes.old s }
     ensures rows { (s : ℕ) → rows_of (get nodes.new) s ≡ rows_of (get nodes.old) s }
     ensures apart { (s : ℕ) → nodes_of (other kin) (get nodes.new) s ≡ nodes_of (other kin) (get nodes.old) s }
@@ -97,7 +97,13 @@ fn set_links(nodes: &mut Slab<Slot>, kin: ListKind, at: usize, links: Links)
 
 /// Returns the place of `pid` in the list of `list_owner`, whose head is in this slot. It looks at the last row
 /// before it walks, since numbers mostly rise.
-pub fn place_of(nodes: &Slab<Slot>, kin: ListKind, head: usize, list_owner: u32, pid: u32) -> Place
+pub fn place_of(
+    nodes: &Slab<RowNode>,
+    kin: ListKind,
+    head: usize,
+    list_owner: u32,
+    pid: u32,
+) -> Place
     requires linked { IsLinked (nodes_of kin (get nodes.now)) }
     requires there { IsHead (get nodes.now) head list_owner }
     requires positive { 0 < pid }
@@ -130,7 +136,7 @@ pub fn place_of(nodes: &Slab<Slot>, kin: ListKind, head: usize, list_owner: u32,
 
 /// Writes the link from the row in the slot `at` to the next one, or the first link of the head.
 fn set_next(
-    nodes: &mut Slab<Slot>,
+    nodes: &mut Slab<RowNode>,
     kin: ListKind,
     head: usize,
     at: Option<usize>,
@@ -160,7 +166,7 @@ fn set_next(
 
 /// Writes the link from the row in the slot `at` to the one before, or the last link of the head.
 fn set_prev(
-    nodes: &mut Slab<Slot>,
+    nodes: &mut Slab<RowNode>,
     kin: ListKind,
     head: usize,
     at: Option<usize>,
@@ -190,7 +196,7 @@ fn set_prev(
 
 /// Writes whose list contains a row, and the row's links there.
 fn hang(
-    nodes: &mut Slab<Slot>,
+    nodes: &mut Slab<RowNode>,
     kin: ListKind,
     slot: usize,
     list_owner: Option<u32>,
@@ -212,7 +218,7 @@ fn hang(
 }
 
 /// Adds the row in `slot`, which is in no list, to the list of `list_owner`.
-fn link(nodes: &mut Slab<Slot>, kin: ListKind, head: usize, list_owner: u32, slot: usize)
+fn link(nodes: &mut Slab<RowNode>, kin: ListKind, head: usize, list_owner: u32, slot: usize)
     requires linked { IsLinked (nodes_of kin (get nodes.old)) }
     requires there { IsHead (get nodes.old) head list_owner }
     requires free { IsSomeAnd (get nodes.old slot) (λ was. (node_of kin was).list_owner ≡ None) }
@@ -232,7 +238,7 @@ fn link(nodes: &mut Slab<Slot>, kin: ListKind, head: usize, list_owner: u32, slo
 }
 
 /// Removes the row in `slot` from the list of `list_owner`.
-fn unlink(nodes: &mut Slab<Slot>, kin: ListKind, head: usize, list_owner: u32, slot: usize)
+fn unlink(nodes: &mut Slab<RowNode>, kin: ListKind, head: usize, list_owner: u32, slot: usize)
     requires linked { IsLinked (nodes_of kin (get nodes.old)) }
     requires there { IsHead (get nodes.old) head list_owner }
     requires its { IsSomeAnd (get nodes.old slot) (λ was. (node_of kin was).list_owner ≡ Some list_owner) }
@@ -251,7 +257,7 @@ fn unlink(nodes: &mut Slab<Slot>, kin: ListKind, head: usize, list_owner: u32, s
 }
 
 /// Removes the row in `slot` from the list that contains it, if any.
-fn leave(nodes: &mut Slab<Slot>, slots: &NumberMap<usize>, kin: ListKind, slot: usize)
+fn leave(nodes: &mut Slab<RowNode>, slots: &NumberMap<usize>, kin: ListKind, slot: usize)
     requires are_linked { AreLinked (get nodes.old) slots.now.entries }
     requires there { ContainsKey nodes.old slot }
     ensures are_linked { AreLinked (get nodes.new) slots.now.entries }
@@ -270,7 +276,7 @@ fn leave(nodes: &mut Slab<Slot>, slots: &NumberMap<usize>, kin: ListKind, slot: 
 
 /// Adds the row in `slot`, which is in no list, to the list of `list_owner`, if any.
 fn join(
-    nodes: &mut Slab<Slot>,
+    nodes: &mut Slab<RowNode>,
     slots: &NumberMap<usize>,
     kin: ListKind,
     slot: usize,
@@ -295,8 +301,8 @@ fn join(
 
 /// Moves the row in `slot` from the list that contains it, if any, to the list of `list_owner`, or to none.
 #[inline(never)]
-fn rehang(
-    nodes: &mut Slab<Slot>,
+fn move_to_list(
+    nodes: &mut Slab<RowNode>,
     slots: &NumberMap<usize>,
     kin: ListKind,
     slot: usize,
@@ -319,8 +325,8 @@ fn rehang(
 
 /// Moves the row in `slot` to the list of `list_owner`, or to none, if it isn't there yet. Allocates nothing.
 #[inline(always)]
-pub fn relink(
-    nodes: &mut Slab<Slot>,
+pub fn update_list(
+    nodes: &mut Slab<RowNode>,
     slots: &NumberMap<usize>,
     kin: ListKind,
     slot: usize,
@@ -338,13 +344,13 @@ pub fn relink(
     ensures capacity { nodes.new.capacity ≡ nodes.old.capacity }
 {
     if links_of(kin, &nodes[slot]).list_owner != list_owner {
-        rehang(nodes, slots, kin, slot, list_owner);
+        move_to_list(nodes, slots, kin, slot, list_owner);
     }
 }
 
 /// Moves the row in `slot` to the lists of its tracer and of its parent, or to none.
-pub fn relink_both(
-    nodes: &mut Slab<Slot>,
+pub fn update_lists(
+    nodes: &mut Slab<RowNode>,
     slots: &NumberMap<usize>,
     slot: usize,
     tracer: Option<u32>,
@@ -360,14 +366,14 @@ pub fn relink_both(
     ensures len { slab_len nodes.new ≡ slab_len nodes.old }
     ensures capacity { nodes.new.capacity ≡ nodes.old.capacity }
 {
-    relink(nodes, slots, ListKind::Tracees, slot, tracer);
-    relink(nodes, slots, ListKind::Children, slot, parent);
+    update_list(nodes, slots, ListKind::Tracees, slot, tracer);
+    update_list(nodes, slots, ListKind::Children, slot, parent);
 }
 
 /// Returns the slot of the first row above `after` in the list of `list_owner`: by the link of `after` if that is
 /// in the list, and else by a walk of the list.
 pub fn next_slot(
-    nodes: &Slab<Slot>,
+    nodes: &Slab<RowNode>,
     slots: &NumberMap<usize>,
     kin: ListKind,
     head: usize,
@@ -377,7 +383,7 @@ pub fn next_slot(
     requires are_linked { AreLinked (get nodes.now) slots.now.entries }
     requires there { IsHead (get nodes.now) head list_owner }
     requires at { (n h : ℕ) → lookup (nat_eq n) slots.now.entries ≡ Some h → IsHead (get nodes.now) h n }
-    requires below { (s : ℕ) (slot : Slot) → get nodes.now s ≡ Some slot → slot.row.pid < 65000 }
+    requires below { (s : ℕ) (slot : RowNode) → get nodes.now s ≡ Some slot → slot.row.pid < 65000 }
     ensures { IsNext (keys (nodes_of kin (get nodes.now))) list_owner after result }
 {
     if after == 0 {
@@ -395,7 +401,7 @@ pub fn next_slot(
 /// Returns the slot of the first row in the list of `list_owner` that passes the test, if any. No row is copied.
 #[inline(always)]
 pub fn first_slot<F: Fn(&ProcData) -> bool>(
-    nodes: &Slab<Slot>,
+    nodes: &Slab<RowNode>,
     kin: ListKind,
     head: usize,
     list_owner: u32,

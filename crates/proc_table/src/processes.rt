@@ -9,7 +9,7 @@ ghost use Rattle.proc_table.specs.Walks.{next_tracee, next_child, find_tracee, f
 ghost use Rattle.proc_table.specs.Kept.{InOwnBlock, put_process};
 
 use crate::ProcData;
-use crate::links::{Links, ListKind, Slot, first_slot, next_slot, relink_both};
+use crate::links::{ListKind, ListLinks, RowNode, first_slot, next_slot, update_lists};
 use number_map::NumberMap;
 use pid_blocks::{Pid, Uid};
 use signals::SigSet;
@@ -36,21 +36,21 @@ fn parent_of(row: &ProcData) -> Option<u32>
 }
 
 /// Returns the slot of a row that is in no list yet.
-fn unlinked(row: ProcData) -> Slot
+fn unlinked(row: ProcData) -> RowNode
     ensures { result ≡ unlinked row }
 {
-    Slot {
+    RowNode {
         row,
-        tracees: Links::none(),
-        children: Links::none(),
+        tracees: ListLinks::none(),
+        children: ListLinks::none(),
     }
 }
 
 /// Returns the slot with another row.
-fn with_row(slot: &Slot, row: ProcData) -> Slot
+fn with_row(slot: &RowNode, row: ProcData) -> RowNode
     ensures { result ≡ record slot.now { row = row } }
 {
-    Slot {
+    RowNode {
         row,
         tracees: slot.tracees,
         children: slot.children,
@@ -60,7 +60,7 @@ fn with_row(slot: &Slot, row: ProcData) -> Slot
 /// The rows of processes by rising number. Each is in a slot, which its number finds.
 #[derive(Drop)]
 pub struct Processes {
-    nodes: Slab<Slot>,
+    nodes: Slab<RowNode>,
     slots: NumberMap<usize>,
     counts: [usize; 64],
 }
@@ -229,7 +229,7 @@ impl Processes {
         let parent = parent_of(&row);
         let slot = self.nodes.insert_reserved(unlinked(row));
         self.slots.insert(row.pid.get(), slot);
-        relink_both(&mut self.nodes, &self.slots, slot, tracer, parent);
+        update_lists(&mut self.nodes, &self.slots, slot, tracer, parent);
         self.counts[row.uid.slot()] += 1;
     }
 
@@ -243,7 +243,7 @@ impl Processes {
     {
         let number = row.pid.get();
         let slot = self.slots.get(number).unwrap();
-        relink_both(
+        update_lists(
             &mut self.nodes,
             &self.slots,
             slot,
@@ -273,7 +273,7 @@ impl Processes {
     {
         let number = pid.get();
         let slot = self.slots.get(number).unwrap();
-        relink_both(&mut self.nodes, &self.slots, slot, None, None);
+        update_lists(&mut self.nodes, &self.slots, slot, None, None);
         self.slots.remove(number);
         let gone = self.nodes.remove(slot);
         self.counts[gone.row.uid.slot()] -= 1;

@@ -10,7 +10,7 @@ use Rattle.trace_stop.proofs.Edited.{edit_none}
 use Rattle.trace_stop.proofs.Passes.{filter_map_same}
 use Rattle.trace_stop.proofs.Placed.{process_of-other}
 use Rattle.row_isolation.proofs.FilteredLists.{All-where, placed-only, placed-other}
-use Rattle.row_isolation.proofs.IsolationRelation.{Sim, Kin, KinLwp, own, own_lwp, is_own, not_own, named, process_same, each_same}
+use Rattle.row_isolation.proofs.IsolationRelation.{Sim, SameOwnership, SameOwnershipLwp, own, own_lwp, is_own, not_own, named, process_same, each_same}
 use Rattle.trace_stop.proofs.SoundAfterEdit.{processes_alone}
 use Rattle.proc_table.proofs.Placed.{Rise-placed, every_placed}
 use Rattle.proc_table.proofs.Rising.{Lacks-from_any}
@@ -26,7 +26,7 @@ StaysLwp l k = (k.pid ≡ l.pid) × GoodLwp k
 pub stays_if : (p q : ProcData) (b : Bool) → GoodProc p → (b ≡ true → Stays p q) → Stays p (if b then q else p)
 stays_if p q b good h = choose b q p (Stays p) h (λ e. (refl, refl, good, λ live. live))
 
-pub kin_of : (p q : ProcData) → Stays p q → Kin p (Some q)
+pub kin_of : (p q : ProcData) → Stays p q → SameOwnership p (Some q)
 kin_of p q st = (st.0, st.1, st.2)
 
 -- chosen rows, all of u
@@ -45,7 +45,7 @@ change_same s chosen process lwp foreign mine mine_lwp = each_same s (λ p. Some
 
 -- processes alone
 pub edit_same : {u : ℕ} {start c v : Rows} → Sim u start c v → (f : ProcData → Option ProcData)
-    → ((p : ProcData) → GoodProc p → p.uid ≡ u → Kin p (f p))
+    → ((p : ProcData) → GoodProc p → p.uid ≡ u → SameOwnership p (f p))
     → ((p : ProcData) → GoodProc p → p.uid ≢ u → f p ≡ Some p)
     → ((p : ProcData) → GoodProc p → p.uid ≡ u → is_live p ≡ true → LiveRow (f p))
     → Sim u start (edit_processes f c) (edit_processes f v)
@@ -74,7 +74,7 @@ seen_housed : {u : ℕ} {start c v : Rows} → Sim u start c v → AllByRecursio
 seen_housed {u} {start} {c} {v} s = subst (AllByRecursion (LiveOwner v.processes)) s.lwps (All-where (own_lwp u) (LiveOwner c.processes) (LiveOwner v.processes) (λ l house is. subst LiveRow (process_same s l.pid (eqb-true (pid_owner l.pid) u is)) house) c.lwps s.kept.closed.in_owners_block)
 
 pub edit_lwps_same : {u : ℕ} {start c v : Rows} → Sim u start c v → (g : LwpData → Option LwpData)
-    → ((l : LwpData) → GoodLwp l → KinLwp l (g l))
+    → ((l : LwpData) → GoodLwp l → SameOwnershipLwp l (g l))
     → ((l : LwpData) → GoodLwp l → pid_owner l.pid ≢ u → g l ≡ Some l)
     → Sim u start (edit_lwps g c) (edit_lwps g v)
 edit_lwps_same {u} {start} {c} {v} s g keep foreign = subst (Sim u start (edit_lwps g c)) (lwps_alone g v (seen_housed s)) (subst (λ rows. Sim u start rows (each (λ p. Some p) (λ p l. g l) v)) (lwps_alone g c s.kept.closed.in_owners_block) (each_same s (λ p. Some p) (λ p l. g l) (record {

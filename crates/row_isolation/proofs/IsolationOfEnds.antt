@@ -10,7 +10,7 @@ use Rattle.trace_stop.specs.End.{tracer_of, meets, is_doomed, dooms, process_aft
 use Rattle.trace_stop.proofs.Every.{not_same, by_bool, choose, choose_both, none_passes, All-edit, All-filter}
 use Rattle.row_isolation.specs.Closed.{Mine, GoodProc, GoodLwp}
 use Rattle.row_isolation.proofs.FilteredLists.{any_only, filter_map_only}
-use Rattle.row_isolation.proofs.IsolationRelation.{Sim, Kin, KinLwp, Keeps, own, is_own, either, process_same, at_number, each_same}
+use Rattle.row_isolation.proofs.IsolationRelation.{Sim, SameOwnership, SameOwnershipLwp, Keeps, own, is_own, either, process_same, at_number, each_same}
 use Rattle.row_isolation.proofs.IsolationOfEdits.{process_same_after, lwp_same_after, branch_rows}
 use Rattle.row_isolation.proofs.IsolationOfSignals.{owner_of_1, notified_same, posted_same, resumed_same, detached_same, is_numbered_foreign}
 
@@ -39,11 +39,11 @@ module _ {u : ℕ} (over : ℕ → Bool) (over_foreign : (n : ℕ) → pid_owner
   pub released_foreign : (p : ProcData) (l : LwpData) → GoodLwp l → pid_owner l.pid ≢ u → released over p l ≡ l
   released_foreign p l well ne = grind (arith, well.waits, ne, over_foreign)
 
-pub released_kin : (over : ℕ → Bool) (p : ProcData) (l : LwpData) → GoodLwp l → KinLwp l (Some (released over p l))
+pub released_kin : (over : ℕ → Bool) (p : ProcData) (l : LwpData) → GoodLwp l → SameOwnershipLwp l (Some (released over p l))
 released_kin over p l well = grind (arith, well)
 
 module _ {u : ℕ} (ends : ProcData → Bool) (over : ℕ → Bool) (ends_foreign : (p : ProcData) → GoodProc p → p.uid ≢ u → ends p ≡ false) (over_foreign : (n : ℕ) → pid_owner n ≢ u → over n ≡ false) (n w : ℕ) where
-  after_kin : (p : ProcData) → GoodProc p → Kin p (process_after ends over n w p)
+  after_kin : (p : ProcData) → GoodProc p → SameOwnership p (process_after ends over n w p)
   after_kin p good = grind (arith, nat_tests, good)
 
   after_foreign : IsUser u → (p : ProcData) → GoodProc p → p.uid ≢ u → process_after ends over n w p ≡ Some p

@@ -6,7 +6,7 @@ use Rattle.pid_blocks.specs.Blocks.{pid_owner}
 use Rattle.trace_stop.specs.declared.Resumption.{Resumption}
 use Rattle.row_isolation.specs.Closed.{Mine, GoodProc, GoodLwp}
 use Rattle.trace_stop.proofs.Every.{choose}
-use Rattle.row_isolation.proofs.IsolationRelation.{Sim, KinLwp, not_own, named, process_same, at_number, each_same}
+use Rattle.row_isolation.proofs.IsolationRelation.{Sim, SameOwnershipLwp, not_own, named, process_same, at_number, each_same}
 use Rattle.row_isolation.proofs.IsolationOfEdits.{Stays, StaysLwp, stays_if, kin_of, change_same}
 
 abbrev pub Mines : ℕ → List ℕ → Type 0
@@ -50,7 +50,7 @@ posted_same {u} {start} {c} {v} s sig to n here = subst (λ o. Sim u start (post
 
 -- Running on
 
-reported_kin : (p : ProcData) (l : LwpData) → GoodLwp l → KinLwp l (reported p l)
+reported_kin : (p : ProcData) (l : LwpData) → GoodLwp l → SameOwnershipLwp l (reported p l)
 reported_kin p l well = search (rules, choose)
 
 pub run_on_same : {u : ℕ} {start c v : Rows} → Sim u start c v → (chosen : ProcData → Bool) (process : ProcData → ProcData) (lwp : ProcData → LwpData → LwpData)
@@ -61,7 +61,7 @@ pub run_on_same : {u : ℕ} {start c v : Rows} → Sim u start c v → (chosen :
 run_on_same s chosen process lwp foreign stays stays_lwp = each_same s (λ p. Some (if chosen p then process p else p)) (λ p l. if chosen p then option_map (lwp p) (reported p l) else Some l) (record {
   mine = λ p good is. kin_of p _ (kept p good);
   foreign = λ p good ne. rw (foreign p good ne) refl;
-  lwp = λ p l good well is here. choose (chosen p) (option_map (lwp p) (reported p l)) (Some l) (KinLwp l) (λ e. then_lwp p l (reported p l) (reported_kin p l well)) (λ e. (refl, well));
+  lwp = λ p l good well is here. choose (chosen p) (option_map (lwp p) (reported p l)) (Some l) (SameOwnershipLwp l) (λ e. then_lwp p l (reported p l) (reported_kin p l well)) (λ e. (refl, well));
   foreign_lwp = λ p l good well ne here. rw (foreign p good ne) refl;
   live = λ p l good is live. let st = kept p good in inl (st.3 live);
 })
@@ -69,7 +69,7 @@ run_on_same s chosen process lwp foreign stays stays_lwp = each_same s (λ p. So
     kept : (p : ProcData) → GoodProc p → Stays p (if chosen p then process p else p)
     kept p good = stays_if p (process p) (chosen p) good (λ e. stays p good)
 
-    then_lwp : (p : ProcData) (l : LwpData) (o : Option LwpData) → KinLwp l o → KinLwp l (option_map (lwp p) o)
+    then_lwp : (p : ProcData) (l : LwpData) (o : Option LwpData) → SameOwnershipLwp l o → SameOwnershipLwp l (option_map (lwp p) o)
     then_lwp p l o k = grind (arith, stays_lwp p, k)
 
 pub resumed_same : {u : ℕ} {start c v : Rows} → Sim u start c v → (how : Resumption) (n : ℕ) → pid_owner n ≡ u → Sim u start (resumed how n c) (resumed how n v)

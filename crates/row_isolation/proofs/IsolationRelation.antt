@@ -73,16 +73,16 @@ at_number ps all n R none some = grind (arith, nat_tests, find_some (λ p. p.pid
 
 -- Each row on its own
 
-abbrev pub Kin : ProcData → Option ProcData → Type 0
-Kin p o = IfSome o (λ q. (q.pid ≡ p.pid) × (q.uid ≡ p.uid) × GoodProc q)
+abbrev pub SameOwnership : ProcData → Option ProcData → Type 0
+SameOwnership p o = IfSome o (λ q. (q.pid ≡ p.pid) × (q.uid ≡ p.uid) × GoodProc q)
 
-abbrev pub KinLwp : LwpData → Option LwpData → Type 0
-KinLwp l o = IfSome o (λ k. (k.pid ≡ l.pid) × GoodLwp k)
+abbrev pub SameOwnershipLwp : LwpData → Option LwpData → Type 0
+SameOwnershipLwp l o = IfSome o (λ k. (k.pid ≡ l.pid) × GoodLwp k)
 
 pub record Keeps (u : ℕ) (f : ProcData → Option ProcData) (g : ProcData → LwpData → Option LwpData) : Type 0 where
-  pub mine : (p : ProcData) → GoodProc p → p.uid ≡ u → Kin p (f p)
+  pub mine : (p : ProcData) → GoodProc p → p.uid ≡ u → SameOwnership p (f p)
   pub foreign : (p : ProcData) → GoodProc p → p.uid ≢ u → f p ≡ Some p
-  pub lwp : (p : ProcData) (l : LwpData) → GoodProc p → GoodLwp l → p.uid ≡ u → p.pid ≡ l.pid → KinLwp l (g p l)
+  pub lwp : (p : ProcData) (l : LwpData) → GoodProc p → GoodLwp l → p.uid ≡ u → p.pid ≡ l.pid → SameOwnershipLwp l (g p l)
   pub foreign_lwp : (p : ProcData) (l : LwpData) → GoodProc p → GoodLwp l → p.uid ≢ u → p.pid ≡ l.pid → g p l ≡ Some l
   pub live : (p : ProcData) (l : LwpData) → GoodProc p → p.uid ≡ u → is_live p ≡ true → LiveRow (f p) ⊎ (g p l ≡ None)
 
@@ -94,7 +94,7 @@ module _ {u : ℕ} {start c v : Rows} (s : Sim u start c v) (f : ProcData → Op
   after = filter_map f c.processes
 
   -- a process, afterwards
-  kin : (p : ProcData) → GoodProc p → Kin p (f p)
+  kin : (p : ProcData) → GoodProc p → SameOwnership p (f p)
   kin p good = either p.uid u (k.mine p good) (λ ne. grind (arith, k.foreign p good ne, good))
 
   live_after : (n : ℕ) (p : ProcData) → process_of n c.processes ≡ Some p → LiveRow (f p) → LiveRow (process_of n after)
@@ -104,11 +104,11 @@ module _ {u : ℕ} {start c v : Rows} (s : Sim u start c v) (f : ProcData → Op
   abbrev to : LwpData → Option LwpData
   to l = by_owner g l (process_of l.pid c.processes)
 
-  kin_lwp : (p : ProcData) (l : LwpData) → GoodProc p → GoodLwp l → p.pid ≡ l.pid → KinLwp l (g p l)
+  kin_lwp : (p : ProcData) (l : LwpData) → GoodProc p → GoodLwp l → p.pid ≡ l.pid → SameOwnershipLwp l (g p l)
   kin_lwp p l good well here = either p.uid u (λ is. k.lwp p l good well is here) (λ ne. grind (arith, k.foreign_lwp p l good well ne here, well))
 
-  kin_to : (l : LwpData) → GoodLwp l → KinLwp l (to l)
-  kin_to l well = at_number c.processes all l.pid (λ o. KinLwp l (by_owner g l o)) (refl, well) (λ p is good here. kin_lwp p l good well here)
+  kin_to : (l : LwpData) → GoodLwp l → SameOwnershipLwp l (to l)
+  kin_to l well = at_number c.processes all l.pid (λ o. SameOwnershipLwp l (by_owner g l o)) (refl, well) (λ p is good here. kin_lwp p l good well here)
 
   foreign_to : (l : LwpData) → GoodLwp l → pid_owner l.pid ≢ u → to l ≡ Some l
   foreign_to l well ne = at_number c.processes all l.pid (λ o. by_owner g l o ≡ Some l) refl (λ p is good here. k.foreign_lwp p l good well (λ e. ne (sym (ap pid_owner here) ∙ good.block ∙ e)) here)

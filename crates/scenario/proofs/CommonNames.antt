@@ -8,10 +8,10 @@ pub use Rattle.std.specs.{Io.KnownBytes.Appends, Io.KnownBytes.Keeps, Io.KnownBy
 pub use Rattle.requests.specs.{Hosts.Steps, Making.Makes}
 pub use Rattle.requests.specs.{Machine.Machine, Machine.empty, Run.replies}
 pub use Rattle.step_types.specs.{Plain.Asked, Plain.PlainStep, Plain.with_handler, Replies.is_memory, declared.Reply.Reply, declared.step.Step.Step}
-pub use Rattle.scenario_text.proofs.FilledLemmas.{left_after}
-pub use Rattle.scenario_text.specs.Plan.{asked, filled, first_policy, policies_after, policies_in, policy_before, step_with}
+pub use Rattle.scenario_text.proofs.WithPoliciesLemmas.{left_after}
+pub use Rattle.scenario_text.specs.Plan.{asked, with_policies, first_policy, policies_after, policies_in, policy_before, with_installed}
 pub use Rattle.stop_handlers.specs.declared.Rule.{Rule}
 pub use Rattle.visibility.proofs.{Answered.map-push, Steps.did}
-pub use Rattle.visibility.specs.Runs.{Did, told}
+pub use Rattle.visibility.specs.Runs.{MakesStep, reply_given}
 pub use Rattle.scenario.specs.{Lines.Answered, Lines.Line, Lines.line, Lines.lines_after, Lines.lines_of, Lines.shown_line, Lines.text_of, declared.style.Style.Style}
 pub use Rattle.scenario.specs.Runs.{IsBound, answered, answers_of, paired, shown}

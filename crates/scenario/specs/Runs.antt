@@ -6,7 +6,7 @@ use Rattle.requests.specs.{Hosts.Steps, Machine.Machine, Machine.empty, Run.repl
 use Rattle.step_types.specs.{Plain.Asked, Plain.PlainStep, declared.Reply.Reply, declared.step.Step.Step}
 use Rattle.scenario.specs.{declared.running.RunFault.RunFault, declared.running.RunFault.TheVariants.Write, Lines.Answered, Lines.text, Lines.text_of, Lines.lines, Lines.lines_of}
 use Rattle.scenario.specs.declared.style.Style.{Style}
-use Rattle.scenario_text.specs.Plan.{Plan, first_policy, policies_after, policy_before, step_with}
+use Rattle.scenario_text.specs.Plan.{Plan, first_policy, policies_after, policy_before, with_installed}
 
 -- a reply to a user
 abbrev pub answered : ℕ × Reply → Answered
@@ -39,12 +39,12 @@ run_fault_status fault = 3
 
 -- unless the step is an install without a handler: r is the step with its handler, and new are the handlers left
 abbrev pub IsBound : Step ⊤ → List (List Rule) → List (List Rule) → Option PlainStep → Type 0
-IsBound shape old new r =
-    (others : List (List Rule)) → policy_before (step_with (first_policy old) shape) others ≡ old
-    → (new ≡ policies_after shape old) × (r ≡ Some (step_with (first_policy old) shape))
+IsBound bare_step old new r =
+    (others : List (List Rule)) → policy_before (with_installed (first_policy old) bare_step) others ≡ old
+    → (new ≡ policies_after bare_step old) × (r ≡ Some (with_installed (first_policy old) bare_step))
 
 -- in this case the host makes the step of the user, with this reply
 abbrev pub IsAnswered : ℕ → Step ⊤ → List (List Rule) → List (List Rule) → Machine → Machine → Option Reply → Type 0
-IsAnswered u shape old new m n r =
-    (others : List (List Rule)) → policy_before (step_with (first_policy old) shape) others ≡ old
-    → (new ≡ policies_after shape old) × MatchOption r ⊥ (λ reply. Steps u (step_with (first_policy old) shape) m n reply)
+IsAnswered u bare_step old new m n r =
+    (others : List (List Rule)) → policy_before (with_installed (first_policy old) bare_step) others ≡ old
+    → (new ≡ policies_after bare_step old) × MatchOption r ⊥ (λ reply. Steps u (with_installed (first_policy old) bare_step) m n reply)

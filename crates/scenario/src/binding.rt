@@ -10,7 +10,7 @@ ghost use Rattle.scenario.specs.declared.running.RunFault.TheVariants.{Mismatch,
 use crate::running::RunFault;
 use pid_blocks::Uid;
 use requests::Step;
-use scenario_text::{Scenario, StepShape};
+use scenario_text::{BareStep, Scenario};
 use std::alloc::{AllocError, Global};
 use std::vec::IntoIter;
 use stop_handlers::{Decider, Decision, Handler, Policy, StopView};
@@ -43,15 +43,15 @@ pub fn obey<F: Decider + Send + Drop>(handlers: &[Handler<F>], policies: &[Polic
 }
 
 /// Returns the step as a host makes it. An install gets the next handler.
-pub fn bound_step<F: Decider + Send + Drop>(
-    shape: &StepShape,
+pub fn step_with_handler<F: Decider + Send + Drop>(
+    bare_step: &BareStep,
     handlers: &mut IntoIter<Handler<F>>,
 ) -> Option<Step<Handler<F>>>
-    ensures { IsBound shape.now (into_iter_items handlers.old) (into_iter_items handlers.new) result }
+    ensures { IsBound bare_step.now (into_iter_items handlers.old) (into_iter_items handlers.new) result }
 {
-    match shape {
-        Step::Install { .. } => shape.with_handler(Some(handlers.next()?)),
-        _ => shape.with_handler(None),
+    match bare_step {
+        Step::Install { .. } => bare_step.with_handler(Some(handlers.next()?)),
+        _ => bare_step.with_handler(None),
     }
 }
 
@@ -66,14 +66,14 @@ fn bound<F: Decider + Send + Drop>(
     ensures few { IfOk result (λ v. length v.items ≤ max_steps) }
     ensures err { IfErr result (λ e. e ≡ Memory) }
 {
-    let shapes = scenario.shapes();
-    let mut steps = Vec::with_capacity(alloc, shapes.len())?;
+    let bare_steps = scenario.bare_steps();
+    let mut steps = Vec::with_capacity(alloc, bare_steps.len())?;
     let mut rest = handlers.into_iter();
-    for shape in shapes {
-        let Some(step) = bound_step(&shape.1, &mut rest) else {
+    for bare_step in bare_steps {
+        let Some(step) = step_with_handler(&bare_step.1, &mut rest) else {
             unreachable!()
         };
-        steps.push((shape.0, step))?;
+        steps.push((bare_step.0, step))?;
     }
     Ok(steps)
 }

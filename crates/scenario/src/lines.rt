@@ -16,10 +16,10 @@ use requests::Reply;
 use scenario_text::USERS;
 use std::alloc::{AllocError, Global};
 
-/// Adds the line of a reply, in words.
-fn push_words(text: &mut String, uid: Uid, number: u64, reply: &Reply) -> Result<(), AllocError>
+/// Adds the line of a reply as text.
+fn push_text(text: &mut String, uid: Uid, number: u64, reply: &Reply) -> Result<(), AllocError>
     ensures { OnOk result (string_bytes text.new
-        ≡ string_bytes text.old ++ (line style.Words number (answered (uid, reply.now))).text) }
+        ≡ string_bytes text.old ++ (line style.Text number (answered (uid, reply.now))).text) }
 {
     let mut digits = Buffer::new();
     let mut line = ArrayString::<ROOM>::new();
@@ -64,7 +64,7 @@ pub fn push_line(
         ≡ string_bytes text.old ++ (line style number (answered (uid, reply.now))).text) }
 {
     match style {
-        Style::Words => push_words(text, uid, number, reply),
+        Style::Text => push_text(text, uid, number, reply),
         Style::Json => push_object(alloc, objects, text, uid, number, reply),
     }
 }

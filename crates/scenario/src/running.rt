@@ -5,14 +5,14 @@ ghost use Rattle.scenario_text.specs.Plan.{policies_in};
 ghost use Rattle.scenario.specs.Runs.{answers_of, shown, Writes, IsAnswered, run_fault_status};
 ghost use Rattle.scenario.specs.declared.running.RunFault.TheVariants.{Mismatch, Memory, Start, Write as WriteFault};
 
-use crate::binding::{bound_step, obey};
+use crate::binding::{obey, step_with_handler};
 use crate::lines::{count_reply, push_shown};
 use crate::retrying::write_some;
 use crate::style::Style;
 use pid_blocks::Uid;
 use reply_json::ObjectWriter;
 use requests::{Host, Reply};
-use scenario_text::{Scenario, StepShape, USERS};
+use scenario_text::{BareStep, Scenario, USERS};
 use std::alloc::{AllocError, AllocFailed, Global};
 use std::io::Write;
 use std::vec::IntoIter;
@@ -69,15 +69,15 @@ fn reply_of<F: Decider + Send + Drop>(
     alloc: Global,
     host: &mut Host<F>,
     user: Uid,
-    shape: &StepShape,
+    bare_step: &BareStep,
     handlers: &mut IntoIter<Handler<F>>,
 ) -> Option<Reply>
-    ensures { IsAnswered user shape.now (into_iter_items handlers.old) (into_iter_items handlers.new) host.old host.new result }
+    ensures { IsAnswered user bare_step.now (into_iter_items handlers.old) (into_iter_items handlers.new) host.old host.new result }
 {
-    if let Some(reply) = host.make(alloc, user, shape) {
+    if let Some(reply) = host.make(alloc, user, bare_step) {
         return Some(reply);
     }
-    let step = bound_step(shape, handlers)?;
+    let step = step_with_handler(bare_step, handlers)?;
     Some(host.step(alloc, user, step))
 }
 
@@ -93,26 +93,26 @@ fn text_of<F: Decider + Send + Drop>(
     ensures ok { IfOk result (λ s. string_bytes s ≡ shown options.now.style options.now.user (answers_of scenario.now)) }
     ensures err { IfErr result (λ e. e ≡ Memory) }
 {
-    let shapes = scenario.shapes();
+    let bare_steps = scenario.bare_steps();
     let mut host = Host::new(alloc, scenario.settings())?;
     let mut rest = handlers.into_iter();
     let mut text = String::new(alloc);
     let mut objects = ObjectWriter::new(alloc);
     let mut made = [0u64; USERS];
-    for shape in shapes {
-        let Some(reply) = reply_of(alloc, &mut host, shape.0, &shape.1, &mut rest) else {
+    for bare_step in bare_steps {
+        let Some(reply) = reply_of(alloc, &mut host, bare_step.0, &bare_step.1, &mut rest) else {
             unreachable!()
         };
         if reply.is_memory() {
             return Err(RunFault::Memory);
         }
-        let number = count_reply(&mut made, shape.0);
+        let number = count_reply(&mut made, bare_step.0);
         push_shown(
             alloc,
             options,
             &mut objects,
             &mut text,
-            shape.0,
+            bare_step.0,
             number,
             &reply,
         )?;

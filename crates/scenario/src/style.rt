@@ -2,7 +2,7 @@
 #[derive(Clone, Copy, Debug, PartialEq, Eq, Drop)]
 pub enum Style {
     /// Words, separated by spaces.
-    Words,
+    Text,
     /// A JSON object.
     Json,
 }

@@ -1,6 +1,6 @@
 pub mod CommonNames
 pub mod Answering
-pub mod FilledLemmas
+pub mod WithPoliciesLemmas
 pub mod ReadLoops
 pub mod Lists
 pub mod KeyLemmas

@@ -26,8 +26,8 @@ policies_in (a ∷ rest) = policy_before a.step (policies_in rest)
 -- ---- steps with separate policies
 
 -- the step with b in place of its handler, if it installs one
-abbrev pub step_with : {A : Type 0} {B : Type 0} → B → Step A → Step B
-step_with b s = map_handler (λ own. b) s
+abbrev pub with_installed : {A : Type 0} {B : Type 0} → B → Step A → Step B
+with_installed b s = map_handler (λ own. b) s
 
 abbrev pub first_policy : List (List Rule) → List Rule
 first_policy [] = []
@@ -43,9 +43,9 @@ policies_after (Install caller own) policies = other_policies policies
 policies_after s policies = policies
 
 -- the steps, each install with the next policy
-abbrev pub filled : List (ℕ × Step ⊤) → List (List Rule) → List Asked
-filled [] policies = []
-filled (s ∷ rest) policies = record { uid = s.0; step = step_with (first_policy policies) s.1 } ∷ filled rest (policies_after s.1 policies)
+abbrev pub with_policies : List (ℕ × Step ⊤) → List (List Rule) → List Asked
+with_policies [] policies = []
+with_policies (s ∷ rest) policies = record { uid = s.0; step = with_installed (first_policy policies) s.1 } ∷ with_policies rest (policies_after s.1 policies)
 
 abbrev pub first : List (List Rule) → Option (List Rule)
 first [] = None

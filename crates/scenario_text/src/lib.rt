@@ -26,4 +26,4 @@ pub use one_step::{MAX_STEP_BYTES, StepReader, parse_step};
 pub use parsing::{one_answer, parse};
 pub use plan::{Scenario, USERS};
 pub use reading::read;
-pub use step_list::{StepList, StepShape, Steps};
+pub use step_list::{BareStep, StepList, Steps};

@@ -1,4 +1,4 @@
-use crate::step_list::{StepList, StepShape, Steps};
+use crate::step_list::{BareStep, StepList, Steps};
 use pid_blocks::Uid;
 use std::marker::Model;
 use step_types::Settings;
@@ -30,7 +30,7 @@ impl Model for Scenario {
 
 impl Scenario {
     ghost use Rattle.std.specs.Prelude.{◌≡◌, ◌≤◌, length, map};
-    ghost use Rattle.scenario_text.specs.Plan.{Plan, asked, filled, max_steps, policies_in};
+    ghost use Rattle.scenario_text.specs.Plan.{Plan, asked, with_policies, max_steps, policies_in};
 
     /// Creates the scenario of these steps. There are at most `MAX_STEPS` of them.
     pub fn new(settings: Settings, steps: StepList) -> Scenario
@@ -48,11 +48,11 @@ impl Scenario {
     }
 
     /// Returns the steps in order, each with its user and without the policy that it installs.
-    pub fn shapes(&self) -> &[(Uid, StepShape)]
-        ensures steps { filled result.now (policies_in self.now.steps) ≡ self.now.steps }
+    pub fn bare_steps(&self) -> &[(Uid, BareStep)]
+        ensures steps { with_policies result.now (policies_in self.now.steps) ≡ self.now.steps }
         ensures bound { length result.now ≤ max_steps }
     {
-        self.steps.shapes()
+        self.steps.bare_steps()
     }
 
     /// Returns the steps in order, each with its user.

@@ -1,7 +1,7 @@
 //! Lists of users' steps. They keep the installed policies separate.
 ghost use Rattle.std.specs.Prelude.{◌≡◌, ◌++◌, [], OnOk, OnErr};
 ghost use Rattle.step_types.specs.Plain.{with_handler};
-ghost use Rattle.scenario_text.specs.Plan.{first, policies_after, policy_before, step_with};
+ghost use Rattle.scenario_text.specs.Plan.{first, policies_after, policy_before, with_installed};
 
 use pid_blocks::Uid;
 use std::alloc::{AllocError, Global};
@@ -10,45 +10,45 @@ use step_types::{PlainStep, Step};
 use stop_handlers::Policy;
 
 /// A step without the policy that it installs, if it installs one.
-pub type StepShape = Step<()>;
+pub type BareStep = Step<()>;
 
 /// Steps of users in order. Few steps install a policy, and a policy is large, so the list keeps the policies separate:
 /// one for each install, in order.
 #[derive(Drop)]
 pub struct StepList {
-    shapes: Vec<(Uid, StepShape)>,
+    bare_steps: Vec<(Uid, BareStep)>,
     policies: Vec<Policy>,
 }
 
 impl Model for StepList {
     ghost use Rattle.std.specs.Prelude.{◌≡◌, List};
     ghost use Rattle.step_types.specs.Plain.{Asked};
-    ghost use Rattle.scenario_text.specs.Plan.{filled, policies_in};
+    ghost use Rattle.scenario_text.specs.Plan.{with_policies, policies_in};
 
     ghost Value = { List Asked };
 
-    ghost view = { λ l. filled l.shapes.items l.policies.items };
+    ghost view = { λ l. with_policies l.bare_steps.items l.policies.items };
 
-    ghost invariant = { λ l. policies_in (filled l.shapes.items l.policies.items) ≡ l.policies.items };
+    ghost invariant = { λ l. policies_in (with_policies l.bare_steps.items l.policies.items) ≡ l.policies.items };
 }
 
 /// The remaining steps of a list, each with its policy.
 #[derive(Drop)]
 pub struct Steps<'a> {
-    shapes: &'a [(Uid, StepShape)],
+    bare_steps: &'a [(Uid, BareStep)],
     policies: &'a [Policy],
 }
 
 impl<'a> Model for Steps<'a> {
     ghost use Rattle.std.specs.Prelude.{◌≡◌, ℕ, List, map};
     ghost use Rattle.step_types.specs.Plain.{PlainStep};
-    ghost use Rattle.scenario_text.specs.Plan.{filled, policies_in, user_and_step};
+    ghost use Rattle.scenario_text.specs.Plan.{with_policies, policies_in, user_and_step};
 
     ghost Value = { List (ℕ × PlainStep) };
 
-    ghost view = { λ s. map user_and_step (filled s.shapes.now s.policies.now) };
+    ghost view = { λ s. map user_and_step (with_policies s.bare_steps.now s.policies.now) };
 
-    ghost invariant = { λ s. policies_in (filled s.shapes.now s.policies.now) ≡ s.policies.now };
+    ghost invariant = { λ s. policies_in (with_policies s.bare_steps.now s.policies.now) ≡ s.policies.now };
 }
 
 impl<'a> Iterator for Steps<'a> {
@@ -61,45 +61,45 @@ impl<'a> Iterator for Steps<'a> {
     ghost remaining = { item_count (λ rest. rest) };
 
     fn next(&mut self) -> Option<(Uid, PlainStep)> {
-        let (first, shapes) = self.shapes.split_first()?;
-        let Some(step) = filled_step(&first.1, self.policies) else {
+        let (first, bare_steps) = self.bare_steps.split_first()?;
+        let Some(step) = step_with_policy(&first.1, self.policies) else {
             unreachable!()
         };
         self.policies = policies_after(&first.1, self.policies);
-        self.shapes = shapes;
+        self.bare_steps = bare_steps;
         Some((first.0, step))
     }
 }
 
 /// Returns the step with the first of the policies, if it installs one. `None` where it does and there is no policy.
-fn filled_step(shape: &StepShape, policies: &[Policy]) -> Option<PlainStep>
-    ensures { result ≡ with_handler (first policies.now) shape.now }
+fn step_with_policy(bare_step: &BareStep, policies: &[Policy]) -> Option<PlainStep>
+    ensures { result ≡ with_handler (first policies.now) bare_step.now }
 {
     match policies.split_first() {
-        Some((policy, _)) => shape.with_handler(Some(*policy)),
-        None => shape.with_handler(None),
+        Some((policy, _)) => bare_step.with_handler(Some(*policy)),
+        None => bare_step.with_handler(None),
     }
 }
 
 /// Returns the policies that remain after the step.
-fn policies_after<'a>(shape: &StepShape, policies: &'a [Policy]) -> &'a [Policy]
-    ensures { result.now ≡ policies_after shape.now policies.now }
+fn policies_after<'a>(bare_step: &BareStep, policies: &'a [Policy]) -> &'a [Policy]
+    ensures { result.now ≡ policies_after bare_step.now policies.now }
 {
-    match (shape, policies.split_first()) {
+    match (bare_step, policies.split_first()) {
         (Step::Install { .. }, Some((_, others))) => others,
         _ => policies,
     }
 }
 
 /// Returns the step without its policy.
-#[tactic(auto, using(crate::proofs::FilledLemmas::handled))]
-fn shape(step: &PlainStep) -> StepShape
-    ensures { result ≡ step_with tt step.now }
+#[tactic(auto, using(crate::proofs::WithPoliciesLemmas::handled))]
+fn bare_step(step: &PlainStep) -> BareStep
+    ensures { result ≡ with_installed tt step.now }
 {
-    let Some(shape) = step.with_handler(Some(())) else {
+    let Some(bare_step) = step.with_handler(Some(())) else {
         unreachable!()
     };
-    shape
+    bare_step
 }
 
 /// Adds the policy of the step, if it installs one. An error means out of memory, and changes nothing.
@@ -119,54 +119,54 @@ fn push_policy(policies: &mut Vec<Policy>, step: &PlainStep) -> Result<(), Alloc
 
 impl StepList {
     ghost use Rattle.std.specs.Prelude.{◌≡◌, ◌++◌, [], ◌∷◌, length, map, OnOk, OnErr};
-    ghost use Rattle.scenario_text.specs.Plan.{asked, filled, policies_in};
+    ghost use Rattle.scenario_text.specs.Plan.{asked, with_policies, policies_in};
 
     /// Creates an empty list.
     pub fn new(alloc: Global) -> StepList
         ensures { result ≡ [] }
     {
         StepList {
-            shapes: Vec::new(alloc),
+            bare_steps: Vec::new(alloc),
             policies: Vec::new(alloc),
         }
     }
 
     /// Adds a step of a user. An error means out of memory, and changes nothing.
-    #[tactic(auto, using(crate::proofs::FilledLemmas::filled_more, crate::proofs::FilledLemmas::policies_more))]
+    #[tactic(auto, using(crate::proofs::WithPoliciesLemmas::with_policies_more, crate::proofs::WithPoliciesLemmas::policies_more))]
     pub fn push(&mut self, user: Uid, step: &PlainStep) -> Result<(), AllocError>
         ensures ok { OnOk result (self.new ≡ self.old ++ asked (user, step.now) ∷ []) }
         ensures err { OnErr result (self.new ≡ self.old) }
     {
-        self.shapes.reserve(1)?;
+        self.bare_steps.reserve(1)?;
         push_policy(&mut self.policies, step)?;
-        self.shapes.push_reserved((user, shape(step)));
+        self.bare_steps.push_reserved((user, bare_step(step)));
         Ok(())
     }
 
     /// Returns the number of steps.
-    #[tactic(auto, using(crate::proofs::FilledLemmas::length_filled))]
+    #[tactic(auto, using(crate::proofs::WithPoliciesLemmas::length_with_policies))]
     pub fn len(&self) -> usize
         ensures { result ≡ length self.now }
     {
-        self.shapes.len()
+        self.bare_steps.len()
     }
 
     /// Returns the steps in order, each with its user and without its policy.
-    #[tactic(auto, using(crate::proofs::FilledLemmas::length_filled))]
-    pub fn shapes(&self) -> &[(Uid, StepShape)]
-        ensures steps { filled result.now (policies_in self.now) ≡ self.now }
+    #[tactic(auto, using(crate::proofs::WithPoliciesLemmas::length_with_policies))]
+    pub fn bare_steps(&self) -> &[(Uid, BareStep)]
+        ensures steps { with_policies result.now (policies_in self.now) ≡ self.now }
         ensures count { length result.now ≡ length self.now }
     {
-        self.shapes.as_slice()
+        self.bare_steps.as_slice()
     }
 
     /// Returns the steps in order, each with its user.
-    #[tactic(auto, using(crate::proofs::FilledLemmas::asked_again))]
+    #[tactic(auto, using(crate::proofs::WithPoliciesLemmas::asked_again))]
     pub fn steps(&self) -> Steps<'_>
         ensures { map asked result ≡ self.now }
     {
         Steps {
-            shapes: self.shapes.as_slice(),
+            bare_steps: self.bare_steps.as_slice(),
             policies: self.policies.as_slice(),
         }
     }

@@ -1,8 +1,8 @@
--- Sessions, scripts, jobs and transcripts, place by place.
+-- Sessions, scripts, outputs and transcripts, place by place.
 use Rattle.std.proofs.Common.{◌≡◌, ℕ, zero, suc, ◌+◌, ◌<◌, ◌≤◌, List, [], ◌∷◌, ◌++◌, length, map, Vec, Global, vec_len, slice_index_or, sym, refl, ap, ◌∙◌, subst, arith, All, ◌==◌, false}
 use Rattle.sessions.proofs.CommonNames.{AllByRecursion, nat_tests, get_or-map, length-map, All-from_recursion, recursion_from_All, Machine, PlainStep, Entry, entries_of, GivesBack, max_calls, Each, all_of, each_of, SessionData, HostData}
-use Rattle.sessions.proofs.CommonNames.{IsBelow, IsOf, InJournal, new_session, new_sessions, Job, Done, BoxedScript, Transcript, Did, Pairs, AllDone, IsDone, IsReady, IsBegun, Drafted, job_report, job_session}
-use Rattle.sessions.proofs.CommonNames.{job_steps, done_session, done_transcript, SmallStep, own_step, boxed_script, report_of, uid_of, steps_of, AllPlay, AllTell, OwnEntries, AreFew, Answers, AllAnswer, RanBy}
+use Rattle.sessions.proofs.CommonNames.{IsBelow, IsOf, InJournal, new_session, new_sessions, SessionScript, SessionOutput, BoxedScript, Transcript, HasMade, Pairs, AllDone, IsDone, IsReady, IsBegun, Drafted, script_report, script_session}
+use Rattle.sessions.proofs.CommonNames.{script_steps, output_session, output_transcript, SmallStep, own_step, boxed_script, report_of, uid_of, steps_of, AllPlay, AllTell, OwnEntries, AreFew, Answers, AllAnswer, RanBy}
 use mathlib.Core.List.{map-append}
 use Rattle.atomic_table.specs.Seated.{TableId}
 use Rattle.step_types.specs.declared.Reply.{Reply}
@@ -104,29 +104,29 @@ module _ {S : Type 0} (f : S → ℕ × List PlainStep) (count : S → ℕ) (cou
   short_plain ss short = All-from_recursion AreFew (map f ss) (short_each ss (recursion_from_All (λ s. count s ≤ max_calls) ss short))
 
 module _ {F T D : Type 0} (drafted : Drafted D T) (h : Machine) (z : TableId) where
-  -- what is known of the jobs that were made of the scripts
-  abbrev pub Prepared : List (BoxedScript F T) → List (Job F T D) → Type 0
-  Prepared ss js = (map job_session js ≡ new_sessions 0 z h (map uid_of ss)) × (map job_steps js ≡ map steps_of ss) × (map job_report js ≡ map report_of ss) × Each (IsBegun drafted) js
+  -- what is known of the session scripts that were made of the scripts
+  abbrev pub Prepared : List (BoxedScript F T) → List (SessionScript F T D) → Type 0
+  Prepared ss js = (map script_session js ≡ new_sessions 0 z h (map uid_of ss)) × (map script_steps js ≡ map steps_of ss) × (map script_report js ≡ map report_of ss) × Each (IsBegun drafted) js
 
-  pub jobs_length : (ss : List (BoxedScript F T)) (js : List (Job F T D)) → Prepared ss js → length js ≡ length ss
-  jobs_length ss js p = same_count job_steps steps_of js ss p.1
+  pub jobs_length : (ss : List (BoxedScript F T)) (js : List (SessionScript F T D)) → Prepared ss js → length js ≡ length ss
+  jobs_length ss js p = same_count script_steps steps_of js ss p.1
 
-  pub session_at : (ss : List (BoxedScript F T)) (js : List (Job F T D)) → Prepared ss js → (k : ℕ) (s : BoxedScript F T) (j : Job F T D) → k < length ss → (slice_index_or js k j).session ≡ new_session (slice_index_or ss k s).uid k z h
+  pub session_at : (ss : List (BoxedScript F T)) (js : List (SessionScript F T D)) → Prepared ss js → (k : ℕ) (s : BoxedScript F T) (j : SessionScript F T D) → k < length ss → (slice_index_or js k j).session ≡ new_session (slice_index_or ss k s).uid k z h
   session_at ss js p k s j lt =
       let len = jobs_length ss js p in
       let us = length-map ss uid_of in
       let zero_more : 0 + k ≡ k = omega arith in
-      sym (get_or-map job_session js k j j.session (omega arith)) ∙ ap (λ l. slice_index_or l k j.session) p.0 ∙ new_session_at 0 z h (map uid_of ss) k j.session s.uid (omega arith)
+      sym (get_or-map script_session js k j j.session (omega arith)) ∙ ap (λ l. slice_index_or l k j.session) p.0 ∙ new_session_at 0 z h (map uid_of ss) k j.session s.uid (omega arith)
       ∙ ap (λ m. new_session (slice_index_or (map uid_of ss) k s.uid) m z h) zero_more ∙ ap (λ u. new_session u k z h) (get_or-map uid_of ss k s s.uid lt)
 
-  -- the jobs can be run on this host
-  pub ready : (d : HostData) (ss : List (BoxedScript F T)) (js : List (Job F T D)) → d.id ≡ z → d.start ≡ h → All AreFew (map boxed_script ss) → Prepared ss js → Each (IsReady drafted d) js
+  -- the session scripts can be run on this host
+  pub ready : (d : HostData) (ss : List (BoxedScript F T)) (js : List (SessionScript F T D)) → d.id ≡ z → d.start ≡ h → All AreFew (map boxed_script ss) → Prepared ss js → Each (IsReady drafted d) js
   ready d ss js id start short p =
       let len = jobs_length ss js p in
       each_of (IsReady drafted d) js (λ k j lt.
       let s : BoxedScript F T = record { uid = 0; steps = j.steps; report = j.report.value } in
       let script = slice_index_or ss k s in
-      let same = same_at job_steps steps_of js ss p.1 k j s (omega arith) in
+      let same = same_at script_steps steps_of js ss p.1 k j s (omega arith) in
       let new = session_at ss js p k s j (omega arith) in
       let room = all_of (IsBegun drafted) js p.3 k j lt in
       let all = length-map ss boxed_script in
@@ -142,39 +142,39 @@ module _ {F T D : Type 0} (drafted : Drafted D T) (h : Machine) (z : TableId) wh
       ))
 
   module _ {O : Type 0} (made_of : O → List Reply) (tells : T → ℕ → O → Type 0) where
-    pub done_at : (ss : List (BoxedScript F T)) (js : List (Job F T D)) (ds : List (Done O)) → Prepared ss js → AllDone made_of tells js ds → (k : ℕ) (s : BoxedScript F T) (d : Done O) → k < length ss
-        → Did (new_session (slice_index_or ss k s).uid k z h) (map own_step (slice_index_or ss k s).steps.items) (made_of (slice_index_or ds k d).output) (slice_index_or ds k d).session
+    pub done_at : (ss : List (BoxedScript F T)) (js : List (SessionScript F T D)) (ds : List (SessionOutput O)) → Prepared ss js → AllDone made_of tells js ds → (k : ℕ) (s : BoxedScript F T) (d : SessionOutput O) → k < length ss
+        → HasMade (new_session (slice_index_or ss k s).uid k z h) (map own_step (slice_index_or ss k s).steps.items) (made_of (slice_index_or ds k d).output) (slice_index_or ds k d).session
         × tells (slice_index_or ss k s).report (slice_index_or ss k s).uid (slice_index_or ds k d).output
     done_at ss [] ds p r k s d lt = let none = jobs_length ss [] p in absurd (omega arith)
     done_at ss (j ∷ others) ds p r k s d lt =
-        let js : List (Job F T D) = j ∷ others in
+        let js : List (SessionScript F T D) = j ∷ others in
         let len = jobs_length ss js p in
         let did = pairs_at (IsDone made_of tells) js ds r k j d (omega arith) in
         let P : SessionData × Vec SmallStep Global × T → Type 0 =
-        λ w. Did w.0 (map own_step w.1.items) (made_of (slice_index_or ds k d).output) (slice_index_or ds k d).session × tells w.2 w.0.uid (slice_index_or ds k d).output in
-        subst P (λ i. (session_at ss js p k s j lt i, same_at job_steps steps_of js ss p.1 k j s lt i, same_at job_report report_of js ss p.2 k j s lt i)) did
+        λ w. HasMade w.0 (map own_step w.1.items) (made_of (slice_index_or ds k d).output) (slice_index_or ds k d).session × tells w.2 w.0.uid (slice_index_or ds k d).output in
+        subst P (λ i. (session_at ss js p k s j lt i, same_at script_steps steps_of js ss p.1 k j s lt i, same_at script_report report_of js ss p.2 k j s lt i)) did
 
     -- the sessions are still of this host
-    pub of_host : (e : HostData) (js : List (Job F T D)) (ds : List (Done O)) → Each (IsReady drafted e) js → AllDone made_of tells js ds → Each (IsOf e) (map done_session ds)
+    pub of_host : (e : HostData) (js : List (SessionScript F T D)) (ds : List (SessionOutput O)) → Each (IsReady drafted e) js → AllDone made_of tells js ds → Each (IsOf e) (map output_session ds)
     of_host e [] [] a r = tt
     of_host e [] (d ∷ ds) a r = absurd r
     of_host e (j ∷ js) [] a r = absurd r
     of_host e (j ∷ js) (d ∷ ds) a r = ((r.0.0.3 ∙ a.0.0.0, r.0.0.4 ∙ a.0.0.1), of_host e js ds a.1 r.1)
 
     -- each transcript is its script's, and the journal has just its entries
-    pub all_play : (log : List Entry) (ss : List (BoxedScript F T)) (js : List (Job F T D)) (ds : List (Done O)) → Prepared ss js → AllDone made_of tells js ds → (xs : List SessionData) (ts : List (Transcript O)) → xs ≡ map done_session ds → ts ≡ map done_transcript ds → All (InJournal log) xs → AllAnswer made_of log (map boxed_script ss) ts
+    pub all_play : (log : List Entry) (ss : List (BoxedScript F T)) (js : List (SessionScript F T D)) (ds : List (SessionOutput O)) → Prepared ss js → AllDone made_of tells js ds → (xs : List SessionData) (ts : List (Transcript O)) → xs ≡ map output_session ds → ts ≡ map output_transcript ds → All (InJournal log) xs → AllAnswer made_of log (map boxed_script ss) ts
     all_play log ss js ds p r xs ts is was stands =
         let len = jobs_length ss js p in
         let len' = pairs_length (IsDone {F = F} {T = T} {D = D} made_of tells) js ds r in
-        answers_of boxed_script made_of log ss ts (ap length was ∙ length-map ds done_transcript ∙ len' ∙ len)
+        answers_of boxed_script made_of log ss ts (ap length was ∙ length-map ds output_transcript ∙ len' ∙ len)
         (λ k s t lt.
-        let d : Done O = record { session = new_session 0 0 z h; output = t.replies } in
+        let d : SessionOutput O = record { session = new_session 0 0 z h; output = t.replies } in
         let did = (done_at ss js ds p r k s d lt).0 in
-        let x : Done O = slice_index_or ds k d in
-        let there = ap (λ l. slice_index_or l k t) was ∙ get_or-map done_transcript ds k d t (omega arith) in
-        let here : slice_index_or xs k d.session ≡ x.session = ap (λ l. slice_index_or l k d.session) is ∙ get_or-map done_session ds k d d.session (omega arith) in
+        let x : SessionOutput O = slice_index_or ds k d in
+        let there = ap (λ l. slice_index_or l k t) was ∙ get_or-map output_transcript ds k d t (omega arith) in
+        let here : slice_index_or xs k d.session ≡ x.session = ap (λ l. slice_index_or l k d.session) is ∙ get_or-map output_session ds k d d.session (omega arith) in
         let count = ap length is in
-        let more = length-map ds done_session in
+        let more = length-map ds output_session in
         let stand : InJournal log x.session = subst (InJournal log) here (stands k d.session (omega arith)) in
         subst (Answers made_of log k (boxed_script (slice_index_or ss k s))) (sym there) (
           did.1,
@@ -182,7 +182,7 @@ module _ {F T D : Type 0} (drafted : Drafted D T) (h : Machine) (z : TableId) wh
           ap (λ m. entries_of m log) (sym did.2) ∙ stand.1 ∙ did.6,
         ))
 
-    pub all_tell : (ss : List (BoxedScript F T)) (js : List (Job F T D)) (ds : List (Done O)) → Prepared ss js → AllDone made_of tells js ds → (ts : List (Transcript O)) → ts ≡ map done_transcript ds → AllTell tells (map report_of ss) ts
+    pub all_tell : (ss : List (BoxedScript F T)) (js : List (SessionScript F T D)) (ds : List (SessionOutput O)) → Prepared ss js → AllDone made_of tells js ds → (ts : List (Transcript O)) → ts ≡ map output_transcript ds → AllTell tells (map report_of ss) ts
     all_tell [] js ds p r ts was = λ k q t lt. absurd (omega arith)
     all_tell (first ∷ rest) js ds p r ts was = λ k q t lt.
         let ss : List (BoxedScript F T) = first ∷ rest in
@@ -190,9 +190,9 @@ module _ {F T D : Type 0} (drafted : Drafted D T) (h : Machine) (z : TableId) wh
         let len' = pairs_length (IsDone {F = F} {T = T} {D = D} made_of tells) js ds r in
         let all = length-map ss (report_of {F = F}) in
         let below : k < length ss = omega (arith, all, lt) in
-        let d : Done O = record { session = new_session 0 0 z h; output = t.replies } in
+        let d : SessionOutput O = record { session = new_session 0 0 z h; output = t.replies } in
         let done = done_at ss js ds p r k first d below in
-        let there = ap (λ l. slice_index_or l k t) was ∙ get_or-map done_transcript ds k d t (omega arith) in
+        let there = ap (λ l. slice_index_or l k t) was ∙ get_or-map output_transcript ds k d t (omega arith) in
         let user : (slice_index_or ts k t).uid ≡ (slice_index_or ss k first).uid = ap (λ (x : Transcript O). x.uid) there ∙ done.0.1 in
         let made : (slice_index_or ts k t).replies ≡ (slice_index_or ds k d).output = ap (λ (x : Transcript O). x.replies) there in
         let which : slice_index_or (map report_of ss) k q ≡ (slice_index_or ss k first).report = get_or-map report_of ss k first q below in

@@ -1,6 +1,6 @@
 -- A script, step by step.
 use Rattle.std.proofs.Common.{◌≡◌, ℕ, ◌+◌, Bool, true, false, cond, List, [], ◌∷◌, ◌++◌, length, reverse, sym, refl, ap, ◌∙◌, arith, append_assoc, append-nil, length-append, MatchBool}
-use Rattle.sessions.proofs.CommonNames.{reverse-append, PlainStep, is_memory, Entry, entry, made, Did, Pairs, StartsWith, SessionData, Makes, Calls}
+use Rattle.sessions.proofs.CommonNames.{reverse-append, PlainStep, is_memory, Entry, entry, made, HasMade, Pairs, StartsWith, SessionData, Makes, AnswersCall}
 use Rattle.step_types.specs.declared.Reply.{Reply}
 use Rattle.host_lock.specs.declared.host.Answer.TheVariants.{Reply as Answered}
 
@@ -18,11 +18,11 @@ pub next_step : {A : Type 0} (all done rem rem' : List A) (s : A) → all ≡ do
 next_step all done rem rem' s is was =
     is ∙ ap (λ l. done ++ reverse l) was ∙ ap (λ l. done ++ l) (reverse-append rem' (s ∷ [])) ∙ sym (append_assoc done (s ∷ []) (reverse rem'))
 
-mine_more : (w w' : SessionData) (s : PlainStep) (r : Reply) (b : Bool) → MatchBool b (StartsWith w'.seen w.seen × (w'.mine ≡ w.mine)) (Makes w s r w') → w'.mine ≡ w.mine ++ cond b [] (entry w.uid w.number s r ∷ [])
+mine_more : (w w' : SessionData) (s : PlainStep) (r : Reply) (b : Bool) → MatchBool b (StartsWith w'.known w.known × (w'.mine ≡ w.mine)) (Makes w s r w') → w'.mine ≡ w.mine ++ cond b [] (entry w.uid w.number s r ∷ [])
 mine_more w w' s r true t = t.1 ∙ sym (append-nil w.mine)
 mine_more w w' s r false t = t.3
 
-pub did_more : (v w w' : SessionData) (done : List PlainStep) (s : PlainStep) (rs rs' : List Reply) (r : Reply) → Did v done rs w → Calls w s (Answered r) w' → rs' ≡ rs ++ r ∷ [] → Did v (done ++ s ∷ []) rs' w'
+pub did_more : (v w w' : SessionData) (done : List PlainStep) (s : PlainStep) (rs rs' : List Reply) (r : Reply) → HasMade v done rs w → AnswersCall w s (Answered r) w' → rs' ≡ rs ++ r ∷ [] → HasMade v (done ++ s ∷ []) rs' w'
 did_more v w w' done s rs rs' r d c is =
     let goes = c.1.0 in
     rw is (

@@ -10,8 +10,8 @@ made u n (s ∷ ss) [] = []
 made u n (s ∷ ss) (r ∷ rs) = if is_memory r then made u n ss rs else entry u n s r ∷ made u n ss rs
 
 -- the session made these steps, in order, and no others, and got these replies
-abbrev pub Did : SessionData → List PlainStep → List Reply → SessionData → Type 0
-Did v ss rs w = (length rs ≡ length ss) × (w.uid ≡ v.uid) × (w.number ≡ v.number) × (w.host ≡ v.host) × (w.start ≡ v.start) × (w.calls ≡ length ss) × (w.mine ≡ made v.uid v.number ss rs)
+abbrev pub HasMade : SessionData → List PlainStep → List Reply → SessionData → Type 0
+HasMade v ss rs w = (length rs ≡ length ss) × (w.uid ≡ v.uid) × (w.number ≡ v.number) × (w.host ≡ v.host) × (w.start ≡ v.start) × (w.calls ≡ length ss) × (w.mine ≡ made v.uid v.number ss rs)
 
 -- the lists have the same length, and R holds of their elements in each place
 abbrev pub Pairs : {A B : Type 0} → (A → B → Type 0) → List A → List B → Type 0

@@ -2,13 +2,13 @@
 #![tactic(auto)]
 
 mod boxing;
-mod job;
 mod kept;
 pub mod laws;
-mod ready;
+mod preparing;
 mod report;
 mod run;
 mod script;
+mod session_script;
 mod worker;
 mod workers;
 

@@ -1,7 +1,7 @@
 //! What a run hands out of a script's replies.
 
 ghost use Rattle.std.specs.Prelude.{⊤, ◌≡◌, ◌≤◌, ◌+◌, ◌++◌, [], ◌∷◌, ℕ, List, IfOk};
-ghost use Rattle.sessions.specs.Jobs.{HasRoomAfter};
+ghost use Rattle.sessions.specs.SessionScripts.{HasRoomAfter};
 ghost use Rattle.step_types.specs.declared.Reply.{Reply};
 
 use pid_blocks::Uid;

@@ -4,17 +4,17 @@ ghost use Rattle.host_lock.specs.Journal.{IsLegal, replay};
 ghost use Rattle.host_lock.specs.Limits.{max_calls, max_sessions};
 ghost use Rattle.host_lock.specs.Sessions.{IsBelow};
 ghost use Rattle.sessions.specs.Boxed.{boxed_script, report_of};
-ghost use Rattle.sessions.specs.Jobs.{HasRoomFor, done_session, done_transcript};
+ghost use Rattle.sessions.specs.SessionScripts.{HasRoomFor, output_session, output_transcript};
 ghost use Rattle.sessions.specs.Runs.{AllPlay, AllTell, OwnEntries, RefusesFor};
 ghost use Rattle.sessions.specs.PlainRuns.{AreFew, RanBy};
 
 use crate::boxing::{BoxedScript, Scripted, boxed_scripts};
-use crate::job::Done;
 use crate::kept::Kept;
-use crate::ready::{Ready, Room, prepare};
+use crate::preparing::{Buffers, PreparedRun, prepare};
 use crate::report::Report;
 use crate::script::{Gate, RunRefusal, Transcript};
-use crate::worker::reversed;
+use crate::session_script::SessionOutput;
+use crate::worker::into_reversed;
 use crate::workers::run_all;
 use host_lock::{CallLog, MAX_SESSIONS, Session};
 use requests::Host;
@@ -112,8 +112,8 @@ fn play<
     let Ok(ready) = prepare(alloc, host, scripts) else {
         return Err(RunRefusal::Memory);
     };
-    let Ready { host, jobs, room } = ready;
-    let Room {
+    let PreparedRun { host, jobs, room } = ready;
+    let Buffers {
         uids: _,
         done,
         sessions,
@@ -122,7 +122,7 @@ fn play<
     let Some(done) = run_all(rt, alloc, &host, jobs, done, gate) else {
         return Err(RunRefusal::Start);
     };
-    let (sessions, transcripts) = part(done, sessions, transcripts);
+    let (sessions, transcripts) = split_outputs(done, sessions, transcripts);
     match host.finish(sessions) {
         Ok((host, log)) => Ok(Left {
             host,
@@ -134,19 +134,19 @@ fn play<
 }
 
 /// Splits the results into sessions and transcripts.
-fn part<O: Drop>(
-    done: Vec<Done<O>>,
+fn split_outputs<O: Drop>(
+    done: Vec<SessionOutput<O>>,
     mut sessions: Vec<Session>,
     mut transcripts: Vec<Transcript<O>>,
 ) -> (Vec<Session>, Vec<Transcript<O>>)
     requires sessions { HasRoomFor (vec_len done) sessions }
     requires transcripts { HasRoomFor (vec_len done) transcripts }
-    ensures sessions { result.0.items ≡ map done_session done.items }
-    ensures transcripts { result.1.items ≡ map done_transcript done.items }
+    ensures sessions { result.0.items ≡ map output_session done.items }
+    ensures transcripts { result.1.items ≡ map output_transcript done.items }
 {
-    let mut done = reversed(done);
+    let mut done = into_reversed(done);
     while let Some(one) = done.pop() {
-        let Done { session, output } = one;
+        let SessionOutput { session, output } = one;
         transcripts.push_reserved(Transcript {
             uid: session.uid(),
             replies: output,

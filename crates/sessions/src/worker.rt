@@ -4,11 +4,11 @@ ghost use Rattle.std.specs.Prelude.{◌≡◌, ◌≤◌, [], length, map, rever
 ghost use Rattle.host_lock.specs.Boxed.{own_step};
 ghost use Rattle.host_lock.specs.Limits.{max_calls};
 ghost use Rattle.host_lock.specs.Sessions.{IsOf};
-ghost use Rattle.sessions.specs.Made.{Did};
+ghost use Rattle.sessions.specs.Made.{HasMade};
 
-use crate::job::Done;
 use crate::report::Report;
 use crate::script::Gate;
+use crate::session_script::SessionOutput;
 use host_lock::{Answer, BoxedStep, CallLog, Session, SharedHost};
 use std::alloc::Global;
 use std::snapshot::Snapshot;
@@ -39,12 +39,12 @@ pub(crate) fn work<F: Decider + Send + Drop, J: CallLog + Send + Drop, T: Report
     report: Snapshot<T>,
     mut draft: T::Draft,
     gate: &G,
-) -> Done<T::Output>
+) -> SessionOutput<T::Output>
     requires of { IsOf host.now session }
     requires fresh { (session.calls ≡ 0) × (session.mine ≡ []) }
     requires few { vec_len steps ≤ max_calls }
     requires begun { T.drafted draft report.value session.uid (vec_len steps) [] }
-    ensures did { Did session (map own_step steps.items) (T.made_of result.output) result.session }
+    ensures did { HasMade session (map own_step steps.items) (T.made_of result.output) result.session }
     ensures tells { T.tells report.value session.uid result.output }
 {
     let uid = session.uid();
@@ -59,14 +59,14 @@ pub(crate) fn work<F: Decider + Send + Drop, J: CallLog + Send + Drop, T: Report
         gate.after(uid, index);
     }
     let _ = report;
-    Done {
+    SessionOutput {
         session,
         output: T::end(draft),
     }
 }
 
 /// Returns the items in reverse order.
-pub(crate) fn reversed<T>(mut items: Vec<T>) -> Vec<T>
+pub(crate) fn into_reversed<T>(mut items: Vec<T>) -> Vec<T>
     ensures items { result.items ≡ reverse items.items }
     ensures len { vec_len result ≡ vec_len items }
 {

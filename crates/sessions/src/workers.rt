@@ -5,12 +5,12 @@ ghost use Rattle.host_lock.specs.Boxed.{own_step};
 ghost use Rattle.host_lock.specs.Limits.{max_calls};
 ghost use Rattle.host_lock.specs.Rule.{Each};
 ghost use Rattle.host_lock.specs.Sessions.{IsOf};
-ghost use Rattle.sessions.specs.Made.{Did};
-ghost use Rattle.sessions.specs.Jobs.{AllDone, IsReady, HasRoomFor};
+ghost use Rattle.sessions.specs.Made.{HasMade};
+ghost use Rattle.sessions.specs.SessionScripts.{AllDone, IsReady, HasRoomFor};
 
-use crate::job::{Done, Job, Plan};
 use crate::report::Report;
 use crate::script::Gate;
+use crate::session_script::{SessionOutput, SessionScript, WorkerPromise};
 use crate::worker::work;
 use host_lock::{CallLog, SharedHost};
 use std::alloc::Global;
@@ -19,8 +19,8 @@ use std::thread;
 use std::thread::Threads;
 use stop_handlers::Decider;
 
-/// Runs all jobs at the same time, the first in the calling thread and each other in a thread of its own. Returns `None`
-/// where a thread could not be started.
+/// Runs all session scripts at the same time, the first in the calling thread and each other in a thread of its own.
+/// Returns `None` where a thread could not be started.
 #[cycle(run)]
 pub(crate) fn run_all<
     F: Decider + Send + Drop,
@@ -32,10 +32,10 @@ pub(crate) fn run_all<
     rt: &R,
     alloc: Global,
     host: &SharedHost<F, J>,
-    mut jobs: Vec<Job<F, T, T::Draft>>,
-    done: Vec<Done<T::Output>>,
+    mut jobs: Vec<SessionScript<F, T, T::Draft>>,
+    done: Vec<SessionOutput<T::Output>>,
     gate: &G,
-) -> Option<Vec<Done<T::Output>>>
+) -> Option<Vec<SessionOutput<T::Output>>>
     requires jobs { Each (IsReady T.drafted host.now) jobs.items }
     requires room { HasRoomFor (vec_len jobs) done }
     ensures room { IfSome result (λ v. (vec_len v ≡ vec_len jobs) × (vec_capacity v ≡ vec_capacity done)) }
@@ -47,24 +47,24 @@ pub(crate) fn run_all<
     if jobs.is_empty() {
         return Some(run_here(rt, alloc, host, job, done, gate));
     }
-    beside(rt, alloc, host, job, jobs, done, gate)
+    run_beside(rt, alloc, host, job, jobs, done, gate)
 }
 
-/// Runs the job in the calling thread.
+/// Runs the session script in the calling thread.
 fn run_here<F: Decider + Send + Drop, J: CallLog + Send + Drop, T: Report, G: Gate, R: Wait>(
     rt: &R,
     alloc: Global,
     host: &SharedHost<F, J>,
-    job: Job<F, T, T::Draft>,
-    mut done: Vec<Done<T::Output>>,
+    job: SessionScript<F, T, T::Draft>,
+    mut done: Vec<SessionOutput<T::Output>>,
     gate: &G,
-) -> Vec<Done<T::Output>>
+) -> Vec<SessionOutput<T::Output>>
     requires job { IsReady T.drafted host.now job }
     requires room { HasRoomFor 1 done }
     ensures room { (vec_len result ≡ 1) × (vec_capacity result ≡ vec_capacity done) }
     ensures done { AllDone T.made_of T.tells (job ∷ []) result.items }
 {
-    let Job {
+    let SessionScript {
         session,
         steps,
         report,
@@ -74,10 +74,10 @@ fn run_here<F: Decider + Send + Drop, J: CallLog + Send + Drop, T: Report, G: Ga
     done
 }
 
-/// Runs one job in a thread of its own, and the others at the same time. Returns `None` where a thread could not be
-/// started.
+/// Runs one session script in a thread of its own, and the others at the same time. Returns `None` where a thread could
+/// not be started.
 #[cycle(run)]
-fn beside<
+fn run_beside<
     F: Decider + Send + Drop,
     J: CallLog + Send + Drop,
     T: Report,
@@ -87,28 +87,28 @@ fn beside<
     rt: &R,
     alloc: Global,
     host: &SharedHost<F, J>,
-    job: Job<F, T, T::Draft>,
-    jobs: Vec<Job<F, T, T::Draft>>,
-    done: Vec<Done<T::Output>>,
+    job: SessionScript<F, T, T::Draft>,
+    jobs: Vec<SessionScript<F, T, T::Draft>>,
+    done: Vec<SessionOutput<T::Output>>,
     gate: &G,
-) -> Option<Vec<Done<T::Output>>>
+) -> Option<Vec<SessionOutput<T::Output>>>
     requires job { IsReady T.drafted host.now job }
     requires jobs { Each (IsReady T.drafted host.now) jobs.items }
     requires room { HasRoomFor (vec_len jobs + 1) done }
     ensures room { IfSome result (λ v. (vec_len v ≡ vec_len jobs + 1) × (vec_capacity v ≡ vec_capacity done)) }
     ensures done { IfSome result (λ v. AllDone T.made_of T.tells (jobs.items ++ job ∷ []) v.items) }
 {
-    let Job {
+    let SessionScript {
         session,
         steps,
         report,
         draft,
     } = job;
-    let plan = Plan::of(&session, &steps, &report);
+    let plan = WorkerPromise::of(&session, &steps, &report);
     thread::scope(
         thread::scope_env(),
         rt,
-        |scope| -> Option<Vec<Done<T::Output>>>
+        |scope| -> Option<Vec<SessionOutput<T::Output>>>
             requires sync { IsSync R.row × IsSync G.row }
             requires send { IsSend F.row × IsSend J.row × IsSend T.Draft.row × IsSend T.Output.row }
             requires of { IsOf host.now session }
@@ -124,12 +124,12 @@ fn beside<
             let child = scope
                 .spawn_with(
                     plan,
-                    move || -> Done<T::Output>
+                    move || -> SessionOutput<T::Output>
                         requires of { IsOf host.now session }
                         requires fresh { (session.calls ≡ 0) × (session.mine ≡ []) }
                         requires few { vec_len steps ≤ max_calls }
                         requires begun { T.drafted draft report.value session.uid (vec_len steps) [] }
-                        ensures did { Did session (map own_step steps.items) (T.made_of result.output) result.session }
+                        ensures did { HasMade session (map own_step steps.items) (T.made_of result.output) result.session }
                         ensures tells { T.tells report.value session.uid result.output }
                     { work(rt, alloc, host, session, steps, report, draft, gate) },
                 )

@@ -71,9 +71,9 @@ impl fmt::Display for Doing {
 
 /// A trace stop as a handler saw it.
 #[derive(Clone, Copy, Drop)]
-struct Seen<'a>(&'a StopView);
+struct Viewed<'a>(&'a StopView);
 
-impl fmt::Display for Seen<'_> {
+impl fmt::Display for Viewed<'_> {
     ghost output = { λ v. Some (join_with_byte 32 (view_words v.0.now)) };
 
     fn fmt<W: fmt::Write>(&self, f: &mut fmt::Formatter<W>) -> fmt::Result {
@@ -155,7 +155,7 @@ impl fmt::Display for Reply {
             } => {
                 let pid = pid.get();
                 let word = status.word();
-                let seen = Seen(view);
+                let seen = Viewed(view);
                 let handler = Index(*index);
                 let doing = Doing(*decision);
                 write!(f, "handled {pid} {word} at {seen} by {handler} {doing}")

@@ -55,7 +55,7 @@ fn check_replies(
     host: &mut Host<ByPolicy>,
     replies: &[Reply],
 ) -> Result<(), TestError> {
-    let is_whole = replies.len() == case.scenario.shapes().len();
+    let is_whole = replies.len() == case.scenario.bare_steps().len();
     expect(is_whole, "a list has not a reply for each step")?;
     for (step, reply) in case.scenario.steps().zip(replies.iter()) {
         check_reply(case.alloc, host, step.0, &step.1, reply)?;

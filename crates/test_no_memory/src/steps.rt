@@ -141,7 +141,7 @@ pub fn room<T: Drop>(alloc: Global, length: usize) -> Result<Vec<T>, TestError> 
 
 /// Makes the steps of the scenario on a new host.
 pub fn make_all(case: &Case<'_>) -> Result<Made, TestError> {
-    let replies = room(case.alloc, case.scenario.shapes().len())?;
+    let replies = room(case.alloc, case.scenario.bare_steps().len())?;
     let host = new_host(case.alloc, case.scenario.settings())?;
     let mut made = Made { host, replies };
     for step in case.scenario.steps() {

@@ -32,7 +32,7 @@ fn is_done(ended: Result<(), RunFault>, written: &[u8], text: &[u8]) -> Result<b
 fn shown(user: &Option<Uid>) -> RunOptions {
     RunOptions {
         user: *user,
-        style: Style::Words,
+        style: Style::Text,
     }
 }
 

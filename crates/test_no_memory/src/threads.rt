@@ -190,7 +190,10 @@ fn check_replay(case: &Case<'_>, left: &Left) -> Result<(), TestError> {
 
 /// Checks that the results are consistent, and that each of the scenario's steps was a call.
 fn check_left(case: &Case<'_>, calls: usize, left: &Left) -> Result<(), TestError> {
-    expect(calls == case.scenario.shapes().len(), "a step isn't made")?;
+    expect(
+        calls == case.scenario.bare_steps().len(),
+        "a step isn't made",
+    )?;
     check_transcripts(&left.journal, left.transcripts.as_slice())?;
     check_replay(case, left)
 }

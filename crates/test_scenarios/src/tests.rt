@@ -62,7 +62,7 @@ fn handlers_by_policy(alloc: Global, scenario: &Scenario) -> Result<Vec<Handler<
 fn words_of(user: Option<Uid>) -> RunOptions {
     RunOptions {
         user,
-        style: Style::Words,
+        style: Style::Text,
     }
 }
 

@@ -13,7 +13,7 @@ pub use Rattle.scenario.proofs.WriteLemmas.{Front, appends_more}
 pub use Rattle.scenario.specs.Lines.{Answered, lines, lines_after, lines_of, text_of}
 pub use Rattle.scenario.specs.Runs.{Writes, answered, paired, shown}
 pub use Rattle.scenario.specs.declared.style.Style.{Style}
-pub use Rattle.scenario_text.specs.Plan.{Plan, filled, first_policy, max_steps, policies_in, step_with}
+pub use Rattle.scenario_text.specs.Plan.{Plan, with_policies, first_policy, max_steps, policies_in, with_installed}
 pub use Rattle.sessions.specs.Boxed.{boxed_script}
 pub use Rattle.sessions.specs.PlainRuns.{AllAnswer, AreFew, Ran}
 pub use Rattle.sessions.specs.Runs.{AllPlay, AllTell, OwnEntries, RefusesFor, entries_by}

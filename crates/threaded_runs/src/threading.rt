@@ -17,7 +17,7 @@ use crate::lines::{LineReport, UserLines};
 use host_lock::Unkept;
 use pid_blocks::Uid;
 use requests::{Host, Step};
-use scenario::{RunFault, RunOptions, Scenario, StepShape, USERS, obey, write_whole};
+use scenario::{BareStep, RunFault, RunOptions, Scenario, USERS, obey, write_whole};
 use sessions::{BoxedScript, BoxedStep, Gate, RunRefusal, Transcript, run_sessions};
 use std::alloc::{AllocError, Global};
 use std::io::Write;
@@ -42,8 +42,8 @@ impl Gate for NoGate {
 /// Returns how many steps each user has, in the order of the users.
 fn counts_of(scenario: &Scenario) -> [usize; USERS] {
     let mut counts = [0usize; USERS];
-    for shape in scenario.shapes() {
-        let place = shape.0.slot();
+    for bare_step in scenario.bare_steps() {
+        let place = bare_step.0.slot();
         counts[place] = counts[place].saturating_add(1);
     }
     counts
@@ -81,17 +81,17 @@ fn is_asked<F: Decider + Send + Drop>(script: &BoxedScript<F, ()>) -> bool
 /// Returns the step as a script keeps it: an install gets the next handler, on the heap. An error means out of memory.
 fn small_step<F: Decider + Send + Drop>(
     alloc: Global,
-    shape: &StepShape,
+    bare_step: &BareStep,
     handlers: &mut IntoIter<Handler<F>>,
 ) -> Result<Option<BoxedStep<F>>, AllocError>
-    ensures { IfOk result (λ step. IsBound shape.now (into_iter_items handlers.old) (into_iter_items handlers.new) (option_map own_step step)) }
+    ensures { IfOk result (λ step. IsBound bare_step.now (into_iter_items handlers.old) (into_iter_items handlers.new) (option_map own_step step)) }
 {
-    match shape {
+    match bare_step {
         Step::Install { .. } => match handlers.next() {
-            Some(handler) => Ok(shape.with_handler(Some(Box::new(alloc, handler)?))),
+            Some(handler) => Ok(bare_step.with_handler(Some(Box::new(alloc, handler)?))),
             None => Ok(None),
         },
-        _ => Ok(shape.with_handler(None)),
+        _ => Ok(bare_step.with_handler(None)),
     }
 }
 
@@ -107,14 +107,14 @@ fn scripts_of<F: Decider + Send + Drop>(
     ensures users { OnOk result (Users scenario.now.steps) }
     ensures few { OnOk result (length scenario.now.steps ≤ max_steps) }
 {
-    let shapes = scenario.shapes();
+    let bare_steps = scenario.bare_steps();
     let mut scripts = empty_scripts(alloc, &counts_of(scenario))?;
     let mut rest = handlers.into_iter();
-    for shape in shapes {
-        let Some(small) = small_step(alloc, &shape.1, &mut rest)? else {
+    for bare_step in bare_steps {
+        let Some(small) = small_step(alloc, &bare_step.1, &mut rest)? else {
             unreachable!()
         };
-        scripts[shape.0.slot()].steps.push(small)?;
+        scripts[bare_step.0.slot()].steps.push(small)?;
     }
     scripts.retain(|script| is_asked(script));
     Ok(scripts)

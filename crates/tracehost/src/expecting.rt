@@ -1,10 +1,10 @@
 //! The comparison of a run's lines with those of a file.
 use crate::CommandError;
 use crate::explaining::unread;
-use command_line::Shown;
+use command_line::Selection;
 use line_diff::Difference;
 use pid_blocks::Uid;
-use scenario::{Fault, Scenario, StepShape};
+use scenario::{BareStep, Fault, Scenario};
 use std::alloc::{AllocError, Global};
 use std::rt::Files;
 use std::{fmt, fs, io};
@@ -28,7 +28,7 @@ pub(crate) fn read_expected<R: Files + AllocGlobal>(
 pub(crate) fn none_differs(
     alloc: Global,
     scenario: &Scenario,
-    shown: &Shown,
+    shown: &Selection,
     path: &str,
     difference: Option<Difference<'_>>,
 ) -> Result<(), CommandError> {
@@ -45,7 +45,7 @@ pub(crate) fn none_differs(
 fn line_of_difference(
     alloc: Global,
     scenario: &Scenario,
-    shown: &Shown,
+    shown: &Selection,
     path: &str,
     difference: Difference<'_>,
 ) -> Result<String, AllocError> {
@@ -65,7 +65,7 @@ fn line_of_difference(
         end: "no more lines",
     };
     let mut text = format!(in alloc; "{path}:{line}: expected {wanted}, got {had}")?;
-    if let Some(step) = step_of_line(scenario.shapes(), shown, line) {
+    if let Some(step) = step_of_line(scenario.bare_steps(), shown, line) {
         write!(text, "\n  it answers {step}")?;
     }
     Ok(text)
@@ -123,7 +123,7 @@ impl fmt::Display for StepPlace {
 }
 
 /// The step that the run's line with this number answers; none after the last line.
-fn step_of_line(steps: &[(Uid, StepShape)], shown: &Shown, line: usize) -> Option<StepPlace> {
+fn step_of_line(steps: &[(Uid, BareStep)], shown: &Selection, line: usize) -> Option<StepPlace> {
     match shown.user {
         Some(user) => step_of_user(steps, user, line),
         None if shown.threads => step_by_users(steps, line),
@@ -132,7 +132,7 @@ fn step_of_line(steps: &[(Uid, StepShape)], shown: &Shown, line: usize) -> Optio
 }
 
 /// The user's own step with this number.
-fn step_of_user(steps: &[(Uid, StepShape)], user: Uid, number: usize) -> Option<StepPlace> {
+fn step_of_user(steps: &[(Uid, BareStep)], user: Uid, number: usize) -> Option<StepPlace> {
     let mut left = number;
     for (index, step) in steps.iter().enumerate() {
         if step.0 == user {
@@ -150,12 +150,12 @@ fn step_of_user(steps: &[(Uid, StepShape)], user: Uid, number: usize) -> Option<
 }
 
 /// How many steps the user has.
-pub(crate) fn count_of(steps: &[(Uid, StepShape)], user: Uid) -> usize {
+pub(crate) fn count_of(steps: &[(Uid, BareStep)], user: Uid) -> usize {
     steps.iter().filter(|step| step.0 == user).count()
 }
 
 /// The step with this number where the steps are sorted by user.
-fn step_by_users(steps: &[(Uid, StepShape)], line: usize) -> Option<StepPlace> {
+fn step_by_users(steps: &[(Uid, BareStep)], line: usize) -> Option<StepPlace> {
     let mut left = line;
     for number in 1001..1065 {
         let user = Uid::new(number).ok()?;
@@ -169,7 +169,7 @@ fn step_by_users(steps: &[(Uid, StepShape)], line: usize) -> Option<StepPlace> {
 }
 
 /// The step with this number among all.
-fn step_at(steps: &[(Uid, StepShape)], line: usize) -> Option<StepPlace> {
+fn step_at(steps: &[(Uid, BareStep)], line: usize) -> Option<StepPlace> {
     let before = steps.get(..line)?;
     let user = before.last()?.0;
     Some(StepPlace {

@@ -1,7 +1,7 @@
 //! Explanations of refused input: where the first mistakes are, and what was likely meant.
 use crate::CommandError;
 use crate::expecting::count_of;
-use command_line::{Mode, Shown};
+use command_line::{Mode, Selection};
 use diagnostics::{Source, explain};
 use scenario::{Fault, MAX_STEP_BYTES, Scenario, parse};
 use std::alloc::{AllocError, Global};
@@ -100,11 +100,11 @@ pub(crate) fn prompt<R: Eprint>(rt: &R, mode: &Mode<'_>) {
 }
 
 /// Says that the run prints nothing, where the scenario has no step of the user whose lines are asked for.
-pub(crate) fn explain_empty_run<R: Eprint>(rt: &R, scenario: &Scenario, shown: &Shown) {
+pub(crate) fn explain_empty_run<R: Eprint>(rt: &R, scenario: &Scenario, shown: &Selection) {
     let Some(user) = shown.user else {
         return;
     };
-    if count_of(scenario.shapes(), user) == 0 {
+    if count_of(scenario.bare_steps(), user) == 0 {
         let user = user.get();
         let _ = eprintln!(rt; "  --user {user}: the scenario has no step of this user");
     }

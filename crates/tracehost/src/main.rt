@@ -18,7 +18,7 @@ mod explaining;
 
 use crate::expecting::{none_differs, read_expected};
 use crate::explaining::{Explained, explain_empty_run, explained_scenario, prompt, unread};
-use command_line::{Asked, Message, Mode, Refusal, Shown, Terminals, asked_of};
+use command_line::{Message, Mode, Refusal, RunRequest, Selection, Terminals, asked_of};
 use json_trace::TraceWriter;
 use line_diff::first_difference;
 use line_sessions::{ServeError, serve};
@@ -107,7 +107,7 @@ fn style_of(style: command_line::Style) -> Style
     ensures { result ≡ line_style style }
 {
     match style {
-        command_line::Style::Words => Style::Words,
+        command_line::Style::Text => Style::Text,
         command_line::Style::Json => Style::Json,
     }
 }
@@ -124,7 +124,7 @@ fn settings_of(kills_on_exit: bool) -> Settings
 }
 
 /// The options of a run by what is shown of it.
-fn options_of(shown: &Shown) -> RunOptions
+fn options_of(shown: &Selection) -> RunOptions
     ensures { result ≡ run_options shown.now }
 {
     RunOptions {
@@ -218,7 +218,7 @@ fn write_replies<R: AllocGlobal + Threads + Wait + Sync, F: Decider + Send + Dro
     rt: &R,
     scenario: &Scenario,
     handlers: Vec<Handler<F>>,
-    shown: &Shown,
+    shown: &Selection,
     writer: &mut W,
 ) -> Result<(), RunFault> {
     let options = options_of(shown);
@@ -234,7 +234,7 @@ fn write_trace<R: AllocGlobal + Threads + Wait + Sync, F: Decider + Send + Drop,
     rt: &R,
     scenario: &Scenario,
     handlers: Vec<Handler<F>>,
-    shown: &Shown,
+    shown: &Selection,
     writer: &mut W,
 ) -> Result<(), RunFault> {
     let Ok(mut trace) = TraceWriter::new(rt.alloc(), scenario, writer) else {
@@ -252,7 +252,7 @@ fn write_run<R: AllocGlobal + Threads + Wait + Sync, F: Decider + Send + Drop, W
     rt: &R,
     scenario: &Scenario,
     handlers: Vec<Handler<F>>,
-    shown: &Shown,
+    shown: &Selection,
     writer: &mut W,
 ) -> Result<(), RunFault> {
     if shown.trace {
@@ -267,7 +267,7 @@ fn text_of_run<R: AllocGlobal + Threads + Wait + Sync, F: Decider + Send + Drop>
     rt: &R,
     scenario: &Scenario,
     handlers: Vec<Handler<F>>,
-    shown: &Shown,
+    shown: &Selection,
 ) -> Result<Vec<u8>, RunFault> {
     let mut text = Vec::new(rt.alloc());
     match write_run(rt, scenario, handlers, shown, &mut text) {
@@ -282,7 +282,7 @@ fn text_of_run<R: AllocGlobal + Threads + Wait + Sync, F: Decider + Send + Drop>
 fn run_scenario<R: Files + Print + AllocGlobal + Threads + Wait + Sync>(
     rt: &R,
     scenario: &Scenario,
-    shown: &Shown,
+    shown: &Selection,
     expected: Option<&str>,
     explains: bool,
 ) -> Result<(), CommandError> {
@@ -306,7 +306,7 @@ fn read_and_run<R: Files + Input + Print + Eprint + AllocGlobal + Threads + Wait
     rt: &R,
     file: Option<&str>,
     explains: bool,
-    shown: &Shown,
+    shown: &Selection,
     expected: Option<&str>,
 ) -> Result<(), CommandError> {
     if !explains {
@@ -324,7 +324,7 @@ fn go<R: Files + Input + Print + Eprint + Env + AllocGlobal + Threads + Wait + S
     terminals: Terminals,
 ) -> Result<(), CommandError> {
     let words: Vec<String> = env::args(rt)?.collect(rt.alloc())?;
-    let Asked {
+    let RunRequest {
         file,
         explains,
         mode,

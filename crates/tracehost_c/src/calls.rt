@@ -34,7 +34,7 @@ const TOO_MANY: u32 = 5;
 fn style_of(json: bool) -> Style
     ensures { result ≡ style_of json }
 {
-    if json { Style::Json } else { Style::Words }
+    if json { Style::Json } else { Style::Text }
 }
 
 /// Writes the line of the last answer.

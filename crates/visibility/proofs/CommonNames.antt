@@ -20,4 +20,4 @@ pub use Rattle.std.proofs.lemmas.List.{map-append}
 pub use Rattle.std.proofs.lemmas.Option.{slice_get_within, get_or_from_slice_get}
 pub use Rattle.std.specs.Prelude.{IsTrue, slice_get, ◌↔◌}
 pub use Rattle.std.specs.Vec.Iter.{into_iter_items, into_iter_len}
-pub use Rattle.visibility.specs.Runs.{BothTold, Did, Wanting, asked, told}
+pub use Rattle.visibility.specs.Runs.{BothGiven, MakesStep, Wanting, asked, reply_given}

@@ -13,14 +13,14 @@ abbrev pub asked : ℕ × PlainStep → Asked
 asked s = record { uid = s.0; step = s.1 }
 
 -- a reply, or None where memory ran out
-abbrev pub told : Reply → Option Reply
-told r = if is_memory r then None else Some r
+abbrev pub reply_given : Reply → Option Reply
+reply_given r = if is_memory r then None else Some r
 
 -- the effect of a step on a host: the machine's reply and the machine's host; or, where the step takes memory and the
 -- machine wouldn't refuse it, out of memory and the host as it was
-abbrev pub Did : Option Reply → ℕ → PlainStep → Machine → Machine → Type 0
-Did None u s m k = (k ≡ m) × (may_want u s m ≡ true)
-Did (Some r) u s m k = (r ≡ reply_of u s m) × (k ≡ host_after u s m)
+abbrev pub MakesStep : Option Reply → ℕ → PlainStep → Machine → Machine → Type 0
+MakesStep None u s m k = (k ≡ m) × (may_want u s m ≡ true)
+MakesStep (Some r) u s m k = (r ≡ reply_of u s m) × (k ≡ host_after u s m)
 
 -- in a run from m, only steps that take memory and aren't refused run out of memory
 abbrev pub Wanting : List Asked → List (Option Reply) → Machine → Type 0
@@ -29,9 +29,9 @@ Wanting (x ∷ xs) (Some r ∷ rs) m = Wanting xs rs (host_after x.uid x.step m)
 Wanting xs rs m = Unit {0}
 
 -- P of the replies, if neither step ran out of memory
-abbrev pub BothTold : Option Reply → Option Reply → (Reply → Reply → Type 0) → Type 0
-BothTold (Some r) (Some q) P = P r q
-BothTold o p P = Unit {0}
+abbrev pub BothGiven : Option Reply → Option Reply → (Reply → Reply → Type 0) → Type 0
+BothGiven (Some r) (Some q) P = P r q
+BothGiven o p P = Unit {0}
 
 -- if the answered steps of a user are the same in two runs, so are the user's replies, and the user's views afterwards
 abbrev pub Agree : ℕ → List Asked → List Asked → List (Option Reply) → List (Option Reply) → Machine → Machine → Type 0

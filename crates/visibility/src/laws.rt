@@ -3,7 +3,7 @@
 ghost use Rattle.std.specs.Prelude.{◌≡◌, ◌≢◌, map, IfOk, OnErr};
 ghost use Rattle.requests.specs.View.{view};
 ghost use Rattle.requests.specs.Isolation.{Ran, Users, AlikeSteps};
-ghost use Rattle.visibility.specs.Runs.{asked, told, Did, BothTold, Wanting, Agree};
+ghost use Rattle.visibility.specs.Runs.{asked, reply_given, MakesStep, BothGiven, Wanting, Agree};
 ghost use Rattle.visibility.specs.ForeignLists.{AgreeAlike};
 
 use crate::runs::run_into;
@@ -24,9 +24,9 @@ pub fn one_step<F: Decider + Send + Drop>(
 ) -> (Reply, Reply)
     requires steps { same ≡ step }
     requires seen { view user first.old ≡ view user second.old }
-    ensures first { Did (told result.0) user step first.old first.new }
-    ensures second { Did (told result.1) user step second.old second.new }
-    ensures equal { BothTold (told result.0) (told result.1) (λ r q. (r ≡ q) × (view user first.new ≡ view user second.new)) }
+    ensures first { MakesStep (reply_given result.0) user step first.old first.new }
+    ensures second { MakesStep (reply_given result.1) user step second.old second.new }
+    ensures equal { BothGiven (reply_given result.0) (reply_given result.1) (λ r q. (r ≡ q) × (view user first.new ≡ view user second.new)) }
 {
     let _number = user.get();
     first.kept();
@@ -45,7 +45,7 @@ pub fn other_step<F: Decider + Send + Drop>(
     step: Step<Handler<F>>,
 ) -> Reply
     requires differ { user ≢ other }
-    ensures step { Did (told result) other step host.old host.new }
+    ensures step { MakesStep (reply_given result) other step host.old host.new }
     ensures view { view user host.new ≡ view user host.old }
 {
     let _numbers = (user.get(), other.get());
@@ -65,9 +65,9 @@ pub fn foreign_number<F: Decider + Send + Drop>(
 ) -> (Reply, Reply)
     requires hosts { second.old ≡ first.old }
     requires steps { AlikeSteps user first.old step other }
-    ensures first { Did (told result.0) user step first.old first.new }
-    ensures second { Did (told result.1) user other second.old second.new }
-    ensures equal { BothTold (told result.0) (told result.1) (λ r q. (r ≡ q) × (first.new ≡ second.new)) }
+    ensures first { MakesStep (reply_given result.0) user step first.old first.new }
+    ensures second { MakesStep (reply_given result.1) user other second.old second.new }
+    ensures equal { BothGiven (reply_given result.0) (reply_given result.1) (λ r q. (r ≡ q) × (first.new ≡ second.new)) }
 {
     let _number = user.get();
     first.kept();
@@ -85,10 +85,10 @@ fn both_lists<F: Decider + Send + Drop>(
     steps: Vec<(Uid, Step<Handler<F>>)>,
     others: Vec<(Uid, Step<Handler<F>>)>,
 ) -> Result<(Vec<Reply>, Vec<Reply>), AllocError>
-    ensures first { IfOk result (λ r. Ran (map asked steps.items) (map told r.0.items) first.old first.new) }
-    ensures second { IfOk result (λ r. Ran (map asked others.items) (map told r.1.items) second.old second.new) }
-    ensures first_wanting { IfOk result (λ r. Wanting (map asked steps.items) (map told r.0.items) first.old) }
-    ensures second_wanting { IfOk result (λ r. Wanting (map asked others.items) (map told r.1.items) second.old) }
+    ensures first { IfOk result (λ r. Ran (map asked steps.items) (map reply_given r.0.items) first.old first.new) }
+    ensures second { IfOk result (λ r. Ran (map asked others.items) (map reply_given r.1.items) second.old second.new) }
+    ensures first_wanting { IfOk result (λ r. Wanting (map asked steps.items) (map reply_given r.0.items) first.old) }
+    ensures second_wanting { IfOk result (λ r. Wanting (map asked others.items) (map reply_given r.1.items) second.old) }
     ensures users { IfOk result (λ r. Users (map asked steps.items) × Users (map asked others.items)) }
     ensures first_refused { OnErr result (first.new ≡ first.old) }
     ensures second_refused { OnErr result (second.new ≡ second.old) }
@@ -112,11 +112,11 @@ pub fn two_lists<F: Decider + Send + Drop>(
     others: Vec<(Uid, Step<Handler<F>>)>,
 ) -> Result<(Vec<Reply>, Vec<Reply>), AllocError>
     requires seen { view user first.old ≡ view user second.old }
-    ensures first { IfOk result (λ r. Ran (map asked steps.items) (map told r.0.items) first.old first.new) }
-    ensures second { IfOk result (λ r. Ran (map asked others.items) (map told r.1.items) second.old second.new) }
-    ensures first_wanting { IfOk result (λ r. Wanting (map asked steps.items) (map told r.0.items) first.old) }
-    ensures second_wanting { IfOk result (λ r. Wanting (map asked others.items) (map told r.1.items) second.old) }
-    ensures equal { IfOk result (λ r. Agree user (map asked steps.items) (map asked others.items) (map told r.0.items) (map told r.1.items) first.new second.new) }
+    ensures first { IfOk result (λ r. Ran (map asked steps.items) (map reply_given r.0.items) first.old first.new) }
+    ensures second { IfOk result (λ r. Ran (map asked others.items) (map reply_given r.1.items) second.old second.new) }
+    ensures first_wanting { IfOk result (λ r. Wanting (map asked steps.items) (map reply_given r.0.items) first.old) }
+    ensures second_wanting { IfOk result (λ r. Wanting (map asked others.items) (map reply_given r.1.items) second.old) }
+    ensures equal { IfOk result (λ r. Agree user (map asked steps.items) (map asked others.items) (map reply_given r.0.items) (map reply_given r.1.items) first.new second.new) }
     ensures first_refused { OnErr result (first.new ≡ first.old) }
     ensures second_refused { OnErr result (second.new ≡ second.old) }
 {
@@ -139,11 +139,11 @@ pub fn foreign_numbers<F: Decider + Send + Drop>(
     others: Vec<(Uid, Step<Handler<F>>)>,
 ) -> Result<(Vec<Reply>, Vec<Reply>), AllocError>
     requires seen { view user first.old ≡ view user second.old }
-    ensures first { IfOk result (λ r. Ran (map asked steps.items) (map told r.0.items) first.old first.new) }
-    ensures second { IfOk result (λ r. Ran (map asked others.items) (map told r.1.items) second.old second.new) }
-    ensures first_wanting { IfOk result (λ r. Wanting (map asked steps.items) (map told r.0.items) first.old) }
-    ensures second_wanting { IfOk result (λ r. Wanting (map asked others.items) (map told r.1.items) second.old) }
-    ensures equal { IfOk result (λ r. AgreeAlike user first.old (map asked steps.items) (map asked others.items) (map told r.0.items) (map told r.1.items) first.new second.new) }
+    ensures first { IfOk result (λ r. Ran (map asked steps.items) (map reply_given r.0.items) first.old first.new) }
+    ensures second { IfOk result (λ r. Ran (map asked others.items) (map reply_given r.1.items) second.old second.new) }
+    ensures first_wanting { IfOk result (λ r. Wanting (map asked steps.items) (map reply_given r.0.items) first.old) }
+    ensures second_wanting { IfOk result (λ r. Wanting (map asked others.items) (map reply_given r.1.items) second.old) }
+    ensures equal { IfOk result (λ r. AgreeAlike user first.old (map asked steps.items) (map asked others.items) (map reply_given r.0.items) (map reply_given r.1.items) first.new second.new) }
     ensures first_refused { OnErr result (first.new ≡ first.old) }
     ensures second_refused { OnErr result (second.new ≡ second.old) }
 {

@@ -2,7 +2,7 @@
 
 ghost use Rattle.std.specs.Prelude.{◌≡◌, [], map, length, IfOk, OnErr, vec_capacity};
 ghost use Rattle.requests.specs.Isolation.{Ran, Private, Users};
-ghost use Rattle.visibility.specs.Runs.{asked, told, Wanting};
+ghost use Rattle.visibility.specs.Runs.{asked, reply_given, Wanting};
 
 use pid_blocks::Uid;
 use requests::{Host, Reply, Step};
@@ -18,8 +18,8 @@ pub(crate) fn run_into<F: Decider + Send + Drop>(
 ) -> Vec<Reply>
     requires empty { replies.items ≡ [] }
     requires room { vec_capacity replies ≡ length steps.items }
-    ensures ran { Ran (map asked steps.items) (map told result.items) host.old host.new }
-    ensures wanting { Wanting (map asked steps.items) (map told result.items) host.old }
+    ensures ran { Ran (map asked steps.items) (map reply_given result.items) host.old host.new }
+    ensures wanting { Wanting (map asked steps.items) (map reply_given result.items) host.old }
     ensures users { Users (map asked steps.items) }
 {
     for (user, step) in steps {
@@ -38,9 +38,9 @@ pub fn run_list<F: Decider + Send + Drop>(
     host: &mut Host<F>,
     steps: Vec<(Uid, Step<Handler<F>>)>,
 ) -> Result<Vec<Reply>, AllocError>
-    ensures ran { IfOk result (λ replies. Ran (map asked steps.items) (map told replies.items) host.old host.new) }
-    ensures wanting { IfOk result (λ replies. Wanting (map asked steps.items) (map told replies.items) host.old) }
-    ensures own { IfOk result (λ replies. Private (map asked steps.items) (map told replies.items) host.old host.new) }
+    ensures ran { IfOk result (λ replies. Ran (map asked steps.items) (map reply_given replies.items) host.old host.new) }
+    ensures wanting { IfOk result (λ replies. Wanting (map asked steps.items) (map reply_given replies.items) host.old) }
+    ensures own { IfOk result (λ replies. Private (map asked steps.items) (map reply_given replies.items) host.old host.new) }
     ensures refused { OnErr result (host.new ≡ host.old) }
 {
     host.kept();

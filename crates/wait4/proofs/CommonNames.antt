@@ -7,7 +7,7 @@ pub use Rattle.proc_table.proofs.Seen.{any-found}
 pub use Rattle.proc_table.proofs.Stays.{named-untraced}
 pub use Rattle.row_isolation.proofs.FilteredLists.{All-where}
 pub use Rattle.row_isolation.proofs.IsolationOfSignals.{notified_same, user_not_one}
-pub use Rattle.row_isolation.proofs.IsolationRelation.{Kin, Sim, each_same, either, named, not_own, rows_query}
+pub use Rattle.row_isolation.proofs.IsolationRelation.{SameOwnership, Sim, each_same, either, named, not_own, rows_query}
 pub use Rattle.row_isolation.proofs.SoundRowsAreApart.{others_after, own_after, own_start, owns_owner, owns_user, sound_closed}
 pub use Rattle.row_isolation.specs.Closed.{Closed, GoodProc}
 pub use Rattle.std.proofs.Common.{SFits, ltb, negsuc, of_z, pos, to_z, w64, ℤ}
@@ -32,4 +32,4 @@ pub use Rattle.wait4.specs.Collect.{answer, candidates, collect, collect_one, co
 pub use Rattle.wait4.specs.Laws.{AfterOthers, AfterOwn, CollectOwn, ReportedLeast, ReportedOwn}
 pub use Rattle.step_types.specs.{Status.IsStatus, Status.ended, Status.word, declared.Options.Options}
 pub use Rattle.wait4.specs.declared.Collected.TheVariants.{NoChild, Nothing}
-pub use Rattle.wait4.specs.declared.collecting.Kin.TheVariants.{Parent, Tracer}
+pub use Rattle.wait4.specs.declared.collecting.Relation.TheVariants.{Parent, Tracer}

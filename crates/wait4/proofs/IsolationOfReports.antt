@@ -1,7 +1,7 @@
 -- What is collected, among one user's rows.
 use Rattle.wait4.proofs.CommonNames.{arith, ◌≡◌, ◌≢◌, ℕ, ℤ, find, true, ◌==◌, ◌&&◌, if◌then◌else◌, Option, Some, IfSome, refl, ap, ◌∙◌, eqb-true, subst, eq-eqb, inl, rules, nat_tests, IsUser}
 use Rattle.wait4.proofs.CommonNames.{ProcData, State, Rows, pid_owner, Options, answer, is_child, fits, reportable, collected_in, collected, stays, told, collect_one, candidates, reported, collect}
-use Rattle.wait4.proofs.CommonNames.{without_report, rows_after, GoodProc, All-where, Sim, Kin, not_own, either, named, rows_query, each_same, If_more, user_not_one, notified_same, and_left}
+use Rattle.wait4.proofs.CommonNames.{without_report, rows_after, GoodProc, All-where, Sim, SameOwnership, not_own, either, named, rows_query, each_same, If_more, user_not_one, notified_same, and_left}
 use Rattle.row_isolation.proofs.FilteredLists.{find_some}
 
 pub child_own : (u caller : ℕ) → IsUser u → pid_owner caller ≡ u → (p : ProcData) → GoodProc p → is_child caller p ≡ true → p.uid ≡ u
@@ -26,7 +26,7 @@ collect_same {u} {start} {c} {v} s caller which options mine = ap (λ ps. answer
 stays_parent : (caller : ℕ) (p : ProcData) → stays caller p ≡ true → p.parent ≢ 1
 stays_parent caller p is one = search (rules, eq-eqb)
 
-collected_kin : (caller : ℕ) (p : ProcData) → GoodProc p → (st : State) → p.state ≡ st → Kin p (collected_in caller p st)
+collected_kin : (caller : ℕ) (p : ProcData) → GoodProc p → (st : State) → p.state ≡ st → SameOwnership p (collected_in caller p st)
 collected_kin caller p good st e = grind (arith, nat_tests, good, e, stays_parent caller p)
 
 pub collect_one_same : {u : ℕ} {start c v : Rows} → Sim u start c v → (caller : ℕ) (p : ProcData) → GoodProc p → p.uid ≡ u → Sim u start (collect_one caller p c) (collect_one caller p v)

@@ -15,7 +15,7 @@ use trace_stop::post_sigchld;
 
 /// How a child names the caller.
 #[derive(Clone, Copy, Debug, PartialEq, Eq, Drop)]
-pub enum Kin {
+pub enum Relation {
     Tracer,
     Parent,
 }
@@ -59,24 +59,29 @@ fn status_of(p: &ProcData) -> Status
 }
 
 /// Returns the first process that names the caller in this way, as its tracer or as its parent, if any.
-fn first_of_kin(tables: &Tables, kin: Kin, caller: Pid) -> Option<ProcData>
-    ensures row { result ≡ find (λ p. ltb 0 p.pid && names_as kin caller p) tables.now.rows.processes }
+fn first_related(tables: &Tables, relation: Relation, caller: Pid) -> Option<ProcData>
+    ensures row { result ≡ find (λ p. ltb 0 p.pid && names_as relation caller p) tables.now.rows.processes }
     ensures kept { TableInvariant tables.now.rows }
 {
-    match kin {
-        Kin::Tracer => tables.next_tracee(caller, 0),
-        Kin::Parent => tables.next_child(caller, 0),
+    match relation {
+        Relation::Tracer => tables.next_tracee(caller, 0),
+        Relation::Parent => tables.next_child(caller, 0),
     }
 }
 
 /// Returns the first process that names the caller in this way and has something to report.
-fn first_report(tables: &Tables, kin: Kin, caller: Pid, options: Options) -> Option<ProcData>
-    ensures row { result ≡ find (λ p. names_as kin caller p && reportable options caller p) tables.now.rows.processes }
+fn first_report(
+    tables: &Tables,
+    relation: Relation,
+    caller: Pid,
+    options: Options,
+) -> Option<ProcData>
+    ensures row { result ≡ find (λ p. names_as relation caller p && reportable options caller p) tables.now.rows.processes }
     ensures kept { TableInvariant tables.now.rows }
 {
-    match kin {
-        Kin::Tracer => tables.find_tracee(caller, |p| reportable(options, caller, p)),
-        Kin::Parent => tables.find_child(caller, |p| reportable(options, caller, p)),
+    match relation {
+        Relation::Tracer => tables.find_tracee(caller, |p| reportable(options, caller, p)),
+        Relation::Parent => tables.find_child(caller, |p| reportable(options, caller, p)),
     }
 }
 
@@ -93,7 +98,7 @@ fn lesser(a: Option<ProcData>, b: Option<ProcData>) -> Option<ProcData>
 
 /// Returns the process with this number, which isn't negative, if there is one.
 #[tactic(auto, using(crate::proofs::LemmaSets::of_number))]
-fn numbered(tables: &Tables, which: i64) -> Option<ProcData>
+fn find_by_number(tables: &Tables, which: i64) -> Option<ProcData>
     ensures row { (n : ℕ) → which ≡ pos n → result ≡ process_of n tables.now.rows.processes }
     ensures kept { TableInvariant tables.now.rows }
 {
@@ -112,11 +117,11 @@ fn reported(tables: &Tables, caller: Pid, which: i64, options: Options) -> Optio
     ensures kept { TableInvariant tables.now.rows }
 {
     if which < 0 {
-        let tracee = first_report(tables, Kin::Tracer, caller, options);
-        let child = first_report(tables, Kin::Parent, caller, options);
+        let tracee = first_report(tables, Relation::Tracer, caller, options);
+        let child = first_report(tables, Relation::Parent, caller, options);
         return lesser(tracee, child);
     }
-    let p = numbered(tables, which)?;
+    let p = find_by_number(tables, which)?;
     if is_child(caller, &p) && reportable(options, caller, &p) {
         Some(p)
     } else {
@@ -129,10 +134,10 @@ fn has_child(tables: &Tables, caller: Pid, which: i64) -> bool
     ensures { result ≡ list_any (λ p. is_child caller p && fits which p) tables.now.rows.processes }
 {
     if which < 0 {
-        return first_of_kin(tables, Kin::Tracer, caller).is_some()
-            || first_of_kin(tables, Kin::Parent, caller).is_some();
+        return first_related(tables, Relation::Tracer, caller).is_some()
+            || first_related(tables, Relation::Parent, caller).is_some();
     }
-    match numbered(tables, which) {
+    match find_by_number(tables, which) {
         Some(p) => is_child(caller, &p),
         None => false,
     }

@@ -32,7 +32,7 @@ fn lines_and_answers(rt: HostRuntime) -> Result<(), Fail> {
     serve(
         rt.alloc(),
         Settings::standard(),
-        Style::Words,
+        Style::Text,
         &mut reader,
         &mut writer,
     )?;
@@ -51,7 +51,7 @@ fn check_length<R: Abort + AllocGlobal>(rt: &R, length: usize, want: &str) -> Re
     serve(
         rt.alloc(),
         Settings::standard(),
-        Style::Words,
+        Style::Text,
         &mut reader,
         &mut writer,
     )?;
@@ -74,7 +74,7 @@ fn readers_that_fail(rt: HostRuntime) -> Result<(), Fail> {
     let ended = serve(
         rt.alloc(),
         Settings::standard(),
-        Style::Words,
+        Style::Text,
         &mut reader,
         &mut writer,
     )
@@ -92,7 +92,7 @@ fn check_room<R: Abort + AllocGlobal>(rt: &R, room: usize) -> Result<(), Fail> {
     let ended = serve(
         rt.alloc(),
         Settings::standard(),
-        Style::Words,
+        Style::Text,
         &mut reader,
         &mut writer,
     )

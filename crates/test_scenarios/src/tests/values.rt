@@ -39,7 +39,7 @@ const ITS_STEPS: [&str; 12] = [
 fn a_session(rt: HostRuntime) -> Result<(), Fail> {
     let scenario = parse(rt.alloc(), SESSION.as_bytes())?;
     let policy = at_entry()?;
-    assert_eq!(rt; scenario.shapes().len(), ITS_STEPS.len());
+    assert_eq!(rt; scenario.bare_steps().len(), ITS_STEPS.len());
     for (found, text) in scenario.steps().zip(ITS_STEPS.iter()) {
         let wanted = step_in(rt.alloc(), text, Some(&policy))?;
         assert!(rt; found == wanted, "`{text}` is read as {:?}", found.1);

@@ -1,4 +1,4 @@
-use Rattle.host_lock.proofs.CommonNames.{◌∙◌, ap, arith, Me, seen_of, View, Slot}
+use Rattle.host_lock.proofs.CommonNames.{◌∙◌, ap, arith, Me, known_of, View, HostSlot}
 use Rattle.host_lock.proofs.Moments.{joined_is, has_learned}
 use Rattle.host_lock.proofs.Turns.{joins, learns}
 use Rattle.host_lock.proofs.moment.learn.Goals as goal
@@ -9,9 +9,9 @@ join_seat-requires g c =
     let seat = c.args.seat.now in (
       c.requires.table.1,
       c.requires.table.2,
-      ap (λ (m : Me (Slot g.row.F.Denot g.row.J.Denot) View). m.1) c.requires.shown,
+      ap (λ (m : Me (HostSlot g.row.F.Denot g.row.J.Denot) View). m.1) c.requires.shown,
       omega (arith, c.requires.table.0.0),
-      joins table.key.start.value table.key.sessions seat.id c.args.shown.id seat.me.0 c.args.shown.me.0 (ap (λ (m : Me (Slot g.row.F.Denot g.row.J.Denot) View). m.0.stage) c.requires.rests) (ap (λ (m : Me (Slot g.row.F.Denot g.row.J.Denot) View). m.0.stage) c.requires.shown),
+      joins table.key.start.value table.key.sessions seat.id c.args.shown.id seat.me.0 c.args.shown.me.0 (ap (λ (m : Me (HostSlot g.row.F.Denot g.row.J.Denot) View). m.0.stage) c.requires.rests) (ap (λ (m : Me (HostSlot g.row.F.Denot g.row.J.Denot) View). m.0.stage) c.requires.shown),
     )
 
 pub load-requires : goal.load-requires
@@ -21,10 +21,10 @@ load-requires g c =
     let joined = joined_is c.args.number c.args.seat.now.me c.args.shown.me seat.me c.requires.rests c.requires.shown c.join_seat.ensures.2 in (
       c.join_seat.ensures.0 ∙ c.requires.table.1,
       omega (arith, c.requires.table.0.0),
-      learns table.key.start.value table.key.sessions table.table_id.slots seat.id seat.me (seen_of c.args.seat.now.me.0) (seen_of c.args.shown.me.0) (ap (λ (m : Me (Slot g.row.F.Denot g.row.J.Denot) View). m.0.stage) joined) (ap (λ (m : Me (Slot g.row.F.Denot g.row.J.Denot) View). m.0.seen) joined),
+      learns table.key.start.value table.key.sessions table.table_id.slots seat.id seat.me (known_of c.args.seat.now.me.0) (known_of c.args.shown.me.0) (ap (λ (m : Me (HostSlot g.row.F.Denot g.row.J.Denot) View). m.0.stage) joined) (ap (λ (m : Me (HostSlot g.row.F.Denot g.row.J.Denot) View). m.0.known) joined),
     )
 
 pub returns-clause-learned : goal.returns-clause-learned
 returns-clause-learned g c =
     let joined = joined_is c.args.number c.args.seat.now.me c.args.shown.me c.join_seat.new.seat.me c.requires.rests c.requires.shown c.join_seat.ensures.2 in
-    has_learned c.args.number c.args.table.now.table_id.slots c.load.result (seen_of c.args.shown.me.0) c.args.seat.now.me c.join_seat.new.seat.me c.load.new.seat.me joined c.load.ensures.2 c.requires.legal.0 c.requires.legal.1 c.requires.own
+    has_learned c.args.number c.args.table.now.table_id.slots c.load.result (known_of c.args.shown.me.0) c.args.seat.now.me c.join_seat.new.seat.me c.load.new.seat.me joined c.load.ensures.2 c.requires.legal.0 c.requires.legal.1 c.requires.own

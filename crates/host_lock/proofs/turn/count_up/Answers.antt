@@ -1,4 +1,4 @@
-use Rattle.host_lock.proofs.CommonNames.{ℕ, arith, start_of, seen_of, mine_of}
+use Rattle.host_lock.proofs.CommonNames.{ℕ, arith, start_of, known_of, mine_of}
 use Rattle.host_lock.proofs.Turns.{counts_up}
 use Rattle.host_lock.proofs.turn.count_up.Goals as goal
 
@@ -10,5 +10,5 @@ fetch_add-requires g c =
     let slots : ℕ = table.table_id.slots in (
       c.requires.table.1,
       omega (arith, c.requires.table.0.0),
-      rw c.requires.holds (counts_up table.key.start.value table.key.sessions slots seat.id v.budget c.args.ticket c.args.number c.args.user (start_of v) (seen_of v) (mine_of v) c.args.step.now),
+      rw c.requires.holds (counts_up table.key.start.value table.key.sessions slots seat.id v.budget c.args.ticket c.args.number c.args.user (start_of v) (known_of v) (mine_of v) c.args.step.now),
     )

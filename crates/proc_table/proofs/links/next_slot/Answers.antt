@@ -1,4 +1,4 @@
-use Rattle.proc_table.proofs.CommonNames.{◌≡◌, ℕ, Some, Option, true, ap, sym, refl, arith, nat_eq, option_map, option_eq, nat_tests, get, Slot, anywhere, above, Node, node_of, nodes_of}
+use Rattle.proc_table.proofs.CommonNames.{◌≡◌, ℕ, Some, Option, true, ap, sym, refl, arith, nat_eq, option_map, option_eq, nat_tests, get, RowNode, anywhere, above, Node, node_of, nodes_of}
 use Rattle.proc_table.proofs.Every.{some_and}
 use Rattle.proc_table.proofs.Linked.{as_member, member-of, IsNext-nearest}
 use Rattle.proc_table.proofs.ListNodes.{slot_at, list-at, list-ends}
@@ -20,7 +20,7 @@ index-requires-in-Some c = grind (arith, nat_tests, c.requires.at c.args.after c
 pub returns-then-eq : goal.returns-then-eq
 returns-then-eq c =
     let kin = c.args.kin in
-    let there = some_and (λ (slot : Slot). slot.row.pid ≡ c.args.after) _ (c.requires.at c.args.after c.in-Some.at (sym c.in-Some.ensures)) in
+    let there = some_and (λ (slot : RowNode). slot.row.pid ≡ c.args.after) _ (c.requires.at c.args.after c.in-Some.at (sym c.in-Some.ensures)) in
     let node = node_of kin c.index-in-Some.result.now in
     let number : node.pid ≡ c.args.after = grind (arith, nat_tests) in
     let names : node.list_owner ≡ Some c.args.list_owner = grind (arith, nat_tests, equal c.links_of-links.result.list_owner c.args.list_owner) in

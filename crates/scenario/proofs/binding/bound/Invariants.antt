@@ -1,10 +1,10 @@
-use Rattle.scenario.proofs.CommonNames.{◌≡◌, ◌≤◌, ◌++◌, map, length, drop, into_iter_items, asked, filled, policies_in}
+use Rattle.scenario.proofs.CommonNames.{◌≡◌, ◌≤◌, ◌++◌, map, length, drop, into_iter_items, asked, with_policies, policies_in}
 use Rattle.scenario.proofs.binding.bound.Given as goal
 
-abbrev pub invariant-loop-shape : goal.invariant-loop-shape
-invariant-loop-shape g l = let left = filled (drop l.shape-index l.shapes) (into_iter_items l.rest) in record {
+abbrev pub invariant-loop-bare_step : goal.invariant-loop-bare_step
+invariant-loop-bare_step g l = let left = with_policies (drop l.bare_step-index l.bare_steps) (into_iter_items l.rest) in record {
   steps : map asked l.steps.items ++ left ≡ l.scenario.steps;
   each : policies_in left ≡ into_iter_items l.rest;
-  count : length l.steps.items ≡ l.shape-index;
-  within : l.shape-index ≤ length l.shapes;
+  count : length l.steps.items ≡ l.bare_step-index;
+  within : l.bare_step-index ≤ length l.bare_steps;
 }

@@ -3,15 +3,15 @@ use Rattle.scenario.proofs.BindLemmas.{needs_none, nothing_made, made_bound}
 use Rattle.scenario.proofs.running.reply_of.Goals as goal
 
 pub returns-in-Some : goal.returns-in-Some
-returns-in-Some g c = λ others had. needs_none c.args.user c.args.shape.now (into_iter_items c.args.handlers.now) c.args.host.now c.make.new.self c.in-Some.reply c.in-Some.ensures
+returns-in-Some g c = λ others had. needs_none c.args.user c.args.bare_step.now (into_iter_items c.args.handlers.now) c.args.host.now c.make.new.self c.in-Some.reply c.in-Some.ensures
 
 pub returns-in_err-step : goal.returns-in_err-step
 returns-in_err-step g c = λ others had.
-    let bound = c.bound_step.ensures others had in
-    let none : c.bound_step.result ≡ None = c.in_err-step.was in
+    let bound = c.step_with_handler.ensures others had in
+    let none : c.step_with_handler.result ≡ None = c.in_err-step.was in
     absurd (cc)
 
 pub returns : goal.returns
 returns g c = λ others had.
-    made_bound c.args.user c.args.shape.now (into_iter_items c.args.handlers.now) (into_iter_items c.bound_step.new.handlers) others c.in_ok-step.step c.bound_step.result
-    c.args.host.now c.make.new.self c.step.new.self c.step.result c.bound_step.ensures had c.in_ok-step.was (nothing_made c.args.user _ c.args.host.now c.make.new.self c.in_default.ensures) c.step.ensures
+    made_bound c.args.user c.args.bare_step.now (into_iter_items c.args.handlers.now) (into_iter_items c.step_with_handler.new.handlers) others c.in_ok-step.step c.step_with_handler.result
+    c.args.host.now c.make.new.self c.step.new.self c.step.result c.step_with_handler.ensures had c.in_ok-step.was (nothing_made c.args.user _ c.args.host.now c.make.new.self c.in_default.ensures) c.step.ensures

@@ -1,15 +1,15 @@
-use Rattle.scenario.proofs.CommonNames.{◌+◌, ◌++◌, ◌∷◌, ◌∙◌, List, [], drop, refl, ap, sym, string_bytes, append-nil, arith, into_iter_items, empty, Asked, replies, filled, policies_in, first_policy}
-use Rattle.scenario.proofs.CommonNames.{step_with, answered, answers_of, paired}
+use Rattle.scenario.proofs.CommonNames.{◌+◌, ◌++◌, ◌∷◌, ◌∙◌, List, [], drop, refl, ap, sym, string_bytes, append-nil, arith, into_iter_items, empty, Asked, replies, with_policies, policies_in, first_policy}
+use Rattle.scenario.proofs.CommonNames.{with_installed, answered, answers_of, paired}
 use Rattle.scenario.proofs.LineLemmas.{counted_start, counted_more, counted_few, counted_number, shown_after, shown_none, shown_whole, text_next}
-use Rattle.scenario.proofs.{BindLemmas.each_next, BindLemmas.filled_next, BindLemmas.first_before, RunLemmas.answers_next, RunLemmas.none_left}
+use Rattle.scenario.proofs.{BindLemmas.each_next, BindLemmas.with_policies_next, BindLemmas.first_before, RunLemmas.answers_next, RunLemmas.none_left}
 use Rattle.scenario.proofs.running.text_of.Goals as goal
 
-pub loop-shape-init : goal.loop-shape-init
-loop-shape-init g c =
+pub loop-bare_step-init : goal.loop-bare_step-init
+loop-bare_step-init g c =
     let plan = c.args.scenario.now in
     let options = c.args.options.now in
     let handlers = c.into_iter-rest.ensures.rest ∙ c.requires in
-    let steps = ap (filled c.shapes-shapes.result.now) handlers ∙ c.shapes-shapes.ensures.steps in
+    let steps = ap (with_policies c.bare_steps-bare_steps.result.now) handlers ∙ c.bare_steps-bare_steps.ensures.steps in
     let host = c.in_ok-host.ensures ∙ ap empty c.settings.ensures in
     record {
       before = [];
@@ -22,25 +22,25 @@ loop-shape-init g c =
 
 pub count_reply-number-requires : goal.count_reply-number-requires
 count_reply-number-requires g c = λ k.
-    let few = counted_few c.loop-shape.made c.loop-shape.invariant.before c.loop-shape.invariant.counted k in
-    let place = c.loop-shape.invariant.few in omega arith
+    let few = counted_few c.loop-bare_step.made c.loop-bare_step.invariant.before c.loop-bare_step.invariant.counted k in
+    let place = c.loop-bare_step.invariant.few in omega arith
 
-pub loop-shape-preserved : goal.loop-shape-preserved
-loop-shape-preserved g c =
-    let at = c.loop-shape in
+pub loop-bare_step-preserved : goal.loop-bare_step-preserved
+loop-bare_step-preserved g c =
+    let at = c.loop-bare_step in
     let options = c.args.options.now in
-    let ss = c.shapes-shapes.result.now in
-    let x = c.shape-item.result in
+    let ss = c.bare_steps-bare_steps.result.now in
+    let x = c.bare_step-item.result in
     let had = into_iter_items at.rest in
     let left = into_iter_items c.reply_of.new.handlers in
-    let more = c.loop-shape-test.true in
-    let here = sym c.shape-item.is in
-    let step = step_with (first_policy had) x.1 in
-    let made = c.in-Some.ensures _ (first_before ss at.shape-index x had left more here at.invariant.each) in
+    let more = c.loop-bare_step-test.true in
+    let here = sym c.bare_step-item.is in
+    let step = with_installed (first_policy had) x.1 in
+    let made = c.in-Some.ensures _ (first_before ss at.bare_step-index x had left more here at.invariant.each) in
     let range = c.count_reply-number.ensures.range in
     let before = at.invariant.before in
-    let rest = filled (drop (at.shape-index + 1) ss) left in
-    let next = answers_next x.0 step c.in-Some.reply (filled (drop at.shape-index ss) had) rest at.host c.reply_of.new.host (filled_next ss at.shape-index x had left more here made.0)
+    let rest = with_policies (drop (at.bare_step-index + 1) ss) left in
+    let next = answers_next x.0 step c.in-Some.reply (with_policies (drop at.bare_step-index ss) had) rest at.host c.reply_of.new.host (with_policies_next ss at.bare_step-index x had left more here made.0)
     (sym c.is_memory.ensures ∙ c.if-is_memory.false) made.1 in
     record {
       before = x.0 ∷ before;
@@ -50,22 +50,22 @@ loop-shape-preserved g c =
           (c.count_reply-number.ensures.number ∙ ap (λ n. n + 1) (counted_number at.made before x.0 range.0 range.1 at.invariant.counted))
           c.in_ok-push_shown.ensures
           (ap (λ xs. string_bytes at.text ++ shown_after options.style options.user before xs) (sym next) ∙ at.invariant.text);
-      each = each_next ss at.shape-index x had left more here at.invariant.each made.0;
+      each = each_next ss at.bare_step-index x had left more here at.invariant.each made.0;
     }
 
 pub unreachable-requires : goal.unreachable-requires
 unreachable-requires g c =
-    let at = c.loop-shape in
+    let at = c.loop-bare_step in
     let had = into_iter_items at.rest in
-    let x = c.shape-item.result in
-    let before = first_before c.shapes-shapes.result.now at.shape-index x had had c.loop-shape-test.true (sym c.shape-item.is) at.invariant.each in
+    let x = c.bare_step-item.result in
+    let before = first_before c.bare_steps-bare_steps.result.now at.bare_step-index x had had c.loop-bare_step-test.true (sym c.bare_step-item.is) at.invariant.each in
     (c.in_default.ensures _ before).1
 
 pub returns-clause-ok : goal.returns-clause-ok
 returns-clause-ok g c =
-    let at = c.loop-shape in
+    let at = c.loop-bare_step in
     let options = c.args.options.now in
-    let none = none_left c.shapes-shapes.result.now at.shape-index (into_iter_items at.rest) at.host (let done = c.loop-shape-test.false in omega (arith, done)) in
+    let none = none_left c.bare_steps-bare_steps.result.now at.bare_step-index (into_iter_items at.rest) at.host (let done = c.loop-bare_step-test.false in omega (arith, done)) in
     let text = string_bytes at.text in
     let nothing = shown_none options.style options.user at.invariant.before in
     sym (append-nil text) ∙ ap (λ xs. text ++ xs) (sym nothing)

@@ -1,6 +1,6 @@
 use Rattle.std.proofs.Common.{◌≡◌, ◌+◌, ◌++◌, [], ◌∷◌, List, sym, subst, ap, ◌∙◌, arith, rules, append_assoc, append-nil, length-append, length, map, refl}
 use mathlib.Core.List.{map-append}
-use Rattle.sessions.proofs.CommonNames.{into_iter_items, nil_from_length, PlainStep, SmallStep, own_step, Did}
+use Rattle.sessions.proofs.CommonNames.{into_iter_items, nil_from_length, PlainStep, SmallStep, own_step, HasMade}
 use Rattle.step_types.specs.declared.Reply.{Reply}
 use Rattle.sessions.proofs.Scripts.{did_more}
 use Rattle.sessions.proofs.worker.work.Goals as goal
@@ -13,7 +13,7 @@ loop-step-init g c =
     record {
       split = all;
       replies = [];
-      did = subst (Did c.args.session [] []) (sym c.announce.ensures) (refl, refl, refl, refl, refl, c.requires.fresh.0, c.requires.fresh.1);
+      did = subst (HasMade c.args.session [] []) (sym c.announce.ensures) (refl, refl, refl, refl, refl, c.requires.fresh.0, c.requires.fresh.1);
       few = omega (arith, left, count, c.requires.few);
       drafted = subst (λ n. g.T.Report.drafted c.args.draft c.args.report.value c.args.session.uid n []) (omega (arith, left, count)) c.requires.begun;
     }
@@ -36,7 +36,7 @@ loop-step-preserved g c =
     record {
       split = append_assoc at.yielded (s ∷ []) _ ∙ rw (← steps) inv.split;
       replies = before ++ c.in-Reply.reply ∷ [];
-      did = subst (λ (ss : List PlainStep). Did c.args.session ss (before ++ c.in-Reply.reply ∷ []) c.call.new.session) longer
+      did = subst (λ (ss : List PlainStep). HasMade c.args.session ss (before ++ c.in-Reply.reply ∷ []) c.call.new.session) longer
           (did_more c.args.session at.session c.call.new.session (map own_step at.yielded) step before _ c.in-Reply.reply inv.did c.in-Reply.ensures.call refl);
       few = omega arith;
       drafted = c.add.ensures report c.args.session.uid _ before was;
@@ -47,9 +47,9 @@ returns-clause-did g c =
     let inv = c.loop-step.invariant in
     let none = nil_from_length _ (sym c.loop-step.step-iterator.rest.ok.0 ∙ c.in-None.ensures.steps.0) in
     let all = sym (append-nil c.loop-step.yielded) ∙ ap (λ (xs : List SmallStep). c.loop-step.yielded ++ xs) (sym none) ∙ inv.split in
-    let did = subst (λ (steps : List SmallStep). Did c.args.session (map own_step steps) inv.replies c.loop-step.session) all inv.did in
+    let did = subst (λ (steps : List SmallStep). HasMade c.args.session (map own_step steps) inv.replies c.loop-step.session) all inv.did in
     let made = (c.end.ensures c.args.report.value c.args.session.uid _ inv.replies inv.drafted).0 in
-    subst (λ (rs : List Reply). Did c.args.session (map own_step c.args.steps.items) rs c.loop-step.session) (sym made) did
+    subst (λ (rs : List Reply). HasMade c.args.session (map own_step c.args.steps.items) rs c.loop-step.session) (sym made) did
 
 pub returns-clause-tells : goal.returns-clause-tells
 returns-clause-tells g c =

@@ -1,4 +1,4 @@
-use Rattle.visibility.proofs.CommonNames.{told}
+use Rattle.visibility.proofs.CommonNames.{reply_given}
 use Rattle.visibility.proofs.Steps.{did, both_steps}
 use Rattle.visibility.proofs.laws.one_step.Goals as goal
 
@@ -9,6 +9,6 @@ returns g c =
     record {
       first = first;
       second = second;
-      equal = both_steps c.args.user c.args.step (told c.step-reply.result) (told c.step-other.result) c.args.first.now c.args.second.now c.step-reply.new.self c.step-other.new.self
+      equal = both_steps c.args.user c.args.step (reply_given c.step-reply.result) (reply_given c.step-other.result) c.args.first.now c.args.second.now c.step-reply.new.self c.step-other.new.self
           c.get-number.ensures.user c.kept.ensures c.kept-2.ensures c.requires.seen first second;
     }

@@ -9,12 +9,12 @@ pub invariant_of-session-2 : goal.invariant_of-session-2
 invariant_of-session-2 g c =
     let s = c.session.inside in
     let was : s.badge.views ≡ c.into_seat-seat.result.me.0 ∷ [] = search rules in
-    let t = badge_settles s.number s.calls_made s.uid (g.H.OwnHandler.plain c.args.step) c.turn-reply.result s.badge.views c.into_badge.result.views c.into_seat-seat.result.me c.turn-reply.new.seat.me c.session.invariant.1 was c.turn-reply.ensures.turned c.into_badge.ensures.2 in
+    let t = badge_settles s.number s.calls_made s.uid (g.H.OwnHandler.plain c.args.step) c.serve-reply.result s.badge.views c.into_badge.result.views c.into_seat-seat.result.me c.serve-reply.new.seat.me c.session.invariant.1 was c.serve-reply.ensures.turned c.into_badge.ensures.2 in
     (t.0, t.1.0, t.1.1, t.1.2)
 
 pub returns-clause-told : goal.returns-clause-told
 returns-clause-told g c =
     let s = c.session.inside in
     let was : s.badge.views ≡ c.into_seat-seat.result.me.0 ∷ [] = search rules in
-    let t = badge_settles s.number s.calls_made s.uid (g.H.OwnHandler.plain c.args.step) c.turn-reply.result s.badge.views c.into_badge.result.views c.into_seat-seat.result.me c.turn-reply.new.seat.me c.session.invariant.1 was c.turn-reply.ensures.turned c.into_badge.ensures.2 in
+    let t = badge_settles s.number s.calls_made s.uid (g.H.OwnHandler.plain c.args.step) c.serve-reply.result s.badge.views c.into_badge.result.views c.into_seat-seat.result.me c.serve-reply.new.seat.me c.session.invariant.1 was c.serve-reply.ensures.turned c.into_badge.ensures.2 in
     (t.1.1, t.1.2)

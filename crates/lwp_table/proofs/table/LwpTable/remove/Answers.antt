@@ -1,4 +1,4 @@
-use Rattle.lwp_table.proofs.CommonNames.{nat_tests, ap, sym, ◌∙◌, ◌&&◌, is_some, is_none, arith, cond, nat_eq, Ends, ends_at}
+use Rattle.lwp_table.proofs.CommonNames.{nat_tests, ap, sym, ◌∙◌, ◌&&◌, is_some, is_none, arith, cond, nat_eq, ListHead, ends_at}
 use Rattle.slab.specs.Slab.{get as slot_get}
 use Rattle.lwp_table.proofs.IndexLemmas.{some_of, slot_for, lwp_of-found}
 use Rattle.lwp_table.proofs.KeptLemmas.{HasLeft, neighbours, own_positive, user_positive, left_empty, LwpTableInvariant-removed, rows-removed}
@@ -30,10 +30,10 @@ leaves c =
       others = c.remove-gone.ensures.updates.others;
       closed = c.close_up.ensures.closed;
       change = rw c.get-number.ensures.number at c.remove.ensures.updates;
-      first = c.without.ensures.first ∙ ap (λ (e : Ends). cond (is_none gone.own.prev) gone.own.next e.first) own;
-      last = c.without.ensures.last ∙ ap (λ (e : Ends). cond (is_none gone.own.next) gone.own.prev e.last) own;
-      count = c.without.ensures.count ∙ ap (λ (e : Ends). e.count) own;
-      pends = c.without.ensures.may_pend ∙ ap (λ (e : Ends). is_some c.without.result.first && e.may_pend) own;
+      first = c.without.ensures.first ∙ ap (λ (e : ListHead). cond (is_none gone.own.prev) gone.own.next e.first) own;
+      last = c.without.ensures.last ∙ ap (λ (e : ListHead). cond (is_none gone.own.next) gone.own.prev e.last) own;
+      count = c.without.ensures.count ∙ ap (λ (e : ListHead). e.count) own;
+      pends = c.without.ensures.may_pend ∙ ap (λ (e : ListHead). is_some c.without.result.first && e.may_pend) own;
     }
 
 pub invariant_of-self : goal.invariant_of-self

@@ -9,7 +9,7 @@ unwrap-slot-requires c = grind (arith, nat_tests, slot_there (rows_of (get c.sel
 
 -- what is then kept, and of which rows
 after : (c : After-slot) → IsWithout (get c.self.inside.nodes) c.self.inside.slots.entries c.self.inside.counts c.args.pid c.remove-gone.result.row.uid (get c.remove-gone.new.self) c.remove.new.self.entries
-after c = removed c.self.invariant c.args.pid record { are_linked = c.relink_both.ensures.are_linked; rows = c.relink_both.ensures.rows; here = c.relink_both.ensures.here; others = c.relink_both.ensures.others }
+after c = removed c.self.invariant c.args.pid record { are_linked = c.update_lists.ensures.are_linked; rows = c.update_lists.ensures.rows; here = c.update_lists.ensures.here; others = c.update_lists.ensures.others }
     c.remove-gone.ensures.value c.remove-gone.ensures.updates.changed c.remove-gone.ensures.updates.others (rw c.get-number.ensures.number at (sym c.get.ensures ∙ c.unwrap-slot.ensures)) (rw c.get-number.ensures.number at c.remove.ensures.updates)
     (λ k. ap (λ v. next_named k c.args.pid 0 v.rows) c.self.view_is ∙ c.requires.unnamed k) c.self.told
 

@@ -1,15 +1,15 @@
 use Rattle.std.proofs.Common.{length, map, ap, ◌∙◌, arith}
 use Rattle.sessions.proofs.CommonNames.{length-map, new_sessions, uid_of}
 use Rattle.sessions.proofs.Pairing.{new_sessions_length}
-use Rattle.sessions.proofs.ready.prepare.Goals as goal
+use Rattle.sessions.proofs.preparing.prepare.Goals as goal
 
 pub open_for-requires-after_bounds : goal.open_for-requires-after_bounds
 open_for-requires-after_bounds g c κs within =
     let uids = ap length (c.as_slice-3.ensures.value ∙ c.in_ok-room.ensures.uids) ∙ length-map c.as_slice.result.now (uid_of {F = g.row.F.Denot} {T = g.row.T.Denot}) ∙ ap length c.as_slice.ensures.value in
     (omega (arith, uids, c.args.scripts.ok.0, c.requires.some_script.0), omega (arith, uids, c.args.scripts.ok.0, c.requires.some_script.1))
 
-pub pair-requires-after_bounds : goal.pair-requires-after_bounds
-pair-requires-after_bounds g c κs within =
+pub zip_sessions-requires-after_bounds : goal.zip_sessions-requires-after_bounds
+zip_sessions-requires-after_bounds g c κs within =
     let uids = ap length (c.as_slice-3.ensures.value ∙ c.in_ok-room.ensures.uids) ∙ length-map c.as_slice.result.now (uid_of {F = g.row.F.Denot} {T = g.row.T.Denot}) ∙ ap length c.as_slice.ensures.value in
     ap length c.in_ok-opened.ensures.sessions ∙ new_sessions_length 0 _ _ _ ∙ uids
 

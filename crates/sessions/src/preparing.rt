@@ -4,14 +4,14 @@ ghost use Rattle.std.specs.Prelude.{◌≡◌, ◌<◌, ◌≤◌, length, map, 
 ghost use Rattle.host_lock.specs.Limits.{max_sessions};
 ghost use Rattle.host_lock.specs.Rule.{Each};
 ghost use Rattle.host_lock.specs.Sessions.{IsOpenable, new_sessions};
-ghost use Rattle.sessions.specs.Jobs.{HasRoomFor, IsBegun, job_report, job_session, job_steps};
+ghost use Rattle.sessions.specs.SessionScripts.{HasRoomFor, IsBegun, script_report, script_session, script_steps};
 ghost use Rattle.sessions.specs.Boxed.{report_of, uid_of, steps_of};
 
 use crate::boxing::BoxedScript;
-use crate::job::{Done, Job};
 use crate::report::Report;
 use crate::script::Transcript;
-use crate::worker::reversed;
+use crate::session_script::{SessionOutput, SessionScript};
+use crate::worker::into_reversed;
 use host_lock::{CallLog, Session, SharedHost};
 use pid_blocks::Uid;
 use requests::Host;
@@ -19,11 +19,11 @@ use std::alloc::{AllocError, Global};
 use std::snapshot::Snapshot;
 use stop_handlers::Decider;
 
-/// The scripts' users, and room for the workers' results.
+/// The scripts' users, and empty lists with room for the workers' results.
 #[derive(Drop)]
-pub(crate) struct Room<O: Drop> {
+pub(crate) struct Buffers<O: Drop> {
     pub uids: Vec<Uid>,
-    pub done: Vec<Done<O>>,
+    pub done: Vec<SessionOutput<O>>,
     pub sessions: Vec<Session>,
     pub transcripts: Vec<Transcript<O>>,
 }
@@ -34,8 +34,8 @@ struct Opened<F: Decider + Send + Drop, J: CallLog + Send + Drop> {
     sessions: Vec<Session>,
 }
 
-/// An open host, a job for each script, and room for the results.
-pub(crate) struct Ready<
+/// An open host, a session with each script, and room for the results.
+pub(crate) struct PreparedRun<
     F: Decider + Send + Drop,
     J: CallLog + Send + Drop,
     T: Drop,
@@ -43,8 +43,8 @@ pub(crate) struct Ready<
     O: Drop,
 > {
     pub host: SharedHost<F, J>,
-    pub jobs: Vec<Job<F, T, D>>,
-    pub room: Room<O>,
+    pub jobs: Vec<SessionScript<F, T, D>>,
+    pub room: Buffers<O>,
 }
 
 /// Opens the host, and allocates all memory that the run itself needs. An error means out of memory.
@@ -52,12 +52,12 @@ pub(crate) fn prepare<F: Decider + Send + Drop, J: CallLog + Send + Drop, T: Rep
     alloc: Global,
     host: Host<F>,
     scripts: Vec<BoxedScript<F, T>>,
-) -> Result<Ready<F, J, T, T::Draft, T::Output>, AllocError>
+) -> Result<PreparedRun<F, J, T, T::Draft, T::Output>, AllocError>
     requires some_script { (0 < vec_len scripts) × (vec_len scripts ≤ max_sessions) }
     ensures host { IfOk result (λ r. (r.host.start ≡ host) × (r.host.sessions ≡ vec_len scripts)) }
-    ensures sessions { IfOk result (λ r. map job_session r.jobs.items ≡ new_sessions 0 r.host.id host (map uid_of scripts.items)) }
-    ensures steps { IfOk result (λ r. map job_steps r.jobs.items ≡ map steps_of scripts.items) }
-    ensures reports { IfOk result (λ r. map job_report r.jobs.items ≡ map report_of scripts.items) }
+    ensures sessions { IfOk result (λ r. map script_session r.jobs.items ≡ new_sessions 0 r.host.id host (map uid_of scripts.items)) }
+    ensures steps { IfOk result (λ r. map script_steps r.jobs.items ≡ map steps_of scripts.items) }
+    ensures reports { IfOk result (λ r. map script_report r.jobs.items ≡ map report_of scripts.items) }
     ensures jobs { IfOk result (λ r. Each (IsBegun T.drafted) r.jobs.items) }
     ensures done { IfOk result (λ r. HasRoomFor (vec_len scripts) r.room.done) }
     ensures sessions_room { IfOk result (λ r. HasRoomFor (vec_len scripts) r.room.sessions) }
@@ -67,15 +67,15 @@ pub(crate) fn prepare<F: Decider + Send + Drop, J: CallLog + Send + Drop, T: Rep
     let calls = calls_in(scripts.as_slice());
     let opened = open_for(alloc, host, room.uids.as_slice(), calls)?;
     let Opened { host, sessions } = opened;
-    let jobs = pair(alloc, sessions, scripts)?;
-    Ok(Ready { host, jobs, room })
+    let jobs = zip_sessions(alloc, sessions, scripts)?;
+    Ok(PreparedRun { host, jobs, room })
 }
 
-/// Allocates room for the results of the scripts. An error means out of memory.
+/// Allocates the lists for the results of the scripts. An error means out of memory.
 fn room_for<F: Decider + Send + Drop, T: Report>(
     alloc: Global,
     scripts: &[BoxedScript<F, T>],
-) -> Result<Room<T::Output>, AllocError>
+) -> Result<Buffers<T::Output>, AllocError>
     ensures uids { IfOk result (λ r. r.uids.items ≡ map uid_of scripts.now) }
     ensures done { IfOk result (λ r. HasRoomFor (length scripts.now) r.done) }
     ensures sessions { IfOk result (λ r. HasRoomFor (length scripts.now) r.sessions) }
@@ -85,7 +85,7 @@ fn room_for<F: Decider + Send + Drop, T: Report>(
     let done = Vec::with_capacity(alloc, scripts.len())?;
     let sessions = Vec::with_capacity(alloc, scripts.len())?;
     let transcripts = Vec::with_capacity(alloc, scripts.len())?;
-    Ok(Room {
+    Ok(Buffers {
         uids,
         done,
         sessions,
@@ -133,34 +133,34 @@ fn uids_of<F: Decider + Send + Drop, T: Report>(
 }
 
 /// Pairs each session with its script, and begins the draft of its report.
-fn pair<F: Decider + Send + Drop, T: Report>(
+fn zip_sessions<F: Decider + Send + Drop, T: Report>(
     alloc: Global,
     sessions: Vec<Session>,
     scripts: Vec<BoxedScript<F, T>>,
-) -> Result<Vec<Job<F, T, T::Draft>>, AllocError>
+) -> Result<Vec<SessionScript<F, T, T::Draft>>, AllocError>
     requires { length sessions.items ≡ length scripts.items }
-    ensures sessions { IfOk result (λ v. map job_session v.items ≡ sessions.items) }
-    ensures steps { IfOk result (λ v. map job_steps v.items ≡ map steps_of scripts.items) }
-    ensures reports { IfOk result (λ v. map job_report v.items ≡ map report_of scripts.items) }
+    ensures sessions { IfOk result (λ v. map script_session v.items ≡ sessions.items) }
+    ensures steps { IfOk result (λ v. map script_steps v.items ≡ map steps_of scripts.items) }
+    ensures reports { IfOk result (λ v. map script_report v.items ≡ map report_of scripts.items) }
     ensures jobs { IfOk result (λ v. Each (IsBegun T.drafted) v.items) }
 {
     let mut jobs = Vec::with_capacity(alloc, scripts.len())?;
-    let mut sessions = reversed(sessions);
-    let mut scripts = reversed(scripts);
+    let mut sessions = into_reversed(sessions);
+    let mut scripts = into_reversed(scripts);
     while let Some(script) = scripts.pop() {
         let Some(session) = sessions.pop() else {
             unreachable!()
         };
-        jobs.push_reserved(job(alloc, session, script)?);
+        jobs.push_reserved(session_script(alloc, session, script)?);
     }
     Ok(jobs)
 }
 
-fn job<F: Decider + Send + Drop, T: Report>(
+fn session_script<F: Decider + Send + Drop, T: Report>(
     alloc: Global,
     session: Session,
     script: BoxedScript<F, T>,
-) -> Result<Job<F, T, T::Draft>, AllocError>
+) -> Result<SessionScript<F, T, T::Draft>, AllocError>
     ensures { IfOk result (λ j. (j.session ≡ session) × (j.steps ≡ script.steps) × (j.report.value ≡ script.report) × IsBegun T.drafted j) }
 {
     let BoxedScript {
@@ -168,12 +168,12 @@ fn job<F: Decider + Send + Drop, T: Report>(
         steps,
         report,
     } = script;
-    let told = Snapshot::of(&report);
+    let promised = Snapshot::of(&report);
     let draft = report.begin(alloc, session.uid(), steps.len())?;
-    Ok(Job {
+    Ok(SessionScript {
         session,
         steps,
-        report: told,
+        report: promised,
         draft,
     })
 }

@@ -1,6 +1,6 @@
-use Rattle.host_lock.proofs.CommonNames.{◌≡◌, ◌≢◌, ◌∙◌, sym, subst, arith, rules, Me, View, Slot, TakesSlot}
+use Rattle.host_lock.proofs.CommonNames.{◌≡◌, ◌≢◌, ◌∙◌, sym, subst, arith, rules, Me, View, HostSlot, TakesSlot}
 use Rattle.host_lock.proofs.Turns.{IsWaiting, looks, takes_slot, waits_on}
-use Rattle.host_lock.proofs.turn.take_turn.Goals as goal
+use Rattle.host_lock.proofs.turn.await_ticket.Goals as goal
 
 pub load-serving-requires : goal.load-serving-requires
 load-serving-requires g c =
@@ -15,7 +15,7 @@ pub returns-then-serving-ticket-clause-taken : goal.returns-then-serving-ticket-
 returns-then-serving-ticket-clause-taken g c =
     let waits : IsWaiting c.args.number c.args.ticket c.loop.seat.me = subst (IsWaiting c.args.number c.args.ticket) (sym c.loop.invariant.3) c.requires.waits in
     let found : c.load-serving.result ≡ c.args.ticket = search rules in
-    subst (λ (m : Me (Slot g.row.F.Denot g.row.J.Denot) View). TakesSlot m.0 c.args.number c.args.ticket c.load-serving.new.seat.me) c.loop.invariant.3
+    subst (λ (m : Me (HostSlot g.row.F.Denot g.row.J.Denot) View). TakesSlot m.0 c.args.number c.args.ticket c.load-serving.new.seat.me) c.loop.invariant.3
     (takes_slot c.args.table.now.table_id.slots c.args.number c.args.ticket c.load-serving.result c.loop.seat.me c.load-serving.new.seat.me waits c.load-serving.ensures.2 found)
 
 pub loop-preserved : goal.loop-preserved
