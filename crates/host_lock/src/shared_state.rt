@@ -51,7 +51,7 @@ fn answered<F: Decider + Send + Drop, H: OwnHandler<F>>(
     ensures memory { is_memory result ≡ true → host.new ≡ host.old }
     ensures list { is_memory result ≡ false → is_listing result ≡ true → host.new ≡ host.old }
 {
-    host.kept();
+    host.assert_invariant();
     make(alloc, user, step, host)
 }
 

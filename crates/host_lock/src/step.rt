@@ -90,7 +90,7 @@ pub(crate) fn make<F: Decider + Send + Drop, H: OwnHandler<F>>(
 ) -> Reply
     ensures { Steps user (H.plain step) host.old host.new result }
 {
-    if let Some(reply) = host.make(alloc, user, &step) {
+    if let Some(reply) = host.step_without_handler(alloc, user, &step) {
         return reply;
     }
     let Step::Install { caller, handler } = step else {

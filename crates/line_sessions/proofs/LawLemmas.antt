@@ -2,25 +2,25 @@
 use Rattle.std.{proofs.Common.{◌≡◌, ℕ, ◌+◌, ◌==◌, count_by, List, [], ◌∷◌, ◌++◌, map, Option, Some, None, refl, ap, subst, arith}, specs.Prelude.{Ok, Err}}
 use Rattle.open_sessions.proofs.LineLemmas.{one_result}
 use Rattle.{std.specs.{Prelude.if◌then◌else◌, List.AllByRecursion}, requests.specs.{Isolation.{Ran, Users, host_after, reply_of}, Machine.{Machine}}}
-use Rattle.step_types.specs.{Plain.Asked, declared.Reply.Reply}
+use Rattle.step_types.specs.{Plain.UserStep, declared.Reply.Reply}
 use Rattle.{requests.specs.Run.{replies}, visibility.{specs.Runs.{reply_given, MakesStep}}}
 use Rattle.{scenario_text.specs.{OneStep.{IsStep}}, scenario.specs.declared.style.Style.Style}
 use Rattle.{scenario.specs.{Lines.{Answered, line, lines_after, text_of}, Runs.paired}, open_sessions.specs.Answers.{LineReply, AnswersLine, step, refused}, line_sessions.specs.Sessions.AnswersLines}
 use Rattle.line_sessions.specs.{Sessions.text_after, Laws.{AreSteps, IsMade, StepsIn, replies_in, none as no_step, step as a_step, refused as no_step_here}}
 
 -- the answer to a line that is a step, where memory was left
-record Made (a : Asked) (m : Machine) (r : LineReply) (k : Machine) : Type 0 where
+record Made (a : UserStep) (m : Machine) (r : LineReply) (k : Machine) : Type 0 where
   reply : r ≡ Ok (record { uid = a.uid; reply = reply_of a.uid a.step m })
   host : k ≡ host_after a.uid a.step m
 
-made : (text : List ℕ) (a : Asked) (m : Machine) (r : LineReply) (k : Machine) → IsStep text (Ok a) → AnswersLine text m r k → IsMade r → Made a m r k
+made : (text : List ℕ) (a : UserStep) (m : Machine) (r : LineReply) (k : Machine) → IsStep text (Ok a) → AnswersLine text m r k → IsMade r → Made a m r k
 made text a m r k is (step b reply after was user did) left =
     let same : b ≡ a = cc (one_result text (Ok b) (Ok a) was is) in
     let both : MakesStep (Some reply) b.uid b.step m after = subst (λ x. MakesStep (if x then None else Some reply) b.uid b.step m after) left did in
     record { reply = rw (← same) (ap (λ x. Ok (record { uid = b.uid; reply = x })) both.0); host = rw (← same) both.1 }
 made text a m r k is (refused f was) left = cc (one_result text (Ok a) (Err f) is was)
 
-pub lines_of_scenario : (style : Style) (before : List ℕ) (lines : List (List ℕ)) (steps : List Asked) (m : Machine) (rs : List LineReply) (k : Machine)
+pub lines_of_scenario : (style : Style) (before : List ℕ) (lines : List (List ℕ)) (steps : List UserStep) (m : Machine) (rs : List LineReply) (k : Machine)
     → AreSteps lines steps → AnswersLines lines m rs k → AllByRecursion IsMade rs
     → text_after style before rs ≡ text_of (lines_after style before (paired steps (replies steps m)))
 lines_of_scenario style before [] [] m [] k are answers left = refl
@@ -33,12 +33,12 @@ lines_of_scenario style before lines steps m rs k are answers left = grind arith
 
 -- the steps of a session, as a run
 pub record Found (lines : List (List ℕ)) (m : Machine) (rs : List LineReply) (k : Machine) : Type 0 where
-  pub steps : List Asked
+  pub steps : List UserStep
   pub are : StepsIn lines steps
   pub users : Users steps
   pub ran : Ran steps (map (λ r. reply_given r) (replies_in rs)) m k
 
-ran_more : (a : Asked) (steps : List Asked) (o : Option Reply) (os : List (Option Reply)) (m n k : Machine) → MakesStep o a.uid a.step m n → Ran steps os n k → Ran (a ∷ steps) (o ∷ os) m k
+ran_more : (a : UserStep) (steps : List UserStep) (o : Option Reply) (os : List (Option Reply)) (m n k : Machine) → MakesStep o a.uid a.step m n → Ran steps os n k → Ran (a ∷ steps) (o ∷ os) m k
 ran_more a steps None os m n k did ran = rw did.0 at ran
 ran_more a steps (Some r) os m n k did ran = (did.0, rw did.1 at ran)
 

@@ -3,7 +3,7 @@ use Rattle.std.proofs.{Common.{◌≡◌, ◌≤◌, ◌<◌, ◌+◌, ℕ, List
 use Rattle.std.{proofs.lemmas.{Bool.cases_lt, List.{append_assoc, append-nil, length-take}}, specs.{Prelude.{Result, Ok, Err, IfOk, IfSome}, Io.KnownBytes.{Appends, Consumes, Keeps, IsAtEnd}}}
 use Rattle.byte_io.{specs.{declared.reading.LineEnd.{LineEnd, TheVariants.{Feed, Input}}, Lines.{lines_in, NoFeed, Loses, end_bytes}}, proofs.LineLemmas.{Whole, whole_start, whole_line, whole_more}}
 use Rattle.{byte_io.proofs.{LineLemmas.{lines_last, lines_one}, ReadLemmas.consumes_more}, pid_blocks.specs.Users.IsUser, requests.specs.{Machine.Machine}}
-use Rattle.step_types.specs.Plain.{Asked}
+use Rattle.step_types.specs.Plain.{UserStep}
 use Rattle.scenario.{proofs.{LineLemmas.{Counted, counted_more, counted_number}, WriteLemmas.{appends_more, appends_kept}}, specs.{declared.style.Style.Style, Lines.line}}
 use Rattle.{scenario_text.specs.{declared.fault.Fault.Fault, OneStep.{IsStep, too_long, no_value, value, max_step_bytes}}, line_sessions.specs.declared.fault.ServeError.{ServeError, TheVariants.Read}}
 use Rattle.line_sessions.specs.{declared.fault.ServeError.TheVariants.{Write, Memory, TooManyLines}, Sessions.{AnswersLines, text_after, text_of, Talk, Serves}, Turns.{kept, Told}}
@@ -11,7 +11,7 @@ use Rattle.open_sessions.specs.Answers.{LineReply, AnswersLine, step, refused, r
 
 -- ---- a line that is longer than a step
 
-step_of_kept : (text : List ℕ) (q : Result Asked Fault) → max_step_bytes < length text → IsStep (kept text) q → IsStep text q
+step_of_kept : (text : List ℕ) (q : Result UserStep Fault) → max_step_bytes < length text → IsStep (kept text) q → IsStep text q
 step_of_kept text q long (too_long h) = too_long long
 step_of_kept text q long (no_value short h) = let all = length-take (max_step_bytes + 1) text in absurd (omega arith)
 step_of_kept text q long (value d short h) = let all = length-take (max_step_bytes + 1) text in absurd (omega arith)

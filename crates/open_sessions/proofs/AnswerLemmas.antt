@@ -1,7 +1,7 @@
 -- The answers of a session, from its steps.
 use Rattle.std.{proofs.{Common.{arith, ◌≡◌, ◌≢◌, ◌<◌, ℕ, ◌-◌, ◌+◌, List, Option, Some, refl, ap, ◌∙◌, length, slice_set, slice_index}, lemmas.List.get_or-set_same}, specs.Prelude.{Result, Ok}}
 use Rattle.{std.specs.Prelude.{Err, OnOk}, pid_blocks.specs.Users.IsUser, requests.specs.{Hosts.Steps as HostSteps, Machine.Machine}}
-use Rattle.step_types.specs.{Plain.Asked, Plain.PlainStep, declared.Reply.Reply}
+use Rattle.step_types.specs.{Plain.UserStep, Plain.PlainStep, declared.Reply.Reply}
 use Rattle.{visibility.proofs.Steps.did, scenario_text.specs.{declared.fault.Fault.{Fault, TheVariants.Memory}, OneStep.{IsStep, AnswersBy}}, scenario.specs.declared.style.Style.Style}
 use Rattle.{scenario.specs.Lines.{Answered, line}, open_sessions.specs.{Answers.{LineReply, step, refused, answer_text}, Calls.{OpenSession, Steps, Answers}}}
 
@@ -21,7 +21,7 @@ text_with : (style : Style) (made : List ℕ) (a : Answered) (last : Option Line
 text_with style made a last n is number = ap (answer_text style made) is ∙ ap (λ x. (line style x a).text) number
 
 -- a line that is a step was answered by its reply
-pub answers : (text : List ℕ) (a : Asked) (s t : OpenSession) → IsStep text (Ok a) → Steps a.uid a.step s t → Answers text s t
+pub answers : (text : List ℕ) (a : UserStep) (s t : OpenSession) → IsStep text (Ok a) → Steps a.uid a.step s t → Answers text s t
 answers text a s t is made =
     let reply : Answered = record { uid = a.uid; reply = made.reply } in
     record {
@@ -33,7 +33,7 @@ answers text a s t is made =
     }
 
 -- a fault other than out of memory
-pub told_fault : {X : Type 0} (view : X → Asked) (P : Result Asked Fault → Type 0) (f : Fault) → f ≢ Memory → AnswersBy view (Err f) P → P (Err f)
+pub told_fault : {X : Type 0} (view : X → UserStep) (P : Result UserStep Fault → Type 0) (f : Fault) → f ≢ Memory → AnswersBy view (Err f) P → P (Err f)
 told_fault view P Memory some p = absurd (some refl)
 told_fault view P f some p = p
 

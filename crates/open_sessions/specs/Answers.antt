@@ -1,7 +1,7 @@
 -- The answer to a line, and its text.
 use Rattle.std.specs.Prelude.{unwrap_or, option_map, ℕ, ◌-◌, ◌+◌, List, [], ◌∷◌, ◌++◌, Option, Some, None, Result, Ok, Err, codes, take, drop, length, slice_index, slice_set}
 use Rattle.{pid_blocks.specs.Users.IsUser, requests.specs.{Machine.Machine}, visibility.specs.Runs.{reply_given, MakesStep}}
-use Rattle.step_types.specs.{Plain.Asked, declared.Reply.Reply, declared.Reply.TheVariants.Lwps, declared.Reply.TheVariants.Pids}
+use Rattle.step_types.specs.{Plain.UserStep, declared.Reply.Reply, declared.Reply.TheVariants.Lwps, declared.Reply.TheVariants.Pids}
 use Rattle.{reply_json.specs.{Objects.json_text, Replies.refusal_value}, scenario_text.specs.{declared.fault.Fault.Fault, Faults.fault_name, OneStep.IsStep}, scenario.specs.declared.style.Style.Style}
 use Rattle.scenario.specs.{declared.style.Style.TheVariants.{Text, Json}, Lines.{Answered, line}}
 
@@ -18,7 +18,7 @@ line_reply (Err f) = Err f
 -- takes memory and the machine wouldn't refuse it, it runs out of memory and leaves the host as it was. A line that is
 -- not a step leaves the host as it was.
 pub data AnswersLine (text : List ℕ) (m : Machine) : LineReply → Machine → Type 0 where
-  step : (a : Asked) (r : Reply) (k : Machine) → IsStep text (Ok a) → IsUser a.uid → MakesStep (reply_given r) a.uid a.step m k
+  step : (a : UserStep) (r : Reply) (k : Machine) → IsStep text (Ok a) → IsUser a.uid → MakesStep (reply_given r) a.uid a.step m k
       → AnswersLine text m (Ok (record { uid = a.uid; reply = r })) k
   refused : (f : Fault) → IsStep text (Err f) → AnswersLine text m (Err f) m
 

@@ -1,7 +1,7 @@
 -- What an open session is, and what its calls do.
 use Rattle.std.specs.Prelude.{◌≡◌, ℕ, ◌-◌, ◌+◌, ◌^◌, List, Option, Some, Ok, slice_index}
 use Rattle.{pid_blocks.specs.Users.IsUser, requests.specs.{Hosts.Steps as HostSteps, Machine.Machine}, scenario.specs.declared.style.Style.Style}
-use Rattle.step_types.specs.{Plain.Asked, Plain.PlainStep, declared.Reply.Reply}
+use Rattle.step_types.specs.{Plain.UserStep, Plain.PlainStep, declared.Reply.Reply}
 use Rattle.{scenario_text.specs.OneStep.IsStep, open_sessions.specs.{Answers.{LineReply, AnswersLine, answer_text, reply_text, made_after}}}
 
 -- a host, how many answers each of the 64 users has had, and the last answer
@@ -37,4 +37,4 @@ IsFull u s = slice_index s.made (u - 1001) + 1 ≡ 2 ^ 64
 
 -- the line is a step of a user who has had the most answers that are counted
 abbrev pub FullFor : List ℕ → OpenSession → Type 0
-FullFor line s = (a : Asked) × IsStep line (Ok a) × IsFull a.uid s
+FullFor line s = (a : UserStep) × IsStep line (Ok a) × IsFull a.uid s

@@ -182,7 +182,7 @@ impl Session {
 fn make_step(alloc: Global, host: &mut Host<ByPolicy>, user: Uid, step: &PlainStep) -> Reply
     ensures { HostSteps user step.now host.old host.new result }
 {
-    match host.make(alloc, user, step) {
+    match host.step_without_handler(alloc, user, step) {
         Some(reply) => reply,
         None => host.step(alloc, user, step.by_policy()),
     }

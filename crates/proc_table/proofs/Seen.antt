@@ -24,11 +24,11 @@ module _ {A : Type 0} (number : A → ℕ) where
 
 -- by what the look-up alone finds
 module _ (u n : ℕ) (ps : List ProcData) (r : Rise ps) where
-  pub seen_process-kept : find (λ p. nat_eq p.pid n && nat_eq p.uid u) ps ≡ keep (λ (p : ProcData). nat_eq p.uid u) (process_of n ps)
-  seen_process-kept = find-kept (λ (p : ProcData). p.pid) (λ p. nat_eq p.uid u) n ps (once ps r)
+  pub visible_process-kept : find (λ p. nat_eq p.pid n && nat_eq p.uid u) ps ≡ keep (λ (p : ProcData). nat_eq p.uid u) (process_of n ps)
+  visible_process-kept = find-kept (λ (p : ProcData). p.pid) (λ p. nat_eq p.uid u) n ps (once ps r)
 
   pub owns-kept : owns u n ps ≡ is_some (keep (λ (p : ProcData). nat_eq p.uid u) (process_of n ps))
-  owns-kept = any-found (λ (p : ProcData). p.pid) (λ p. nat_eq p.pid n && nat_eq p.uid u) ps ∙ ap is_some seen_process-kept
+  owns-kept = any-found (λ (p : ProcData). p.pid) (λ p. nat_eq p.pid n && nat_eq p.uid u) ps ∙ ap is_some visible_process-kept
 
 pub seen_lwp-kept : (u n : ℕ) (rows : Rows) → Differ rows.lwps → seen_lwp u n rows ≡ keep (λ (l : LwpData). owns u l.pid rows.processes) (lwp_of n rows.lwps)
 seen_lwp-kept u n rows d = find-kept (λ (l : LwpData). l.tid) (λ l. owns u l.pid rows.processes) n rows.lwps d
@@ -80,7 +80,7 @@ module _ (u : ℕ) where
 
   -- the number of the row that is seen, where one is
   pub pid-seen : (n : ℕ) (ps : List ProcData) → Rise ps → option_map (λ (p : ProcData). p.pid) (find (λ p. nat_eq p.pid n && nat_eq p.uid u) ps) ≡ cond (owns u n ps) (Some n) None
-  pid-seen n ps r = search (rules, seen_process-kept, owns-kept, is_some, cases_Bool, process_of-pid)
+  pid-seen n ps r = search (rules, visible_process-kept, owns-kept, is_some, cases_Bool, process_of-pid)
 
 -- no process has a number outside all blocks
 pub pid-outside : (n : ℕ) (rows : Rows) → TableInvariant rows → (((1000 ≤ n) × (n < 65000)) → ⊥) → process_of n rows.processes ≡ None

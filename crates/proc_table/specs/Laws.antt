@@ -3,7 +3,7 @@ use Rattle.std.specs.Prelude.{◌≡◌, ◌≤◌, ◌<◌, ◌==◌}
 use Rattle.proc_table.specs.CommonNames.{ℕ, Bool, true, false, List, Option, Some, None, filter, IsUser, ProcData}
 use Rattle.proc_table.specs.Processes.{process_of, of_user, traces}
 use Rattle.proc_table.specs.Rows.{Rows}
-use Rattle.proc_table.specs.Seen.{owns, seen_process, seen_lwp, find_seen}
+use Rattle.proc_table.specs.Seen.{owns, visible_process, seen_lwp, find_seen}
 use Rattle.proc_table.specs.Walks.{next_of, next_tracee, next_child}
 use Rattle.proc_table.specs.Fresh.{process_count, lwp_count_of, fresh_pid, fresh_tid}
 use Rattle.proc_table.specs.Kept.{Rise, TableInvariant}
@@ -49,7 +49,7 @@ abbrev pub NextSeesOwn : Type 0
 NextSeesOwn = (after : ℕ) → SeesOwn (λ u rows. next_of u after rows.processes)
 
 abbrev pub ProcessSeesOwn : Type 0
-ProcessSeesOwn = (n : ℕ) → SeesOwn (λ u rows. seen_process u n rows)
+ProcessSeesOwn = (n : ℕ) → SeesOwn (λ u rows. visible_process u n rows)
 
 abbrev pub LwpSeesOwn : Type 0
 LwpSeesOwn = (n : ℕ) → SeesOwn (λ u rows. seen_lwp u n rows)

@@ -6,7 +6,7 @@ ghost use Rattle.pid_blocks.specs.Blocks.{slot, users, pid_block, tid_block, fir
 ghost use Rattle.lwp_table.specs.Lwps.{first_lwp, lwp_of, next_lwp, put_lwp, ComputesRows, LeavesQuiet};
 ghost use Rattle.proc_table.specs.Processes.{process_of};
 ghost use Rattle.proc_table.specs.Rows.{change_process};
-ghost use Rattle.proc_table.specs.Seen.{seen_process, seen_lwp, find_seen, owns};
+ghost use Rattle.proc_table.specs.Seen.{visible_process, seen_lwp, find_seen, owns};
 ghost use Rattle.std.specs.Fn.{FnReturnsAt};
 ghost use Rattle.proc_table.specs.Walks.{next_of, next_tracee, next_child, find_tracee, find_child, DecidesRows};
 ghost use Rattle.proc_table.specs.Fresh.{no_rows, fresh_pid, fresh_tid, add_process, add_lwp, process_count, lwp_count_of, lwp_count, is_process, is_lwp};
@@ -118,7 +118,7 @@ impl Tables {
     }
 
     /// States what the tables maintain, for proofs.
-    pub fn kept(&self)
+    pub fn assert_invariant(&self)
         ensures { TableInvariant self.now.rows }
     {
         let _ = &self.processes;
@@ -129,11 +129,11 @@ impl Tables {
         ensures row { result ≡ process_of pid self.now.rows.processes }
         ensures kept { TableInvariant self.now.rows }
     {
-        self.numbered(pid.get())
+        self.process_by_number(pid.get())
     }
 
     /// Returns the process with this number, if any.
-    pub fn numbered(&self, number: u32) -> Option<ProcData>
+    pub fn process_by_number(&self, number: u32) -> Option<ProcData>
         ensures row { result ≡ process_of number self.now.rows.processes }
         ensures kept { TableInvariant self.now.rows }
     {
@@ -174,8 +174,8 @@ impl Tables {
     }
 
     /// Returns the user's process with this number, if any.
-    pub fn seen_process(&self, uid: Uid, number: u32) -> Option<ProcData>
-        ensures row { result ≡ seen_process uid number self.now.rows }
+    pub fn visible_process(&self, uid: Uid, number: u32) -> Option<ProcData>
+        ensures row { result ≡ visible_process uid number self.now.rows }
         ensures kept { TableInvariant self.now.rows }
     {
         let row = self.processes.find(number)?;
@@ -205,7 +205,7 @@ impl Tables {
 
     /// Returns the number if it is that of one of the user's processes.
     fn seen_pid(&self, uid: Uid, number: u32) -> Option<Pid>
-        ensures { result ≡ option_map (λ p. p.pid) (seen_process uid number self.now.rows) }
+        ensures { result ≡ option_map (λ p. p.pid) (visible_process uid number self.now.rows) }
     {
         let _ = &self.processes;
         let pid = Pid::new(number)?;

@@ -73,7 +73,7 @@ fn parent_of(tables: &Tables, pid: Pid) -> Option<ProcData>
     ensures { result ≡ option_and_then (λ p. process_of p.parent tables.now.rows.processes) (process_of pid tables.now.rows.processes) }
 {
     match tables.process(pid) {
-        Some(process) => tables.numbered(process.parent),
+        Some(process) => tables.process_by_number(process.parent),
         None => None,
     }
 }

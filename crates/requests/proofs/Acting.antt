@@ -1,6 +1,6 @@
 -- An LWP at its turn, in sound rows, and changes of it and of its process; the stops at the entry and the exit of calls.
 use Rattle.requests.proofs.CommonNames.{◌≡◌, ℕ, ◌≤◌, true, false, ◌==◌, not, Option, Some, None, IfSome, is_some, sym, ap, ◌∙◌, true≢false, subst, eq-eqb, rules, shows, PL_FLAG_EXITED, LwpData, arith}
-use Rattle.requests.proofs.CommonNames.{nat_tests, lwp_of, ProcData, is_live, is_run, reporting, process_of, Rows, change_process, change_lwp, lwp_count, seen_lwp, Shown, stop, FitProcess, Standing}
+use Rattle.requests.proofs.CommonNames.{nat_tests, lwp_of, ProcData, is_live, is_run, reporting, process_of, Rows, change_process, change_lwp, lwp_count, seen_lwp, StopInfo, stop, FitProcess, Standing}
 use Rattle.requests.proofs.CommonNames.{FitLwp, WithOwner, IsSound, find_some, choose, find_edit, found_number, changed_own, OneProcess, process_sound, OneLwp, lwp_sound, own_lwps, run_quiet}
 use Rattle.requests.proofs.CommonNames.{may_stop, stopped_sound, Reply, stops_or, Bool, ◌*◌, ltb, lt-ltb, ltb-true, EventMask, Call, stop_where, entry_flags, is_end, or_left, zero_apart, trap}
 use Rattle.requests.proofs.CommonNames.{exit_stop, option_map}
@@ -48,15 +48,15 @@ module _ (rows : Rows) (p : ProcData) (l : LwpData) (a : Acting rows p l) where
   pub acting_process : (f : ProcData → ProcData) → OneProcess p f → is_run (f p) ≡ true → Acting (change_process p.pid f rows) (f p) l
   acting_process f c run = grind (arith, nat_tests, process_sound rows p.pid p f a.sound a.home c, changed_own p f rows.processes (λ q. (c.same q).0) a.home, c.same p, a, run)
 
-  pub acting_stops : (shown : Shown) → is_some p.tracer ≡ true → (shows shown.flags PL_FLAG_EXITED ≡ true → 2 ≤ lwp_count p.pid rows) → IsSound (stop p.pid l.tid shown rows)
+  pub acting_stops : (shown : StopInfo) → is_some p.tracer ≡ true → (shows shown.flags PL_FLAG_EXITED ≡ true → 2 ≤ lwp_count p.pid rows) → IsSound (stop p.pid l.tid shown rows)
   acting_stops shown traced exits = stopped_sound rows p.pid l.tid shown p l a.home a.there (may_stop rows p.pid l.tid shown p a.sound a.home a.run traced (subst (λ o. IsSomeAnd o (λ (k : LwpData). k.pid ≡ p.pid)) (sym a.there) a.own) exits)
 
 -- a stop that may be made: of a traced process, and not of an LWP's exit
-pub record MayMake (p : ProcData) (shown : Shown) : Type 0 where
+pub record MayMake (p : ProcData) (shown : StopInfo) : Type 0 where
   pub traced : is_some p.tracer ≡ true
   pub stays : shows shown.flags PL_FLAG_EXITED ≡ false
 
-pub stops_or_sound : (rows : Rows) (p q : ProcData) (l k : LwpData) (o : Option Shown) (r : Reply) → Acting rows q k → q.pid ≡ p.pid → k.tid ≡ l.tid → IfSome o (MayMake q) → IsSound (stops_or o r p l rows).rows
+pub stops_or_sound : (rows : Rows) (p q : ProcData) (l k : LwpData) (o : Option StopInfo) (r : Reply) → Acting rows q k → q.pid ≡ p.pid → k.tid ≡ l.tid → IfSome o (MayMake q) → IsSound (stops_or o r p l rows).rows
 stops_or_sound rows p q l k None r a pid tid may = a.sound
 stops_or_sound rows p q l k (Some shown) r a pid tid may = subst (λ n. IsSound (stop n l.tid shown rows)) pid (subst (λ n. IsSound (stop q.pid n shown rows)) tid (acting_stops rows q k a shown may.traced (λ is. absurd (true≢false (sym is ∙ may.stays)))))
 
@@ -85,7 +85,7 @@ module _ (p : ProcData) (fit : FitProcess p) where
   exit_may c child on = grind (arith, nat_tests, where_may, choose, traced_where, zero_apart)
 
 -- the same of a row with the same tracer
-pub same_may : (p q : ProcData) → q.tracer ≡ p.tracer → (o : Option Shown) → IfSome o (MayMake p) → IfSome o (MayMake q)
+pub same_may : (p q : ProcData) → q.tracer ≡ p.tracer → (o : Option StopInfo) → IfSome o (MayMake p) → IfSome o (MayMake q)
 same_may p q same o may = search (rules)
 
 -- the word of an exit

@@ -3,7 +3,7 @@ use Rattle.requests.proofs.CommonNames.{◌≡◌, ℕ, true, false, nat_eq, ◌
 use Rattle.requests.proofs.CommonNames.{ProcData, process_of, is_live, is_run, Rows, change, change_process, change_lwp, is_numbered, map_lwps, is_process, add_process, add_lwp, TableInvariant, owns}
 use Rattle.requests.proofs.CommonNames.{seen_lwp, same_number, process_of-pid, row_found, found_row, lwp_of-map, is_process-map, some_and, changed, changed_lwp, filter_map-map, changed-pid}
 use Rattle.requests.proofs.CommonNames.{changed_lwp-keeps, own_lwp-keeps, is_live_at, find_some, own_lwps, find_passes, run_quiet, bit, without, IsSound, without_signal, choose, settled_process}
-use Rattle.requests.proofs.CommonNames.{settled_lwp, settle, stop, Shown, IsActing, HasLwp}
+use Rattle.requests.proofs.CommonNames.{settled_lwp, settle, stop, StopInfo, IsActing, HasLwp}
 use Rattle.proc_table.proofs.Rising.{Lacks-from_any}
 use Rattle.proc_table.proofs.Placed.{is_process-placed}
 use Rattle.requests.proofs.Acting.{Acting}
@@ -64,7 +64,7 @@ module _ (chosen : ProcData → Bool) (f : ProcData → ProcData) (g : ProcData 
   pub has-change : (pid tid : ℕ) (rows : Rows) → HasLwp pid tid rows → HasLwp pid tid (change chosen f g rows)
   has-change pid tid rows h = grind (arith, nat_tests, found_row, changed_process pid chosen f g rows (row_found pid rows.processes h.process).0 numbered (row_found pid rows.processes h.process).1, lwp_changed tid chosen f g rows (some_and (λ k. k.pid ≡ pid) (lwp_of tid rows.lwps) h.lwp).0 (row_found pid rows.processes h.process).0 named (some_and (λ k. k.pid ≡ pid) (lwp_of tid rows.lwps) h.lwp).1)
 
-pub has-stop : (at of : ℕ) (shown : Shown) (pid tid : ℕ) (rows : Rows) → HasLwp pid tid rows → HasLwp pid tid (stop at of shown rows)
+pub has-stop : (at of : ℕ) (shown : StopInfo) (pid tid : ℕ) (rows : Rows) → HasLwp pid tid rows → HasLwp pid tid (stop at of shown rows)
 has-stop at of shown pid tid rows h = search (rules, has-lwp_changed, has-process_changed, has-change)
 
 pub has-settled : (n pid tid : ℕ) (rows : Rows) → HasLwp pid tid rows → HasLwp pid tid (settle n rows)

@@ -6,11 +6,11 @@ pub use Rattle.requests.specs.CommonNames.{EINVAL, ESRCH, bit, has, set_of, with
 pub use Rattle.requests.specs.CommonNames.{set_disposition, unblockable_set, Action, Disposition, asks, default_mask, entry_flags, mask_with, shows, stop_where, Call, EventMask, PTRACE_FORK}
 pub use Rattle.requests.specs.CommonNames.{PTRACE_LWP, PTRACE_SCE, PTRACE_SCX, PL_FLAG_EXITED, Differ, LacksLwp, born, first_lwp, has_lwp, lwp_of, next_lwp, without_lwp, Due, LwpData, Mode, InCall}
 pub use Rattle.requests.specs.CommonNames.{User, VforkWait, map_lwps, add_lwp, add_process, is_lwp, is_process, lwp_count, lwp_count_of, process_count, AllAbove, InOwnBlock, InOwnersBlock}
-pub use Rattle.requests.specs.CommonNames.{TableInvariant, IsRow, Named, Rise, drop_lwp, set_lwp, set_process, is_live, is_run, is_zombie_state, named_by, of_user, placed, process_of, reporting}
-pub use Rattle.requests.specs.CommonNames.{spawned, traces, Rows, by_owner, change, change_lwp, change_process, each, is_numbered, owner, remove_lwp, find_seen, owns, seen_lwp, seen_process, ProcData}
+pub use Rattle.requests.specs.CommonNames.{TableInvariant, IsRow, Named, Rise, drop_lwp, set_lwp, set_process, is_live, is_run, is_zombie_state, named_by, of_user, placed, process_of, reported_stop, reporting}
+pub use Rattle.requests.specs.CommonNames.{spawned, traces, Rows, by_owner, change, change_lwp, change_process, each, is_numbered, owner, remove_lwp, find_seen, owns, seen_lwp, visible_process, ProcData}
 pub use Rattle.requests.specs.CommonNames.{State, Job, Trace, end, end_each, left_alone, lwp_after, meets, notifies_of, process_after, released, tracer_of, continues, notified, notifies, posted}
 pub use Rattle.requests.specs.CommonNames.{posted_lwp, posted_process, settle, settled_lwp, settled_process, unwanted, is_due, is_end, is_live_at, is_live_of, mode_fits, names_own, sound_rows}
-pub use Rattle.requests.specs.CommonNames.{status_fits, detach, post, resume, stop, tracers, signal_alone, no_events, Resumption, Stepping, Settings, Shown, info, lwp_info, answer, candidates, collect, fits, is_child, reportable, reported}
+pub use Rattle.requests.specs.CommonNames.{status_fits, detach, post, resume, stop, tracers, signal_alone, no_events, Resumption, Stepping, Settings, StopInfo, info, lwp_info, answer, candidates, collect, fits, is_child, reportable, reported}
 pub use Rattle.requests.specs.CommonNames.{rows_after, told, without_report, Collected, Options, StatusKind, Decision, Rule, PlainStep, bare, with_handler, Act, Reply, Request, Step, Closed, GoodLwp}
 pub use Rattle.requests.specs.CommonNames.{GoodProc, LiveOwner, LiveRow, InBlock}
 pub use Rattle.std.specs.Fmt.{HasWritten, IsPlainFormatter}
@@ -59,7 +59,7 @@ pub use Rattle.requests.specs.Machine.{After, Installed, Machine, after, empty, 
 pub use Rattle.requests.specs.Memory.{Attempts, attempted_reply, may_want, takes_memory}
 pub use Rattle.requests.specs.Outcome.{Gives, Outcome, answers, refuses, stops_or, stops_with, trap}
 pub use Rattle.requests.specs.Ptrace.{about, attach, bad_argument, closes_chain, command, commands, commands_stopped, does, is_attach, is_trace_me, ptrace, resumes, set_mask}
-pub use Rattle.requests.specs.Ptrace.{shows_info, stop_first, suspend, switched, target_of, told_stop, trace_me, traced_by, with_signal}
+pub use Rattle.requests.specs.Ptrace.{shows_info, stop_first, suspend, switched, target_of, trace_me, traced_by, with_signal}
 pub use Rattle.requests.specs.Reach.{is_which, kill, next_other, post_all, post_if_live, reach, reached}
 pub use Rattle.requests.specs.Sound.{sound, sound_installed}
 pub use Rattle.requests.specs.Step.{calls, checked, step, step_of, uncalled}

@@ -1,11 +1,11 @@
 -- A step of a host, compared with the same step without any other user; the laws of isolation.
 use Rattle.requests.proofs.CommonNames.{◌≡◌, ◌≢◌, ℕ, List, [], ◌∷◌, filter, true, ◌==◌, ◌&&◌, not, Option, Some, None, IfSome, refl, sym, ap, ap₂, ◌∙◌, arith, subst, eq-eqb, get_or, IsUser, nat_tests}
-use Rattle.requests.proofs.CommonNames.{pid_block, tid_block, slot, ProcData, LwpData, is_live, is_run, of_user, Rows, owns, seen_process, Settings, PlainStep, Machine, Installed, installed_by}
+use Rattle.requests.proofs.CommonNames.{pid_block, tid_block, slot, ProcData, LwpData, is_live, is_run, of_user, Rows, owns, visible_process, Settings, PlainStep, Machine, Installed, installed_by}
 use Rattle.requests.proofs.CommonNames.{is_live_at, after, turn, checked, step, GoodProc, LiveOwner, Closed, Debugger, Apart, reply_of, host_after, replies_to, Users, KeepsApart, Alone, OneStep}
 use Rattle.requests.proofs.CommonNames.{OtherStep, TwoLists, OwnRun, own_replies, own_view, filter_only, filter-all, All-where, every, Kept, Sim, own, own_lwp, not_own, either, owns_block, lwps_seen}
 use Rattle.requests.proofs.CommonNames.{find_passes, AllByRecursion, choose_both, All-imply, step_of}
 use Rattle.requests.specs.Run.{last, replies, asked_by}
-use Rattle.step_types.specs.Plain.{Asked}
+use Rattle.step_types.specs.Plain.{UserStep}
 use Rattle.requests.specs.View.{View, view, with_view, alone}
 use Rattle.requests.proofs.IsolationOfNewRows.{answered, owns_same}
 use Rattle.requests.proofs.IsolationOfTurns.{turn_same}
@@ -16,16 +16,16 @@ pub use Rattle.requests.proofs.IsolationOfHosts.{live_only, at_slot}
 
 -- A step of any user
 
-seen_live : (u n : ℕ) (rows : Rows) (p : ProcData) → seen_process u n rows ≡ Some p → is_live p ≡ true → is_live_at p.pid rows ≡ true
+seen_live : (u n : ℕ) (rows : Rows) (p : ProcData) → visible_process u n rows ≡ Some p → is_live p ≡ true → is_live_at p.pid rows ≡ true
 seen_live u n rows p is live = find_passes (λ q. (q.pid == n) && (q.uid == u)) (λ q. (q.pid == p.pid) && is_live q) rows.processes p is (rw (eq-eqb p.pid p.pid refl, live) refl)
 
-checked_same : {u : ℕ} {m k : Machine} → IsUser u → Apart m → Twin u m k → (s : PlainStep) (n : ℕ) (o : Option ProcData) → seen_process u n m.rows ≡ o → IfSome o (λ p. GoodProc p × (p.uid ≡ u) × (p.pid ≡ n)) → Stepped u m (checked u s o m) (checked u s o k)
+checked_same : {u : ℕ} {m k : Machine} → IsUser u → Apart m → Twin u m k → (s : PlainStep) (n : ℕ) (o : Option ProcData) → visible_process u n m.rows ≡ o → IfSome o (λ p. GoodProc p × (p.uid ≡ u) × (p.pid ≡ n)) → Stepped u m (checked u s o m) (checked u s o k)
 checked_same user apart t s n None is g = after_same user apart t _ _ (answered t.rows _)
 checked_same {u} {m} {k} user apart t s n (Some p) is g = choose_both (Stepped u m) (not (is_live p)) _ _ _ _ (λ b. after_same user apart t _ _ (answered t.rows _)) (λ b.
     choose_both (Stepped u m) (not (is_run p)) _ _ _ _ (λ d. after_same user apart t _ _ (answered t.rows _)) (λ d. calls_same user apart t s p g.0 g.1 (seen_live u n m.rows p is (grind (arith, b)))))
 
-called_same : {u : ℕ} {m k : Machine} → IsUser u → Apart m → Twin u m k → (s : PlainStep) (n : ℕ) → Stepped u m (checked u s (seen_process u n m.rows) m) (checked u s (seen_process u n k.rows) k)
-called_same {u} {m} {k} user apart t s n = subst (λ o. Stepped u m (checked u s (seen_process u n m.rows) m) (checked u s o k)) (seen_same t.rows n) (checked_same user apart t s n (seen_process u n m.rows) refl (seen_some t.rows n))
+called_same : {u : ℕ} {m k : Machine} → IsUser u → Apart m → Twin u m k → (s : PlainStep) (n : ℕ) → Stepped u m (checked u s (visible_process u n m.rows) m) (checked u s (visible_process u n k.rows) k)
+called_same {u} {m} {k} user apart t s n = subst (λ o. Stepped u m (checked u s (visible_process u n m.rows) m) (checked u s o k)) (seen_same t.rows n) (checked_same user apart t s n (visible_process u n m.rows) refl (seen_some t.rows n))
 
 pub step_same : {u : ℕ} {m k : Machine} → IsUser u → Apart m → Twin u m k → (s : PlainStep) → Stepped u m (step u s m) (step u s k)
 step_same {u} {m} {k} user apart t s = by_step (λ s. Stepped u m (step u s m) (step u s k)) (after_same user apart t _ _ (spawn_same t.rows))
@@ -121,7 +121,7 @@ other_step m u w s user other ne apart = view_of_parts
 
 -- Lists of steps
 
-pub run_is : (xs : List Asked) (m : Machine) (u : ℕ) → IsUser u → Users xs → Apart m
+pub run_is : (xs : List UserStep) (m : Machine) (u : ℕ) → IsUser u → Users xs → Apart m
     → (replies_to u xs (replies xs m) ≡ own_replies u (asked_by u xs) (view u m)) × (view u (last xs m) ≡ own_view u (asked_by u xs) (view u m))
 run_is [] m u user all apart = (refl, refl)
 run_is (x ∷ xs) m u user all apart = grind (arith, nat_tests, run_is xs (host_after x.uid x.step m) u user all.1 (keeps_apart m x.uid x.step all.0 apart), either, alone_law m u x.step user apart, eq-eqb, ap₂, other_step, not_own)

@@ -1,8 +1,8 @@
 -- AllByRecursion step, on all rows and on a user's.
-use Rattle.requests.proofs.CommonNames.{is_some, traces, told_stop}
+use Rattle.requests.proofs.CommonNames.{is_some, traces, reported_stop}
 use Rattle.requests.proofs.CommonNames.{rules, nat_tests, ◌≡◌, ℕ, ℤ, pos, negsuc, List, [], ◌∷◌, map, take, true, false, ◌==◌, ◌&&◌, not, leb, if◌then◌else◌, Option, Some, None, IfSome, refl, sym, ap}
 use Rattle.requests.proofs.CommonNames.{◌∙◌, eqb-true, subst, eq-eqb, arith, pid_owner, tid_owner, EventMask, PTRACE_SCE, PTRACE_SCX, PTRACE_FORK, PTRACE_LWP, mask_with, SIGKILL, set_disposition}
-use Rattle.requests.proofs.CommonNames.{Disposition, ProcData, State, Trace, LwpData, lwp_of, first_lwp, is_live, process_of, of_user, named_by, Rows, seen_process, find_seen, Settings, Options}
+use Rattle.requests.proofs.CommonNames.{Disposition, ProcData, State, Trace, LwpData, lwp_of, first_lwp, is_live, process_of, of_user, named_by, Rows, visible_process, find_seen, Settings, Options}
 use Rattle.requests.proofs.CommonNames.{Collected, StatusKind, reported, collect, rows_after, info, lwp_info, Rule, Decision, Request, Numbers, room_for_process, spawn_with, spawn, list, is_refused}
 use Rattle.requests.proofs.CommonNames.{sigaction, collect_reply, wait, is_which, reach, post_if_live, post_all, reached, kill, stop_first, attach, bad_argument, set_mask}
 use Rattle.requests.proofs.CommonNames.{resumes, signal_alone, no_events, Stepping, switched, shows_info, does, commands_stopped, commands, is_attach, about, target_of, is_trace_me, ptrace, decided, view_of, done, handles_stop}
@@ -15,11 +15,11 @@ use Rattle.wait4.proofs.IsolationOfReports.{collect_same, reported_same, reporte
 use Rattle.requests.proofs.Room.{ProcessRoom, process_room}
 use Rattle.requests.proofs.IsolationOfNewRows.{Same, answered, branch, seen_lwp_same, seen_lwp_some, lwp_count_same, room_for_process_same, born_same}
 
-pub seen_same : {u : ℕ} {start c v : Rows} → Sim u start c v → (n : ℕ) → seen_process u n c ≡ seen_process u n v
+pub seen_same : {u : ℕ} {start c v : Rows} → Sim u start c v → (n : ℕ) → visible_process u n c ≡ visible_process u n v
 seen_same {u} s n = row_query s (λ p. (p.pid == n) && (p.uid == u)) (λ p good is. eqb-true p.uid u (and_right (p.pid == n) (p.uid == u) is))
 
-pub seen_some : {u : ℕ} {start c v : Rows} → Sim u start c v → (n : ℕ) → IfSome (seen_process u n c) (λ p. GoodProc p × (p.uid ≡ u) × (p.pid ≡ n))
-seen_some {u} {start} {c} s n = If_more _ (λ p. GoodProc p × (p.uid ≡ u) × (p.pid ≡ n)) (λ p g. (g.0, eqb-true p.uid u (and_right (p.pid == n) (p.uid == u) g.1), eqb-true p.pid n (and_left (p.pid == n) (p.uid == u) g.1))) (seen_process u n c) (find_some (λ p. (p.pid == n) && (p.uid == u)) GoodProc c.processes s.kept.closed.processes)
+pub seen_some : {u : ℕ} {start c v : Rows} → Sim u start c v → (n : ℕ) → IfSome (visible_process u n c) (λ p. GoodProc p × (p.uid ≡ u) × (p.pid ≡ n))
+seen_some {u} {start} {c} s n = If_more _ (λ p. GoodProc p × (p.uid ≡ u) × (p.pid ≡ n)) (λ p g. (g.0, eqb-true p.uid u (and_right (p.pid == n) (p.uid == u) g.1), eqb-true p.pid n (and_left (p.pid == n) (p.uid == u) g.1))) (visible_process u n c) (find_some (λ p. (p.pid == n) && (p.uid == u)) GoodProc c.processes s.kept.closed.processes)
 
 -- Spawn, list, sigaction and wait4
 
@@ -115,7 +115,7 @@ commands_same : {u : ℕ} {start c v : Rows} → Sim u start c v → (settings :
 commands_same {u} s settings me r target «data» p g =
     branch (not (is_some p.tracer)) _ refl (λ b. answered s _) (λ b.
     branch (not (traces me.pid p)) _ refl (λ b. answered s _) (λ b.
-    commands_stopped_same s settings r target «data» p (g.0.block ∙ g.1) g.2 (told_stop p.state) (grind (arith, nat_tests))))
+    commands_stopped_same s settings r target «data» p (g.0.block ∙ g.1) g.2 (reported_stop p.state) (grind (arith, nat_tests))))
 
 about_same : {u : ℕ} {start c v : Rows} → Sim u start c v → (settings : Settings) (me : ProcData) (r : Request) (target «data» : ℕ) → pid_owner me.pid ≡ u → (o : Option ProcData) → IfSome o (Target u target) → Same u start (about settings me r target «data» o c) (about settings me r target «data» o v)
 about_same s settings me r target «data» by None g = answered s _

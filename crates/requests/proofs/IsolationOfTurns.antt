@@ -2,7 +2,7 @@
 use Rattle.requests.proofs.CommonNames.{◌≡◌, ℕ, ◌*◌, [], ◌∷◌, Bool, false, ◌==◌, ◌&&◌, ◌||◌, not, leb, if◌then◌else◌, Option, Some, None, is_some, IfSome, refl, sym, ap, ◌∙◌, true≢false, subst}
 use Rattle.requests.proofs.CommonNames.{arith, nat_tests, rules, pid_owner, tid_owner, Call, asks, entry_flags, PTRACE_FORK, PTRACE_LWP, without, bit, SIGTRAP, is_signal, after_exec, maskable}
 use Rattle.requests.proofs.CommonNames.{disposition_of, default_action, Action, Disposition, ProcData, Job, LwpData, Mode, User, InCall, VforkWait, born, is_run, process_of, Rows, seen_lwp, add_lwp}
-use Rattle.requests.proofs.CommonNames.{add_process, Settings, released, Shown, Act, Reply, stops_with, stops_or, trap, Numbers, room_for_lwp, room_for_process, in_mode, exit_stop, forked, child_stop}
+use Rattle.requests.proofs.CommonNames.{add_process, Settings, released, StopInfo, Act, Reply, stops_with, stops_or, trap, Numbers, room_for_lwp, room_for_process, in_mode, exit_stop, forked, child_stop}
 use Rattle.requests.proofs.CommonNames.{with_child, forks, exec_rows, makes_lwp, exits_lwp, leaves, due_at_birth, waits, due_stop, next_signal, without_signal, plain, job_stops, takes_by_default}
 use Rattle.requests.proofs.CommonNames.{takes_untraced, acts, signal_or_act, due_or_more, turn_by, turn_seen, turn, GoodProc, GoodLwp, LiveRow, Sim, named, process_same, at_number, each_same, choose}
 use Rattle.requests.proofs.CommonNames.{run_quiet, waited_for, kin_of, branch_rows, process_same_after, lwp_same_after, lwp_removed_same, lwp_added_same, pid_in_block, tid_in_block, Due, option_map}
@@ -25,10 +25,10 @@ own_pid t = t.good.block ∙ t.mine
 pub own_tid : {u : ℕ} {c : Rows} {p : ProcData} {l : LwpData} → Turning u c p l → tid_owner l.tid ≡ u
 own_tid t = t.well.block ∙ ap pid_owner t.here ∙ own_pid t
 
-stops_with_same : {u : ℕ} {start c v : Rows} → Sim u start c v → (shown : Shown) (p : ProcData) (l : LwpData) → pid_owner p.pid ≡ u → tid_owner l.tid ≡ u → Same u start (stops_with shown p l c) (stops_with shown p l v)
+stops_with_same : {u : ℕ} {start c v : Rows} → Sim u start c v → (shown : StopInfo) (p : ProcData) (l : LwpData) → pid_owner p.pid ≡ u → tid_owner l.tid ≡ u → Same u start (stops_with shown p l c) (stops_with shown p l v)
 stops_with_same s shown p l here tid = answered (stop_same s p.pid l.tid shown here tid) _
 
-stops_or_same : {u : ℕ} {start c v : Rows} → Sim u start c v → (o : Option Shown) (r : Reply) (p : ProcData) (l : LwpData) → pid_owner p.pid ≡ u → tid_owner l.tid ≡ u → Same u start (stops_or o r p l c) (stops_or o r p l v)
+stops_or_same : {u : ℕ} {start c v : Rows} → Sim u start c v → (o : Option StopInfo) (r : Reply) (p : ProcData) (l : LwpData) → pid_owner p.pid ≡ u → tid_owner l.tid ≡ u → Same u start (stops_or o r p l c) (stops_or o r p l v)
 stops_or_same s o r p l here tid = search (rules, answered, stops_with_same)
 
 in_mode_same : {u : ℕ} {start c v : Rows} → Sim u start c v → (mode : Mode) (tid : ℕ) → tid_owner tid ≡ u → IfSome (waited_for mode) (λ c. pid_owner c ≡ u) → Sim u start (in_mode mode tid c) (in_mode mode tid v)
@@ -126,7 +126,7 @@ signal_or_act_same : {u : ℕ} {start c v : Rows} → Sim u start c v → (setti
 signal_or_act_same s settings a p l t (Some sig) = branch (is_some p.tracer) _ refl (λ b. stops_with_same (without_signal_same s sig p l (own_pid t) (own_tid t)) (plain sig) p l (t.good.block ∙ t.mine) (own_tid t)) (λ b. untraced_same (without_signal_same s sig p l (own_pid t) (own_tid t)) settings sig (disposition_of p.dispositions sig) p l t.good t.mine)
 signal_or_act_same s settings a p l t None = acts_same s settings a l.mode p l t
 
-due_or_more_same : {u : ℕ} {start c v : Rows} → Sim u start c v → (settings : Settings) (a : Act) (p : ProcData) (l : LwpData) → Turning u c p l → (o : Option Shown) → Same u start (due_or_more settings a p l c o) (due_or_more settings a p l v o)
+due_or_more_same : {u : ℕ} {start c v : Rows} → Sim u start c v → (settings : Settings) (a : Act) (p : ProcData) (l : LwpData) → Turning u c p l → (o : Option StopInfo) → Same u start (due_or_more settings a p l c o) (due_or_more settings a p l v o)
 due_or_more_same s settings a p l t (Some shown) = stops_with_same (lwp_same_after s l.tid (own_tid t) (λ k. record k { due = Due.Nothing }) (λ k well is. (refl, record { block = well.block; waits = well.waits }))) shown p l (own_pid t) (own_tid t)
 due_or_more_same s settings a p l t None = signal_or_act_same s settings a p l t (next_signal p l)
 

@@ -2,7 +2,7 @@
 -- stays live, unless the answer is one that may end a process.
 use Rattle.requests.proofs.CommonNames.{◌≡◌, ℕ, ℤ, Bool, true, false, ◌==◌, not, ◌&&◌, ◌||◌, leb, if◌then◌else◌, List, [], ◌∷◌, filter, filter_map, Option, Some, None, is_some, refl, sym, ◌∙◌}
 use Rattle.requests.proofs.CommonNames.{true≢false, rules, arith, nat_tests, cases_Bool, list_any, SIGCHLD, Call, Action, Disposition, is_signal, has, LwpData, Due, Mode, User, InCall, VforkWait}
-use Rattle.requests.proofs.CommonNames.{born, ProcData, Trace, Job, is_live, is_run, placed, spawned, process_of, Rows, seen_lwp, Settings, Shown, Rule, Options, Collected, posted_process}
+use Rattle.requests.proofs.CommonNames.{born, ProcData, Trace, Job, is_live, is_run, placed, spawned, process_of, Rows, seen_lwp, Settings, StopInfo, Rule, Options, Collected, posted_process}
 use Rattle.requests.proofs.CommonNames.{settled_process, notifies, posted, stop, tracers, tracer_of, reported, without_report, add_lwp, add_process, is_numbered, Request, Act, Reply, Outcome}
 use Rattle.requests.proofs.CommonNames.{PlainStep, Step, Machine, After, after, answers, refuses, stops_or, stops_with, Numbers, room_for_process, in_mode, exit_stop, with_child, forked, exec_rows}
 use Rattle.requests.proofs.CommonNames.{forks, leaves, waits, due_stop, next_signal, without_signal, takes_by_default, takes, acts, signal_or_act, due_or_more, turn_by, turn_seen, turn, commands}
@@ -52,7 +52,7 @@ live_notified pids ps = live_some (λ p. list_any (λ n. n == p.pid) pids) (post
 live_posted : (s : ℕ) (to : Option ℕ) (pid : ℕ) (rows : Rows) → Lives rows.processes (posted s to pid rows).processes
 live_posted s to pid rows = live_then (live_some (is_numbered pid) (posted_process s to) (λ p. grind arith) (λ p live. grind (arith, live)) rows.processes) (live_notified (notifies s (process_of pid rows.processes)) _)
 
-live_stop : (pid tid : ℕ) (shown : Shown) (rows : Rows) → Lives rows.processes (stop pid tid shown rows).processes
+live_stop : (pid tid : ℕ) (shown : StopInfo) (rows : Rows) → Lives rows.processes (stop pid tid shown rows).processes
 live_stop pid tid shown rows = live_then (live_some (is_numbered pid) (λ p. record p { state = Trace tid shown.sig false }) (λ p. refl) (λ p live. refl) rows.processes) (live_notified (tracers (tracer_of rows.processes pid)) _)
 
 -- a new process leaves the others
@@ -95,10 +95,10 @@ by_option o R none some = grind (arith, nat_tests)
 abbrev pub is_ended : Reply → Bool
 is_ended r = may_end (Step.Turn 0 Act.Leave) r
 
-stops_live : (rows now : Rows) (shown : Shown) (p : ProcData) (l : LwpData) → Lives rows.processes now.processes → Fair is_ended rows (stops_with shown p l now)
+stops_live : (rows now : Rows) (shown : StopInfo) (p : ProcData) (l : LwpData) → Lives rows.processes now.processes → Fair is_ended rows (stops_with shown p l now)
 stops_live rows now shown p l kept = done is_ended rows _ _ refl refl (live_then kept (live_stop p.pid l.tid shown now))
 
-stop_or : (rows now : Rows) (o : Option Shown) (r : Reply) (p : ProcData) (l : LwpData) → keeps r ≡ false → is_memory r ≡ false → Lives rows.processes now.processes → Fair is_ended rows (stops_or o r p l now)
+stop_or : (rows now : Rows) (o : Option StopInfo) (r : Reply) (p : ProcData) (l : LwpData) → keeps r ≡ false → is_memory r ≡ false → Lives rows.processes now.processes → Fair is_ended rows (stops_or o r p l now)
 stop_or rows now o r p l other plenty kept = grind (arith, nat_tests, done, stops_live)
 
 child_live : (c : Call) (p : ProcData) (l : LwpData) (new : Numbers) (rows : Rows) → Lives rows.processes (with_child c p l new rows).processes

@@ -1,7 +1,7 @@
 -- A signal sent to one process, and to all others of a user.
 use Rattle.requests.proofs.CommonNames.{nat_tests, ◌≡◌, ℕ, ◌-◌, ◌<◌, ◌≤◌, pos, negsuc, Bool, true, false, ◌==◌, ltb, ◌&&◌, not, List, [], ◌∷◌, filter, filter_map, find, Option, Some, None, IfSome}
 use Rattle.requests.proofs.CommonNames.{is_none, if◌then◌else◌, refl, sym, ap, ◌∙◌, arith, true≢false, eqb-true, rules, option_map, int_lt, cases_lt, le-leb, AllByRecursion, list_any, ProcData}
-use Rattle.requests.proofs.CommonNames.{process_of, is_live, of_user, Rows, seen_process, AllAbove, Rise, InOwnBlock, TableInvariant, process_of-pid, Settings, post, by_bool, All-imply, If_more}
+use Rattle.requests.proofs.CommonNames.{process_of, is_live, of_user, Rows, visible_process, AllAbove, Rise, InOwnBlock, TableInvariant, process_of-pid, Settings, post, by_bool, All-imply, If_more}
 use Rattle.requests.proofs.CommonNames.{some_is, reach, post_if_live, post_all, reached, kill, next_other, refuses, ESRCH, own_rows, process_edited, Reply, ℤ}
 use Rattle.std.specs.Int.{FitsUnsignedBits}
 use Rattle.requests.proofs.SoundAfterCall.{live_found, live_none}
@@ -149,10 +149,10 @@ module _ (settings : Settings) (s u n : ℕ) (rows : Rows) (rise : Rise rows.pro
   abbrev one : List ProcData
   one = filter (λ p. p.pid == n) (of_user u rows.processes)
 
-  pub unseen_reached : option_map (λ p. p.pid) (seen_process u n rows) ≡ None → one ≡ []
+  pub unseen_reached : option_map (λ p. p.pid) (visible_process u n rows) ≡ None → one ≡ []
   unseen_reached none = search (rules, only)
 
-  pub seen_reached : (m : ℕ) → option_map (λ p. p.pid) (seen_process u n rows) ≡ Some m
+  pub seen_reached : (m : ℕ) → option_map (λ p. p.pid) (visible_process u n rows) ≡ Some m
       → ((reached settings s one rows).reply ≡ Reply.Done) × ((reached settings s one rows).rows ≡ post_if_live settings s (process_of m rows.processes) rows)
   seen_reached m some = search (rules, only, some_is)
 

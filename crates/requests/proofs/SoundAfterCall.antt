@@ -1,5 +1,5 @@
 -- Steps of a caller: what they are once it was looked up, and that each kind keeps a host sound.
-use Rattle.requests.proofs.CommonNames.{◌≡◌, ℕ, true, Some, refl, ap, ◌∙◌, eqb-true, rules, ProcData, is_live, is_run, seen_process, PlainStep, Machine, step, step_of, checked, calls, caller_of, Rows}
+use Rattle.requests.proofs.CommonNames.{◌≡◌, ℕ, true, Some, refl, ap, ◌∙◌, eqb-true, rules, ProcData, is_live, is_run, visible_process, PlainStep, Machine, step, step_of, checked, calls, caller_of, Rows}
 use Rattle.requests.proofs.CommonNames.{Rise, and_right, find_some, own_rows, IsCaller, Calls, List, [], ◌∷◌, false, ◌==◌, ◌&&◌, None, eq-eqb, list_any, arith, nat_tests, process_of, process_of-pid}
 use Rattle.requests.proofs.CommonNames.{any_holds, the_row, find_passes, IsLiveOf, ℤ, Bool, not, if◌then◌else◌, Option, subst, ESRCH, EINVAL, set_disposition, Disposition, IsSound, All-filter}
 use Rattle.requests.proofs.CommonNames.{disposed_sound, Options, reportable, candidates, is_child, fits, reported, rows_after, Reply, answers, refuses, sigaction, wait, is_which, after, sound}
@@ -7,7 +7,7 @@ use Rattle.requests.proofs.CommonNames.{collect_sound, is_refused, run_quiet}
 use Rattle.requests.proofs.SoundWithoutEnded.{rows_sound, after_sound}
 
 -- A caller's step
-pub called : (u n : ℕ) (s : PlainStep) (m : Machine) → caller_of s ≡ Some n → (p : ProcData) → seen_process u n m.rows ≡ Some p → is_live p ≡ true → is_run p ≡ true → step u s m ≡ calls u s p m
+pub called : (u n : ℕ) (s : PlainStep) (m : Machine) → caller_of s ≡ Some n → (p : ProcData) → visible_process u n m.rows ≡ Some p → is_live p ≡ true → is_run p ≡ true → step u s m ≡ calls u s p m
 called u n s m by p seen live run = ap (step_of u s m) by ∙ (ap (λ o. checked u s o m) seen ∙ rw (live, run) refl)
 
 -- A caller that was found
@@ -36,18 +36,18 @@ caller_live u rows p c = ap (λ b. not b) (run_quiet p.state c.runs).1
 pub live_caller : (u : ℕ) (rows : Rows) (p : ProcData) → IsCaller u p rows → IsLiveOf rows u p.pid
 live_caller u rows p c = subst (λ w. IsLiveOf rows w p.pid) c.own (live_row rows p c.at (caller_live u rows p c))
 
-pub checked_sound : (u : ℕ) (s : PlainStep) (m : Machine) (n : ℕ) → sound m ≡ true → ((p : ProcData) → IsCaller u p m.rows → sound (calls u s p m).machine ≡ true) → sound (checked u s (seen_process u n m.rows) m).machine ≡ true
-checked_sound u s m n is done = by_caller (seen_process u n m.rows) refl
+pub checked_sound : (u : ℕ) (s : PlainStep) (m : Machine) (n : ℕ) → sound m ≡ true → ((p : ProcData) → IsCaller u p m.rows → sound (calls u s p m).machine ≡ true) → sound (checked u s (visible_process u n m.rows) m).machine ≡ true
+checked_sound u s m n is done = by_caller (visible_process u n m.rows) refl
   where
     stays : (r : Reply) → sound (after m (answers r m.rows)).machine ≡ true
     stays r = after_sound m (answers r m.rows) is (rows_sound m is)
 
-    at_run : (p : ProcData) → seen_process u n m.rows ≡ Some p → (live : Bool) → is_live p ≡ live → (run : Bool) → is_run p ≡ run → sound (checked u s (Some p) m).machine ≡ true
+    at_run : (p : ProcData) → visible_process u n m.rows ≡ Some p → (live : Bool) → is_live p ≡ live → (run : Bool) → is_run p ≡ run → sound (checked u s (Some p) m).machine ≡ true
     at_run p seen false e run r = rw e (stays (Reply.Errno ESRCH))
     at_run p seen true e false r = rw (e, r) (stays Reply.Held)
     at_run p seen true e true r = rw (e, r) (done p (is_caller u n m.rows p (rows_sound m is).stands.rising (record { seen = seen; live = e; runs = r })))
 
-    by_caller : (o : Option ProcData) → seen_process u n m.rows ≡ o → sound (checked u s o m).machine ≡ true
+    by_caller : (o : Option ProcData) → visible_process u n m.rows ≡ o → sound (checked u s o m).machine ≡ true
     by_caller None e = stays (Reply.Errno ESRCH)
     by_caller (Some p) e = at_run p e (is_live p) refl (is_run p) refl
 

@@ -1,7 +1,7 @@
 -- An LWP that changes its mode, that is made, or that exits keeps rows sound.
 use Rattle.requests.proofs.CommonNames.{◌≡◌, inl, ℕ, ◌≤◌, Bool, true, false, ◌==◌, leb, if◌then◌else◌, List, [], ◌∷◌, ◌++◌, find, Option, Some, None, IfSome, refl, sym, subst, arith, eqb-true, eq-eqb}
 use Rattle.requests.proofs.CommonNames.{rules, leb-false, IsUser, PL_FLAG_EXITED, shows, LwpData, Mode, born, lwp_of, ProcData, reporting, Rows, owner, by_owner, each, change_lwp, remove_lwp, add_lwp}
-use Rattle.requests.proofs.CommonNames.{lwp_count, InOwnBlock, Settings, Shown, stop, is_due, mode_fits, IsLiveChild, FitProcess, waited_for, FitLwp, IsSound, and_left, by_bool, find_some, choose}
+use Rattle.requests.proofs.CommonNames.{lwp_count, InOwnBlock, Settings, StopInfo, stop, is_due, mode_fits, IsLiveChild, FitProcess, waited_for, FitLwp, IsSound, and_left, by_bool, find_some, choose}
 use Rattle.requests.proofs.CommonNames.{some_is, one_gone, Row, Beside, Same, Like, Stay, KeptRow, KeptLwp, nobody, holds_sound, sound_holds, row_is, like_self, kept_row, kept_all, kept_lwp}
 use Rattle.requests.proofs.CommonNames.{none_gone, no_ring, stay_where, edit_holds, lwps_alone, own_lwps, zero_apart, Outcome, due_stop, in_mode, due_at_birth, exits_lwp, nat_tests, Due, find-append}
 use Rattle.trace_stop.proofs.SoundAfterThread.{joined_sound}
@@ -18,10 +18,10 @@ module _ (rows : Rows) (p : ProcData) (l : LwpData) (a : Acting rows p l) where
   pub in_mode_acting : (mode : Mode) → IfSome (waited_for mode) (IsLiveChild rows p) → mode_fits mode ≡ true → Acting (in_mode mode l.tid rows) p (record l { mode = mode })
   in_mode_acting mode waits fits = acting_lwp rows p l a (λ k. record k { mode = mode }) (record { same = λ k. (refl, refl, refl); waits = waits; fit = λ fit. grind (arith, nat_tests) })
 
-  due_shown : (d : Due) (shown : Shown) → due_stop d ≡ Some shown → (is_due d ≡ true) × (shows shown.flags PL_FLAG_EXITED ≡ false)
+  due_shown : (d : Due) (shown : StopInfo) → due_stop d ≡ Some shown → (is_due d ≡ true) × (shows shown.flags PL_FLAG_EXITED ≡ false)
   due_shown d shown is = grind (arith, nat_tests, is)
 
-  pub due_sound : (shown : Shown) → due_stop l.due ≡ Some shown → IsSound (stop p.pid l.tid shown (change_lwp l.tid (λ k. record k { due = Due.Nothing }) rows))
+  pub due_sound : (shown : StopInfo) → due_stop l.due ≡ Some shown → IsSound (stop p.pid l.tid shown (change_lwp l.tid (λ k. record k { due = Due.Nothing }) rows))
   due_sound shown is = acting_stops (change_lwp l.tid (λ k. record k { due = Due.Nothing }) rows) p (record l { due = Due.Nothing }) (acting_lwp rows p l a (λ k. record k { due = Due.Nothing }) (record { same = λ k. (refl, refl, refl); waits = (lwp_stands rows p l a).waits; fit = λ fit. grind (arith, nat_tests) })) shown
       (grind (arith, nat_tests, due_shown l.due shown is, lwp_fit rows p l a)) (grind (arith, nat_tests, due_shown l.due shown is))
 

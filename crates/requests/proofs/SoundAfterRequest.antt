@@ -1,7 +1,7 @@
 -- What a request of ptrace(2) comes to, by its refusals in their order, and that it keeps a host sound.
 use Rattle.requests.proofs.CommonNames.{nat_tests, ◌≡◌, ℕ, ◌<◌, List, IfSome, true, false, leb, if◌then◌else◌, Option, Some, is_some, refl, arith, rules, IsSomeAnd, lwp_of, ProcData, State}
 use Rattle.requests.proofs.CommonNames.{process_of, is_live, named_by, traces, Rows, TableInvariant, process_of-pid, lwp_of-tid, seen_lwp-kept, lwp-within, Settings, IsSound, some_is, Request}
-use Rattle.requests.proofs.CommonNames.{command, told_stop, target_of, is_trace_me, is_attach, ptrace, ◌≢◌, ◌==◌, None, sym, subst, eqb-true, eq-eqb, default_mask, SIGSTOP, LwpData, first_lwp, is_run}
+use Rattle.requests.proofs.CommonNames.{command, reported_stop, target_of, is_trace_me, is_attach, ptrace, ◌≢◌, ◌==◌, None, sym, subst, eqb-true, eq-eqb, default_mask, SIGSTOP, LwpData, first_lwp, is_run}
 use Rattle.requests.proofs.CommonNames.{change_process, Ready, FitOrReady, MayStop, IsLiveOf, Linked, FitProcess, All-imply, find_some, choose, not_some, sound_holds, live_fits, live_state, own_lwps}
 use Rattle.requests.proofs.CommonNames.{plain, closes_chain, traced_by, trace_me, stop_first, attach, ◌&&◌, list_any, PTRACE_SCE, PTRACE_SCX, PTRACE_FORK, PTRACE_LWP, mask_with, SIGKILL, owns}
 use Rattle.requests.proofs.CommonNames.{seen_lwp, find_seen, and_left, and_right, both, if_at, found_number, one_row, find_passes, detach_sound, Outcome, bad_argument, switched, does, signal_alone, no_events, Stepping}
@@ -13,7 +13,7 @@ use Rattle.requests.proofs.SoundAfterMask.{Tracee, OwnLwp, named_lwp, suspend_so
 use Rattle.trace_stop.proofs.SoundAfterStop as stops
 use Rattle.lwp_table.proofs.CountLemmas.{count-none}
 
-pub told_reports : (s : State) (tid : ℕ) → told_stop s ≡ Some tid → named_by s ≡ Some tid
+pub told_reports : (s : State) (tid : ℕ) → reported_stop s ≡ Some tid → named_by s ≡ Some tid
 told_reports s tid told = grind (arith, nat_tests)
 
 -- The LWP that a target names
@@ -30,12 +30,12 @@ pub named_own : (u target tid : ℕ) (rows : Rows) (p : ProcData) → TableInvar
 named_own u target tid rows p kept at own = search (rules, target_lwp)
 
 -- the LWP that reports a stop is the process's
-pub reporting_own : (rows : Rows) (p : ProcData) (tid : ℕ) → IsSound rows → process_of p.pid rows.processes ≡ Some p → told_stop p.state ≡ Some tid → IsSomeAnd (lwp_of tid rows.lwps) (λ l. l.pid ≡ p.pid)
+pub reporting_own : (rows : Rows) (p : ProcData) (tid : ℕ) → IsSound rows → process_of p.pid rows.processes ≡ Some p → reported_stop p.state ≡ Some tid → IsSomeAnd (lwp_of tid rows.lwps) (λ l. l.pid ≡ p.pid)
 reporting_own rows p tid s at told = grind (arith, nat_tests, told_reports, IsStopped-from p.pid tid rows p s.stands at, some_is, told)
 
 -- a request about a tracee of the caller, in a stop that was reported to it
 pub asks_tracee : (settings : Settings) (u : ℕ) (caller : ProcData) (r : Request) (target «data» : ℕ) (rows : Rows) (p : ProcData) (tid : ℕ)
-    → is_trace_me r ≡ false → target_of u target rows ≡ Some p → is_live p ≡ true → is_attach r ≡ false → is_some p.tracer ≡ true → traces caller.pid p ≡ true → told_stop p.state ≡ Some tid
+    → is_trace_me r ≡ false → target_of u target rows ≡ Some p → is_live p ≡ true → is_attach r ≡ false → is_some p.tracer ≡ true → traces caller.pid p ≡ true → reported_stop p.state ≡ Some tid
     → ptrace settings u caller r target «data» rows ≡ command settings r «data» (if leb target 99999 then tid else target) p rows
 asks_tracee settings u caller r target «data» rows p tid me at live new traced mine told = rw (me, at, live, new, traced, mine, told) refl
 
@@ -126,7 +126,7 @@ module _ (settings : Settings) (u : ℕ) (caller : ProcData) (r : Request) (targ
     home : process_of p.pid rows.processes ≡ Some p
     home = subst (λ n. process_of n rows.processes ≡ Some p) (sym (found_number m rows.processes p at)) at
 
-    tracee_sound : is_some p.tracer ≡ true → (o : Option ℕ) → told_stop p.state ≡ o → IsSound (commands_stopped settings r target «data» p rows o).rows
+    tracee_sound : is_some p.tracer ≡ true → (o : Option ℕ) → reported_stop p.state ≡ o → IsSound (commands_stopped settings r target «data» p rows o).rows
     tracee_sound traced None told = s
     tracee_sound traced (Some tid) told = choose (bad_argument r «data») _ _ (λ (x : Outcome). IsSound x.rows) (λ e. s)
         (λ e. does_sound settings r «data» (if leb target 99999 then tid else target) p rows (record { sound = s; home = home; live = live; traced = traced }) (search (rules, named_lwp, if_at, told_reports, seen_lwp_owned, (found_number m rows.processes p at), find_some, some_is)))

@@ -4,7 +4,7 @@ use Rattle.requests.proofs.CommonNames.{subst, arith, eqb-true, eq-eqb, rules, c
 use Rattle.requests.proofs.CommonNames.{each, is_numbered, lwp_count, settled_process, settled_lwp, settle, released, FitButPending, FitLwpButPending, IsSoundButPending, IsLiveChild, FitProcess}
 use Rattle.requests.proofs.CommonNames.{waited_for, FitLwp, count-cons, choose, choose_both, If_more, some_is, find_edit, Holds, Row, Same, Leaves, KeptRow, KeptLwp, nobody, holds_sound, like_self}
 use Rattle.requests.proofs.CommonNames.{kept_all, none_gone, no_ring, same_lwp, stay, edit_holds, changed_own, redisposed_lwp, settle_sound, exec_rows, ◌++◌, is_some, eqb, list_any, Call, SIGCHLD}
-use Rattle.requests.proofs.CommonNames.{born, Trace, change_process, change_lwp, add_process, add_lwp, posted_process, posted_lwp, notified, tracer_of, tracers, stop, Shown, MayStop, IsSound}
+use Rattle.requests.proofs.CommonNames.{born, Trace, change_process, change_lwp, add_process, add_lwp, posted_process, posted_lwp, notified, tracer_of, tracers, stop, StopInfo, MayStop, IsSound}
 use Rattle.requests.proofs.CommonNames.{and_left, by_bool, zero_apart, find_passes, sound_ready, stopped_sound, Numbers, forked, child_stop, with_child, Due, find_some, ◌*◌, ◌||◌, not, Mode, InCall}
 use Rattle.requests.proofs.CommonNames.{VforkWait, is_run, seen_lwp, Settings, status_fits, mode_fits, IsSignal, Act, Outcome, room_for_lwp, room_for_process, in_mode, exit_stop, forks, due_at_birth}
 use Rattle.requests.proofs.CommonNames.{makes_lwp, leaves, waits, due_stop, without_signal, acts, signal_or_act, due_or_more, turn_of, turn, Machine, sound, step, act_fits, Step, Reply}
@@ -166,7 +166,7 @@ module _ (call : Call) (rows : Rows) (p : ProcData) (l : LwpData) (a : Acting ro
 
   -- followed, in its first stop
   module _ (traced : is_some p.tracer ≡ true) where
-    abbrev shown : Shown
+    abbrev shown : StopInfo
     shown = child_stop call
 
     abbrev shows_it : LwpData → LwpData
@@ -245,7 +245,7 @@ module _ (settings : Settings) (rows : Rows) (p : ProcData) (l : LwpData) (a : A
   signal_or_act_sound x fits None sig = acts_sound x fits l.mode refl
   signal_or_act_sound x fits (Some s) sig = takes_sound settings s sig (without_signal s p l rows) p l (taken_alike rows p l a s)
 
-  due_or_more_sound : (x : Act) → act_fits x ≡ true → (o : Option Shown) → due_stop l.due ≡ o → IsSound (due_or_more settings x p l rows o).rows
+  due_or_more_sound : (x : Act) → act_fits x ≡ true → (o : Option StopInfo) → due_stop l.due ≡ o → IsSound (due_or_more settings x p l rows o).rows
   due_or_more_sound x fits o is = grind (arith, nat_tests, signal_or_act_sound, next_is_signal, due_sound)
 
 -- The turn

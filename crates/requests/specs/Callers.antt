@@ -1,6 +1,6 @@
 -- The caller of a step.
 use Rattle.std.specs.Prelude.{◌≡◌, ◌≢◌}
-use Rattle.requests.specs.CommonNames.{ℕ, true, Some, Errno, ProcData, process_of, is_live, is_run, Rows, seen_process, PlainStep, Reply}
+use Rattle.requests.specs.CommonNames.{ℕ, true, Some, Errno, ProcData, process_of, is_live, is_run, Rows, visible_process, PlainStep, Reply}
 use Rattle.requests.specs.Outcome.{answers}
 use Rattle.requests.specs.Step.{Machine, after, step}
 use Rattle.step_types.specs.Plain.{caller_of}
@@ -13,7 +13,7 @@ pub record IsCaller (user : ℕ) (p : ProcData) (rows : Rows) : Type 0 where
 
 -- the process that a user's number names, if it may make steps
 pub record Calls (user n : ℕ) (rows : Rows) (p : ProcData) : Type 0 where
-  pub seen : seen_process user n rows ≡ Some p
+  pub seen : visible_process user n rows ≡ Some p
   pub live : is_live p ≡ true
   pub runs : is_run p ≡ true
 

@@ -2,7 +2,7 @@
 use Rattle.std.specs.Prelude.{◌≡◌}
 use Rattle.requests.specs.CommonNames.{ℕ, Bool, true, List, AllByRecursion, IsUser, status_fits, Act, PlainStep, Step, Settings}
 use Rattle.requests.specs.Run.{last}
-use Rattle.step_types.specs.Plain.{Asked}
+use Rattle.step_types.specs.Plain.{UserStep}
 use Rattle.requests.specs.Sound.{sound}
 use Rattle.requests.specs.Step.{Machine, empty, step}
 
@@ -20,12 +20,12 @@ abbrev pub SoundKept : Type 0
 SoundKept = (u : ℕ) → IsUser u → (s : PlainStep) → step_fits s ≡ true → (m : Machine) → sound m ≡ true → sound (step u s m).machine ≡ true
 
 -- a step of one of the 64 users
-abbrev pub IsStep : Asked → Type 0
+abbrev pub IsStep : UserStep → Type 0
 IsStep a = IsUser a.uid × (step_fits a.step ≡ true)
 
 -- every list of steps does so
 abbrev pub SoundRuns : Type 0
-SoundRuns = (list : List Asked) (m : Machine) → AllByRecursion IsStep list → sound m ≡ true → sound (last list m) ≡ true
+SoundRuns = (list : List UserStep) (m : Machine) → AllByRecursion IsStep list → sound m ≡ true → sound (last list m) ≡ true
 
 -- an unused host is sound
 abbrev pub SoundAtFirst : Type 0

@@ -26,7 +26,7 @@ fn stop_stepping(tables: &mut Tables, l: &LwpData)
     requires { lwp_of l.now.tid tables.old.rows.lwps ≡ Some l.now }
     ensures rows { tables.new.rows ≡ change_lwp l.now.tid (λ k. record k { stepping = false }) tables.old.rows }
 {
-    tables.kept();
+    tables.assert_invariant();
     tables.set_lwp(LwpData {
         stepping: false,
         ..*l
@@ -69,7 +69,7 @@ fn block(tables: &mut Tables, set: SigSet, l: &LwpData)
     requires { lwp_of l.now.tid tables.old.rows.lwps ≡ Some l.now }
     ensures rows { tables.new.rows ≡ change_lwp l.now.tid (λ k. record k { blocked = maskable set }) tables.old.rows }
 {
-    tables.kept();
+    tables.assert_invariant();
     tables.set_lwp(LwpData {
         blocked: set.maskable(),
         ..*l

@@ -56,7 +56,7 @@ pub fn sigaction(
     let Some(dispositions) = with_disposition(&caller.dispositions, sig, disposition) else {
         return Reply::Errno(Errno::EINVAL);
     };
-    tables.kept();
+    tables.assert_invariant();
     tables.set_process(disposed(caller, dispositions));
     settle(tables, caller.pid);
     Reply::Done

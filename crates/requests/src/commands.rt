@@ -6,7 +6,7 @@ ghost use Rattle.pid_blocks.specs.declared.Errno.TheVariants as errno;
 ghost use Rattle.event_masks.specs.Exits.{all_events};
 ghost use Rattle.lwp_table.specs.Lwps.{lwp_of};
 ghost use Rattle.proc_table.specs.Kept.{TableInvariant};
-ghost use Rattle.proc_table.specs.Processes.{process_of, reporting, traces};
+ghost use Rattle.proc_table.specs.Processes.{process_of, reporting};
 ghost use Rattle.signals.specs.Table.{SIGKILL};
 ghost use Rattle.trace_stop.specs.Detach.{signal_alone};
 ghost use Rattle.trace_stop.specs.Stop.{resume, detach};
@@ -14,7 +14,7 @@ ghost use Rattle.trace_stop.specs.Facts.{IsSound};
 ghost use Rattle.lwpinfo.specs.Info.{info, lwp_list};
 ghost use Rattle.step_types.specs.declared.Reply.TheVariants as reply;
 ghost use Rattle.requests.specs.Outcome.{Gives, answers, refuses};
-ghost use Rattle.requests.specs.Ptrace.{ptrace, is_trace_me, is_attach, target_of, told_stop, suspend, set_mask, resumes, switched, shows_info, command, with_signal};
+ghost use Rattle.requests.specs.Ptrace.{ptrace, is_trace_me, is_attach, target_of, suspend, set_mask, resumes, switched, shows_info, command, with_signal};
 ghost use Rattle.requests.specs.Callers.{IsCaller};
 ghost use Rattle.requests.specs.Memory.{Attempts, lists};
 
@@ -65,10 +65,10 @@ pub fn ptrace(
     if process.tracer.is_none() {
         return Ok(Reply::Errno(Errno::EPERM));
     }
-    if !traces(caller.pid, &process) {
+    if !process.is_traced_by(caller.pid) {
         return Ok(Reply::Errno(Errno::EBUSY));
     }
-    let Some(reporting) = told_stop(&process) else {
+    let Some(reporting) = process.reported_stop() else {
         return Ok(Reply::Errno(Errno::EBUSY));
     };
     let lwp = named_lwp(target, reporting);
@@ -93,30 +93,10 @@ fn target_of(tables: &Tables, user: Uid, target: u32) -> Option<ProcData>
     ensures row { IfSome result (λ p. process_of p.pid tables.now.rows.processes ≡ Some p) }
     ensures kept { TableInvariant tables.now.rows }
 {
-    tables.kept();
+    tables.assert_invariant();
     match tables.find_seen(user, target) {
         Some(pid) => tables.process(pid),
         None => None,
-    }
-}
-
-/// Returns whether the process with this number traces `process`.
-fn traces(pid: Pid, process: &ProcData) -> bool
-    ensures { result ≡ traces pid process.now }
-{
-    match process.tracer {
-        Some(tracer) => tracer == pid,
-        None => false,
-    }
-}
-
-/// Returns the LWP of a trace stop that was reported to the tracer.
-fn told_stop(process: &ProcData) -> Option<Tid>
-    ensures { result ≡ told_stop process.now.state }
-{
-    match process.state {
-        State::Trace { tid, reported, .. } if reported => Some(tid),
-        _ => None,
     }
 }
 
@@ -296,7 +276,7 @@ fn set_mask(tables: &mut Tables, process: &ProcData, mask: EventMask)
     requires at { process_of process.now.pid tables.old.rows.processes ≡ Some process.now }
     ensures rows { tables.new.rows ≡ set_mask (λ old. mask) process.now.pid tables.old.rows }
 {
-    tables.kept();
+    tables.assert_invariant();
     tables.set_process(ProcData { mask, ..*process });
 }
 

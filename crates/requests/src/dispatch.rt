@@ -32,15 +32,15 @@ pub fn uncalled<F: Decider + Send + Drop, H>(
     handlers: &HandlerTable<F>,
     settings: Settings,
     user: Uid,
-    asked: &Step<H>,
+    step: &Step<H>,
 ) -> Result<Reply, AllocError>
     requires sound { IsSound tables.old.rows }
-    requires none { caller_of (bare asked.now) ≡ None }
+    requires none { caller_of (bare step.now) ≡ None }
     ensures { let m = machine_of settings tables.old handlers.now in
-        Attempts (takes_memory user (bare asked.now) m) (outcome_of (uncalled user (bare asked.now) m)) tables.old.rows
+        Attempts (takes_memory user (bare step.now) m) (outcome_of (uncalled user (bare step.now) m)) tables.old.rows
         tables.new.rows result }
 {
-    match *asked {
+    match *step {
         Step::Turn { tid, act } => turn(tables, settings, user, tid, act),
         _ => spawn(tables, user),
     }
@@ -55,17 +55,17 @@ pub fn called<F: Decider + Send + Drop, H>(
     alloc: Global,
     user: Uid,
     caller: &ProcData,
-    asked: &Step<H>,
+    step: &Step<H>,
 ) -> Result<Reply, AllocError>
     requires sound { IsSound tables.old.rows }
     requires few { length (get_or handlers.now (slot user) []) ≤ 64 }
     requires caller { IsCaller user caller.now tables.old.rows }
-    requires other { installs (bare asked.now) ≡ false }
+    requires other { installs (bare step.now) ≡ false }
     ensures { let m = machine_of settings tables.old handlers.now in
-        Attempts (takes_memory user (bare asked.now) m) (outcome_of (calls user (bare asked.now) caller.now m)) tables.old.rows
+        Attempts (takes_memory user (bare step.now) m) (outcome_of (calls user (bare step.now) caller.now m)) tables.old.rows
         tables.new.rows result }
 {
-    match *asked {
+    match *step {
         Step::Spawn => spawn(tables, user),
         Step::List { .. } => list(tables, alloc, user),
         Step::Sigaction {

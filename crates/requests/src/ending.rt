@@ -16,10 +16,10 @@ use std::alloc::AllocError;
 use stop_handlers::Decider;
 
 /// Returns whether a step with this result may have ended a process.
-fn may_end<H>(asked: &Step<H>, done: &Result<Reply, AllocError>) -> bool
-    ensures { result ≡ may_end (bare asked.now) (attempted_reply done.now) }
+fn may_end<H>(step: &Step<H>, done: &Result<Reply, AllocError>) -> bool
+    ensures { result ≡ may_end (bare step.now) (attempted_reply done.now) }
 {
-    match *asked {
+    match *step {
         Step::Kill { sig, .. } => sig == Signal::KILL.number(),
         Step::Handle { .. } => matches!(done, Ok(Reply::Handled { .. })),
         Step::Ptrace { .. } => matches!(done, Ok(Reply::Done)),
@@ -33,14 +33,14 @@ pub fn drop_ended<F: Decider + Send + Drop, H>(
     handlers: &mut HandlerTable<F>,
     tables: &Tables,
     user: Uid,
-    asked: &Step<H>,
+    step: &Step<H>,
     done: &Result<Reply, AllocError>,
 )
-    ensures { handlers.new ≡ (if may_end (bare asked.now) (attempted_reply done.now)
+    ensures { handlers.new ≡ (if may_end (bare step.now) (attempted_reply done.now)
         then set handlers.old (slot user) (filter (λ i. is_live_at i.debugger tables.now.rows) (get_or handlers.old (slot user) []))
         else handlers.old) }
 {
-    if may_end(asked, done) {
+    if may_end(step, done) {
         handlers.drop_ended(user, tables);
     }
 }

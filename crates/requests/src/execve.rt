@@ -55,7 +55,7 @@ fn keep_lwp(tables: &mut Tables, pid: Pid, tid: Tid)
 fn release_parent(tables: &mut Tables, p: &ProcData)
     ensures { tables.new.rows ≡ parent_freed (process_of p.now.parent tables.old.rows.processes) p.now.pid tables.old.rows }
 {
-    if let Some(parent) = tables.numbered(p.parent) {
+    if let Some(parent) = tables.process_by_number(p.parent) {
         release(tables, &parent, p.pid);
     }
 }

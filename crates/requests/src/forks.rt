@@ -16,7 +16,7 @@ use pid_blocks::{Errno, Pid, Tid};
 use proc_table::{ProcData, State, Tables};
 use signals::{SigSet, Signal};
 use std::alloc::AllocError;
-use trace_stop::{Shown, stop};
+use trace_stop::{StopInfo, stop};
 
 /// Returns the row of a fork's child. If `followed`, the parent's tracer traces it.
 fn forked(followed: bool, p: &ProcData, pid: Pid) -> ProcData
@@ -40,10 +40,10 @@ fn forked(followed: bool, p: &ProcData, pid: Pid) -> ProcData
 }
 
 /// Returns the stop of a followed child before its first turn.
-fn child_stop(call: Call) -> Shown
+fn child_stop(call: Call) -> StopInfo
     ensures { result ≡ child_stop call }
 {
-    Shown {
+    StopInfo {
         sig: Signal::STOP,
         flags: StopFlags::PL_FLAG_SCX.with(StopFlags::PL_FLAG_CHILD),
         child: 0,
@@ -73,7 +73,7 @@ fn add_child(tables: &mut Tables, call: Call, p: &ProcData, l: &LwpData, pid: Pi
     ensures rows { tables.new.rows ≡ with_child call p.now l.now (record { pid = pid; tid = tid }) tables.old.rows }
     ensures there { HasLwp p.now.pid l.now.tid tables.new.rows }
 {
-    tables.kept();
+    tables.assert_invariant();
     let followed = is_asked(p, EventMask::PTRACE_FORK);
     tables.add_process(forked(followed, p, pid));
     tables.add_lwp(p.uid, LwpData::born(tid, pid, l.blocked, Due::Nothing));

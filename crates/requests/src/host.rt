@@ -26,13 +26,13 @@ use stop_handlers::{ByPolicy, Decider, Handler, Policy};
 use trace_stop::Settings;
 
 /// For proofs: the code of an exit is a byte.
-fn fits<H>(asked: &Step<H>)
-    ensures { step_fits (bare asked.now) ≡ true }
+fn fits<H>(step: &Step<H>)
+    ensures { step_fits (bare step.now) ≡ true }
 {
     if let Step::Turn {
         act: Act::Enter(Call::Exit(code)),
         ..
-    } = asked
+    } = step
     {
         let _byte = *code;
     }
@@ -110,7 +110,7 @@ impl<F: Decider + Send + Drop> Host<F> {
     }
 
     /// For proofs: the invariant of a host.
-    pub fn kept(&self)
+    pub fn assert_invariant(&self)
         ensures { sound self.now ≡ true }
     {
         let _settings = self.settings;
@@ -145,7 +145,7 @@ impl<F: Decider + Send + Drop> Host<F> {
         ensures barred { IfErr result (Barred user caller self.now) }
     {
         let _settings = self.settings;
-        let Some(asking) = self.tables.seen_process(user, caller) else {
+        let Some(asking) = self.tables.visible_process(user, caller) else {
             return Err(Reply::Errno(Errno::ESRCH));
         };
         if !asking.is_live() {
@@ -177,16 +177,16 @@ impl<F: Decider + Send + Drop> Host<F> {
     }
 
     /// Makes a step of the user that installs no handler. An error means out of memory, and changes nothing.
-    fn attempt<H>(&mut self, alloc: Global, user: Uid, asked: &Step<H>) -> Result<Reply, AllocError>
+    fn attempt<H>(&mut self, alloc: Global, user: Uid, step: &Step<H>) -> Result<Reply, AllocError>
         requires user { IsUser user }
-        requires other { installs (bare asked.now) ≡ false }
-        ensures { Tries user (bare asked.now) self.old self.new result }
+        requires other { installs (bare step.now) ≡ false }
+        ensures { Tries user (bare step.now) self.old self.new result }
     {
-        fits(asked);
-        match asked.caller() {
+        fits(step);
+        match step.caller() {
             None => {
-                let done = uncalled(&mut self.tables, &self.handlers, self.settings, user, asked);
-                drop_ended(&mut self.handlers, &self.tables, user, asked, &done);
+                let done = uncalled(&mut self.tables, &self.handlers, self.settings, user, step);
+                drop_ended(&mut self.handlers, &self.tables, user, step, &done);
                 done
             }
             Some(number) => {
@@ -201,9 +201,9 @@ impl<F: Decider + Send + Drop> Host<F> {
                     alloc,
                     user,
                     &caller,
-                    asked,
+                    step,
                 );
-                drop_ended(&mut self.handlers, &self.tables, user, asked, &done);
+                drop_ended(&mut self.handlers, &self.tables, user, step, &done);
                 done
             }
         }
@@ -212,14 +212,14 @@ impl<F: Decider + Send + Drop> Host<F> {
     /// Makes a step of the user. Refused as the manual page of its call says, and with ENOMEM where memory runs out. A
     /// refused step changes nothing.
     #[inline(always)]
-    pub fn step(&mut self, alloc: Global, user: Uid, asked: Step<Handler<F>>) -> Reply
-        ensures { Steps user asked self.old self.new result }
+    pub fn step(&mut self, alloc: Global, user: Uid, step: Step<Handler<F>>) -> Reply
+        ensures { Steps user step self.old self.new result }
     {
         let _user = user.get();
-        if let Some(reply) = self.make(alloc, user, &asked) {
+        if let Some(reply) = self.step_without_handler(alloc, user, &step) {
             return reply;
         }
-        let Step::Install { caller, handler } = asked else {
+        let Step::Install { caller, handler } = step else {
             unreachable!()
         };
         attempted_reply(self.install(user, caller, handler))
@@ -227,13 +227,18 @@ impl<F: Decider + Send + Drop> Host<F> {
 
     /// Makes a step of the user as `step` does, if it needs no handler. For an install it returns `None` and changes
     /// nothing.
-    pub fn make<H>(&mut self, alloc: Global, user: Uid, asked: &Step<H>) -> Option<Reply>
-        ensures { Makes user (with_handler None asked.now) self.old self.new result }
+    pub fn step_without_handler<H>(
+        &mut self,
+        alloc: Global,
+        user: Uid,
+        step: &Step<H>,
+    ) -> Option<Reply>
+        ensures { Makes user (with_handler None step.now) self.old self.new result }
     {
         let _user = user.get();
-        if let Step::Install { .. } = asked {
+        if let Step::Install { .. } = step {
             return None;
         }
-        Some(attempted_reply(self.attempt(alloc, user, asked)))
+        Some(attempted_reply(self.attempt(alloc, user, step)))
     }
 }

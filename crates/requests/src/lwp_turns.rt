@@ -27,7 +27,7 @@ use proc_table::{ProcData, State, Tables};
 use process_end::end;
 use signals::{Action, Disposition, Signal, default_action};
 use std::alloc::AllocError;
-use trace_stop::{Settings, Shown, post_sigchld};
+use trace_stop::{Settings, StopInfo, post_sigchld};
 
 /// Returns whether an LWP waits for the child of its vfork.
 fn waits(mode: Mode) -> bool
@@ -37,7 +37,7 @@ fn waits(mode: Mode) -> bool
 }
 
 /// Returns what the due stop shows, if one is due.
-fn due_stop(due: Due) -> Option<Shown>
+fn due_stop(due: Due) -> Option<StopInfo>
     ensures { result ≡ due_stop due }
 {
     match due {
@@ -68,7 +68,7 @@ fn drop_signal(tables: &mut Tables, signal: Signal, p: &ProcData, l: &LwpData)
     requires { IsActing p.now l.now tables.old.rows }
     ensures { tables.new.rows ≡ without_signal signal p.now l.now tables.old.rows }
 {
-    tables.kept();
+    tables.assert_invariant();
     if l.pending.contains(signal) {
         tables.set_lwp(LwpData {
             pending: l.pending.without(signal),
@@ -163,12 +163,12 @@ fn take_signal(
 
 /// Stops the LWP with its due stop, and clears it.
 #[tactic(auto, using(proc_table::proofs::Stays::lwp_there))]
-fn take_due(tables: &mut Tables, p: &ProcData, l: &LwpData, shown: &Shown) -> Reply
+fn take_due(tables: &mut Tables, p: &ProcData, l: &LwpData, shown: &StopInfo) -> Reply
     requires { IsActing p.now l.now tables.old.rows }
     ensures { let cleared = change_lwp l.now.tid (λ k. record k { due = due.Nothing }) tables.old.rows in
         Gives (stops_with shown.now p.now l.now cleared) tables.new.rows result }
 {
-    tables.kept();
+    tables.assert_invariant();
     tables.set_lwp(LwpData {
         due: Due::Nothing,
         ..*l

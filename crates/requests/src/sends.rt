@@ -2,7 +2,7 @@
 
 ghost use Rattle.std.specs.Prelude.{◌≡◌, ◌==◌, negsuc, filter, option_map};
 ghost use Rattle.proc_table.specs.Processes.{process_of, of_user};
-ghost use Rattle.proc_table.specs.Seen.{seen_process};
+ghost use Rattle.proc_table.specs.Seen.{visible_process};
 ghost use Rattle.proc_table.specs.Kept.{TableInvariant};
 ghost use Rattle.trace_stop.specs.Facts.{IsSound};
 ghost use Rattle.requests.specs.Outcome.{Gives};
@@ -67,10 +67,10 @@ fn kill_others(tables: &mut Tables, settings: Settings, user: Uid, caller: Pid, 
 
 /// Returns the number as a process number, if a process of the user has it.
 fn seen_pid(tables: &Tables, user: Uid, number: u32) -> Option<Pid>
-    ensures seen { result ≡ option_map (λ p. p.pid) (seen_process user number tables.now.rows) }
+    ensures seen { result ≡ option_map (λ p. p.pid) (visible_process user number tables.now.rows) }
     ensures kept { TableInvariant tables.now.rows }
 {
-    match tables.seen_process(user, number) {
+    match tables.visible_process(user, number) {
         Some(p) => Some(p.pid),
         None => None,
     }

@@ -14,13 +14,13 @@ use lwp_table::{LwpData, Mode};
 use pid_blocks::{Pid, Tid};
 use proc_table::{ProcData, Tables};
 use signals::Signal;
-use trace_stop::{Shown, stop};
+use trace_stop::{StopInfo, stop};
 
 /// Returns a stop that shows only a signal.
-pub fn plain(signal: Signal) -> Shown
+pub fn plain(signal: Signal) -> StopInfo
     ensures { result ≡ plain signal }
 {
-    Shown {
+    StopInfo {
         sig: signal,
         flags: StopFlags::none(),
         child: 0,
@@ -29,11 +29,11 @@ pub fn plain(signal: Signal) -> Shown
 }
 
 /// Returns a SIGTRAP stop in a call. It shows the call's code at the call's entry and exit.
-pub fn trap(flags: StopFlags, child: u32, call: Call) -> Shown
+pub fn trap(flags: StopFlags, child: u32, call: Call) -> StopInfo
     ensures { result ≡ trap flags child call }
 {
     let at_edge = flags.shows(StopFlags::PL_FLAG_SCE) || flags.shows(StopFlags::PL_FLAG_SCX);
-    Shown {
+    StopInfo {
         sig: Signal::TRAP,
         flags,
         child,
@@ -41,7 +41,7 @@ pub fn trap(flags: StopFlags, child: u32, call: Call) -> Shown
     }
 }
 
-fn stopped(tid: Tid, shown: &Shown) -> Reply
+fn stopped(tid: Tid, shown: &StopInfo) -> Reply
     ensures { result ≡ reply.Stopped tid shown.now.sig shown.now.flags }
 {
     Reply::Stopped {
@@ -52,7 +52,7 @@ fn stopped(tid: Tid, shown: &Shown) -> Reply
 }
 
 /// Stops the process by a trace stop of the LWP, and returns the reply.
-pub fn stop_with(tables: &mut Tables, p: &ProcData, l: &LwpData, shown: &Shown) -> Reply
+pub fn stop_with(tables: &mut Tables, p: &ProcData, l: &LwpData, shown: &StopInfo) -> Reply
     requires { HasLwp p.now.pid l.now.tid tables.old.rows }
     ensures { Gives (stops_with shown.now p.now l.now tables.old.rows) tables.new.rows result }
 {
@@ -79,7 +79,7 @@ pub fn is_asked(p: &ProcData, event: EventMask) -> bool
 }
 
 /// Returns the stop at the exit of a call, if the event mask asks for one. It names the child where it reports a fork.
-pub fn exit_stop(p: &ProcData, call: Call, child: u32) -> Option<Shown>
+pub fn exit_stop(p: &ProcData, call: Call, child: u32) -> Option<StopInfo>
     ensures { result ≡ exit_stop p.now call child }
 {
     match exit_flags(p.mask, call) {
@@ -94,7 +94,7 @@ pub fn exit_stop(p: &ProcData, call: Call, child: u32) -> Option<Shown>
 /// Stops the process by the LWP if there is a stop, and returns its reply. Else returns `answer`.
 pub fn stop_or(
     tables: &mut Tables,
-    shown: &Option<Shown>,
+    shown: &Option<StopInfo>,
     answer: Reply,
     p: &ProcData,
     l: &LwpData,
@@ -112,7 +112,7 @@ pub fn stop_or(
 pub fn finish(
     tables: &mut Tables,
     mode: Mode,
-    shown: &Option<Shown>,
+    shown: &Option<StopInfo>,
     answer: Reply,
     p: &ProcData,
     l: &LwpData,

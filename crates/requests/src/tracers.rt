@@ -69,7 +69,7 @@ fn parent_of(tables: &Tables, process: &ProcData) -> Option<Pid>
     if process.parent == 1 {
         return None;
     }
-    match tables.numbered(process.parent) {
+    match tables.process_by_number(process.parent) {
         Some(parent) => Some(parent.pid),
         None => None,
     }
@@ -101,7 +101,7 @@ fn trace(tables: &mut Tables, process: &ProcData, tracer: Pid)
     requires tracer { IsRow tables.old.rows tracer }
     ensures rows { tables.new.rows ≡ change_process process.now.pid (traced_by tracer) tables.old.rows }
 {
-    tables.kept();
+    tables.assert_invariant();
     tables.set_process(traced_by(process, tracer));
 }
 

@@ -5,7 +5,7 @@ use Rattle.trace_stop.proofs.CommonNames.{nat_tests, AllByRecursion, list_any, I
 use Rattle.trace_stop.proofs.CommonNames.{tracer_in, is_numbered, change_process, change_lwp, notified, post, tracers, stop, ends_process, resume, detach}
 use Rattle.pid_blocks.specs.Blocks.{pid_owner, tid_owner}
 use Rattle.step_types.specs.declared.Settings.{Settings}
-use Rattle.trace_stop.specs.{Detach.signal_alone, declared.Resumption.Resumption, declared.Shown.Shown}
+use Rattle.trace_stop.specs.{Detach.signal_alone, declared.Resumption.Resumption, declared.StopInfo.StopInfo}
 use Rattle.trace_stop.specs.End.{tracer_of, meets, is_doomed, dooms, process_after, released, lwp_after, notifies_of, end_each, end_of, end}
 use Rattle.trace_stop.proofs.Every.{not_same, by_bool, choose, choose_both, none_passes, All-edit, All-filter}
 use Rattle.row_isolation.specs.Closed.{Mine, GoodProc, GoodLwp}
@@ -107,7 +107,7 @@ end_same {u} {start} {c} {v} s settings n w here = end_of_same (choose_both (Sim
 pub post_same : {u : ℕ} {start c v : Rows} → Sim u start c v → (settings : Settings) (sig : ℕ) (to : Option ℕ) (n : ℕ) → pid_owner n ≡ u → Sim u start (post settings sig to n c) (post settings sig to n v)
 post_same s settings sig to n here = branch_rows (sig == SIGKILL) _ refl (λ b. end_same s settings n SIGKILL here) (λ b. posted_same s sig to n here)
 
-pub stop_same : {u : ℕ} {start c v : Rows} → Sim u start c v → (n tid : ℕ) (shown : Shown) → pid_owner n ≡ u → tid_owner tid ≡ u → Sim u start (stop n tid shown c) (stop n tid shown v)
+pub stop_same : {u : ℕ} {start c v : Rows} → Sim u start c v → (n tid : ℕ) (shown : StopInfo) → pid_owner n ≡ u → tid_owner tid ≡ u → Sim u start (stop n tid shown c) (stop n tid shown v)
 stop_same {u} {start} {c} {v} s n tid shown here own_tid = subst (λ o. Sim u start (stop n tid shown c) (notified (tracers (tracer_in o)) (stopped v))) (process_same s n here)
     (notified_same (process_same_after (lwp_same_after s tid own_tid (λ l. record l { flags = shown.flags; child = shown.child; code = shown.code }) (λ l well is. (refl, record { block = well.block; waits = well.waits })))
     n here (λ p. record p { state = Trace tid shown.sig false }) (λ p good is e. (refl, refl, record { user = good.user; block = good.block; tracer = good.tracer; parent = good.parent; reporting = own_tid ∙ sym is; collector = λ dead. absurd (true≢false dead) }, λ live. refl)))

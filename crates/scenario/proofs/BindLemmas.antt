@@ -1,6 +1,6 @@
 -- One more step with its handler.
 use Rattle.scenario.proofs.CommonNames.{⊤, ◌≡◌, ℕ, ◌+◌, ◌<◌, ◌≤◌, List, [], ◌∷◌, ◌++◌, length, get_or, map, drop, Option, Some, None, sym, ap, subst, ◌∙◌, append-nil, arith, at_drop_all, at_drop_more}
-use Rattle.scenario.proofs.CommonNames.{length-append, Rule, Step, Reply, Steps, Machine, Makes, PlainStep, with_handler, Asked, map-push, asked, with_policies, first_policy, policies_after, policies_in}
+use Rattle.scenario.proofs.CommonNames.{length-append, Rule, Step, Reply, Steps, Machine, Makes, PlainStep, with_handler, UserStep, map-push, asked, with_policies, first_policy, policies_after, policies_in}
 use Rattle.scenario.proofs.CommonNames.{policy_before, with_installed, IsBound, left_after, append_assoc}
 
 -- the steps from place i on, of which x is the first, with the policies from there on
@@ -18,16 +18,16 @@ module _ (ss : List (ℕ × Step ⊤)) (i : ℕ) (x : ℕ × Step ⊤) (ps qs : 
   each_next each left = subst (λ rs. policies_in (with_policies (drop (i + 1) ss) rs) ≡ rs) (sym left) (left_after x.1 ps _ (first_before each))
 
 -- the steps so far and one more
-pub one_bound : (done now : List (ℕ × PlainStep)) (u : ℕ) (s t : PlainStep) (left rest all : List Asked) → s ≡ t → now ≡ done ++ (u, s) ∷ [] → left ≡ asked (u, t) ∷ rest
+pub one_bound : (done now : List (ℕ × PlainStep)) (u : ℕ) (s t : PlainStep) (left rest all : List UserStep) → s ≡ t → now ≡ done ++ (u, s) ∷ [] → left ≡ asked (u, t) ∷ rest
     → map asked done ++ left ≡ all → map asked now ++ rest ≡ all
-one_bound done now u s t left rest all same pushed first so_far = grind (arith, map-push asked done (u, t), append_assoc {A = Asked})
+one_bound done now u s t left rest all same pushed first so_far = grind (arith, map-push asked done (u, t), append_assoc {A = UserStep})
 
 pub one_longer : {X : Type 0} (done now : List X) (x : X) (n : ℕ) → now ≡ done ++ x ∷ [] → length done ≡ n → length now ≡ n + 1
 one_longer done now x n pushed count = ap length pushed ∙ simp length-append (omega (arith, count))
 
 -- no step is left
-pub all_bound : (done : List (ℕ × PlainStep)) (ss : List (ℕ × Step ⊤)) (i : ℕ) (ps : List (List Rule)) (all : List Asked) → length ss ≤ i → map asked done ++ with_policies (drop i ss) ps ≡ all → map asked done ≡ all
-all_bound done ss i ps all past so_far = let past = at_drop_all (λ xs. with_policies xs ps) ss i past in grind (arith, past, append-nil {A = Asked})
+pub all_bound : (done : List (ℕ × PlainStep)) (ss : List (ℕ × Step ⊤)) (i : ℕ) (ps : List (List Rule)) (all : List UserStep) → length ss ≤ i → map asked done ++ with_policies (drop i ss) ps ≡ all → map asked done ≡ all
+all_bound done ss i ps all past so_far = let past = at_drop_all (λ xs. with_policies xs ps) ss i past in grind (arith, past, append-nil {A = UserStep})
 
 -- a step that was made with no handler
 pub needs_none : (u : ℕ) (bare_step : Step ⊤) (ps : List (List Rule)) (m n : Machine) (r : Reply) → Makes u (with_handler {B = List Rule} None bare_step) m n (Some r)

@@ -7,7 +7,7 @@ pub use Rattle.std.proofs.{Math.ListN.set, Math.Seq.take-append_seam, Math.Seq.t
 pub use Rattle.std.specs.{Io.KnownBytes.Appends, Io.KnownBytes.Keeps, Io.KnownBytes.WriteAppends, Prelude.⊤, Vec.Iter.into_iter_items}
 pub use Rattle.requests.specs.{Hosts.Steps, Making.Makes}
 pub use Rattle.requests.specs.{Machine.Machine, Machine.empty, Run.replies}
-pub use Rattle.step_types.specs.{Plain.Asked, Plain.PlainStep, Plain.with_handler, Replies.is_memory, declared.Reply.Reply, declared.step.Step.Step}
+pub use Rattle.step_types.specs.{Plain.UserStep, Plain.PlainStep, Plain.with_handler, Replies.is_memory, declared.Reply.Reply, declared.step.Step.Step}
 pub use Rattle.scenario_text.proofs.WithPoliciesLemmas.{left_after}
 pub use Rattle.scenario_text.specs.Plan.{asked, with_policies, first_policy, policies_after, policies_in, policy_before, with_installed}
 pub use Rattle.stop_handlers.specs.declared.Rule.{Rule}

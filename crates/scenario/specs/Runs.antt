@@ -3,7 +3,7 @@ use Rattle.std.specs.Prelude.{⊤, ◌≡◌, ℕ, List, take, map, zip, Option,
 use Rattle.std.specs.Io.KnownBytes.{Appends, Keeps}
 use Rattle.stop_handlers.specs.declared.Rule.{Rule}
 use Rattle.requests.specs.{Hosts.Steps, Machine.Machine, Machine.empty, Run.replies}
-use Rattle.step_types.specs.{Plain.Asked, Plain.PlainStep, declared.Reply.Reply, declared.step.Step.Step}
+use Rattle.step_types.specs.{Plain.UserStep, Plain.PlainStep, declared.Reply.Reply, declared.step.Step.Step}
 use Rattle.scenario.specs.{declared.running.RunFault.RunFault, declared.running.RunFault.TheVariants.Write, Lines.Answered, Lines.text, Lines.text_of, Lines.lines, Lines.lines_of}
 use Rattle.scenario.specs.declared.style.Style.{Style}
 use Rattle.scenario_text.specs.Plan.{Plan, first_policy, policies_after, policy_before, with_installed}
@@ -18,7 +18,7 @@ shown style None answers = text style answers
 shown style (Some user) answers = text_of (lines_of user (lines style answers))
 
 -- the steps' users with the replies
-abbrev pub paired : List Asked → List Reply → List Answered
+abbrev pub paired : List UserStep → List Reply → List Answered
 paired steps list = map (λ p. record { uid = p.0.uid; reply = p.1 }) (zip steps list)
 
 -- the answers of the machine, from an unused host

@@ -74,7 +74,7 @@ fn reply_of<F: Decider + Send + Drop>(
 ) -> Option<Reply>
     ensures { IsAnswered user bare_step.now (into_iter_items handlers.old) (into_iter_items handlers.new) host.old host.new result }
 {
-    if let Some(reply) = host.make(alloc, user, bare_step) {
+    if let Some(reply) = host.step_without_handler(alloc, user, bare_step) {
         return Some(reply);
     }
     let step = step_with_handler(bare_step, handlers)?;

@@ -9,7 +9,7 @@ pub use Rattle.json.specs.{Json.after_end_array, Json.items, Json.members, Json.
 pub use Rattle.json_values.proofs.{FirstTokens.array_value, FirstTokens.object_value, Keys.members_among-put}
 pub use Rattle.json_values.proofs.Loops.{last_item, last_member, next_item, next_item_fails, next_member_fails, no_key, pass_member, what_was_read}
 pub use Rattle.json_values.specs.{Reading.IsScalar, Reading.Opens, Reading.Says, Reading.read_items, Reading.read_members, declared.scalars.Scalar.Scalar}
-pub use Rattle.step_types.specs.{Plain.Asked, Plain.PlainStep, Plain.with_handler, declared.Settings.Settings, declared.step.Step.Step}
+pub use Rattle.step_types.specs.{Plain.UserStep, Plain.PlainStep, Plain.with_handler, declared.Settings.Settings, declared.step.Step.Step}
 pub use Rattle.serde_json.proofs.Views.{get_member-put, get_member-put_other}
 pub use Rattle.serde_json.specs.{Data.Data, Data.Items, Data.Members, Data.array, Data.item, Data.member, Data.no_items, Data.no_members, Data.object, Data.put, Find.as_object, Find.get_member}
 pub use Rattle.serde_json.specs.{Events.items_len, Read.converted, Read.of_items, Read.of_json, Read.of_members, Read.read}

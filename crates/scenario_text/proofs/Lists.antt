@@ -1,6 +1,6 @@
 -- The rules and the steps of an array, so far.
 use Rattle.scenario_text.proofs.CommonNames.{◌≡◌, ◌+◌, ◌<◌, ◌≤◌, List, [], ◌∷◌, ◌++◌, length, Result, Ok, Err, ℕ, refl, sym, ◌∙◌, arith, cases_lt, nat_tests, append_assoc, append-nil, Data, Items}
-use Rattle.scenario_text.proofs.CommonNames.{no_items, item, items_len, Asked, Rule, Fault, KeyError, TooManyRules, Listed, RuleList, ◌>>=◌, each, IsListOf, pushed, rules_taken, taken, max_steps}
+use Rattle.scenario_text.proofs.CommonNames.{no_items, item, items_len, UserStep, Rule, Fault, KeyError, TooManyRules, Listed, RuleList, ◌>>=◌, each, IsListOf, pushed, rules_taken, taken, max_steps}
 use Rattle.scenario_text.proofs.CommonNames.{rule_of, policy_of, steps_from}
 
 -- the results before these, and one before those
@@ -61,7 +61,7 @@ many_rules front l h many = grind (arith, nat_tests, h.many many no_items)
 
 -- ---- steps
 
-abbrev pub later_steps : ℕ → Items → Result (List Asked) Fault
+abbrev pub later_steps : ℕ → Items → Result (List UserStep) Fault
 later_steps n ds = steps_from (n + 1) ds
 
 abbrev pub HasSteps : (Items → Items) → Listed → Type 0

@@ -1,6 +1,6 @@
 -- The scenario, or the first fault, of what was read of a scenario's members.
 use Rattle.scenario_text.proofs.CommonNames.{◌≡◌, ◌<◌, ◌≤◌, ℕ, ℤ, Bool, false, length, IfOk, List, None, Result, Ok, Err, arith, nat_tests, bytes_eq-Decides, bytes_eq, members_among-put, Data, Items}
-use Rattle.scenario_text.proofs.CommonNames.{Members, object, put, as_object, get_member-put, get_member-put_other, Settings, Asked, Fault, BadShape, TooManySteps, Memory, KeyError, Listed, atom_of}
+use Rattle.scenario_text.proofs.CommonNames.{Members, object, put, as_object, get_member-put, get_member-put_other, Settings, UserStep, Fault, BadShape, TooManySteps, Memory, KeyError, Listed, atom_of}
 use Rattle.scenario_text.proofs.CommonNames.{integer, items_of, AreRead, StepsAre, taken, Plan, max_steps, Yields, head_settings, head_of, plan_of}
 use Rattle.std.proofs.Common.{codes}
 
@@ -16,7 +16,7 @@ yields_fault view Memory plan is = tt
 yields_fault view e plan is = is
 
 -- the fault of the bounded steps
-pub steps_fail : (l : Listed) (steps : Result Listed KeyError) (kill : Result ℤ KeyError) (is_alone : Bool) (ms : Members) (settings : Settings) (r : Result (List Asked) Fault) (e : Fault) → AreRead steps kill is_alone ms
+pub steps_fail : (l : Listed) (steps : Result Listed KeyError) (kill : Result ℤ KeyError) (is_alone : Bool) (ms : Members) (settings : Settings) (r : Result (List UserStep) Fault) (e : Fault) → AreRead steps kill is_alone ms
     → steps ≡ Ok l → head_settings kill is_alone ≡ Ok settings → (max_steps < l.count → r ≡ Err TooManySteps) → (l.count ≤ max_steps → r ≡ taken l) → r ≡ Err e → plan_of (object ms) ≡ Err e
 unfolding plan_of head_of
 steps_fail l steps kill is_alone ms settings r e h is good many few failed = grind (arith, nat_tests)

@@ -1,5 +1,5 @@
 -- Steps with separate policies.
-use Rattle.scenario_text.proofs.CommonNames.{⊤, ◌≡◌, ℕ, List, [], ◌∷◌, ◌++◌, length, map, Some, refl, ap, ap₂, subst, ◌∙◌, arith, Rule, Step, PlainStep, with_handler, Asked, asked, with_policies}
+use Rattle.scenario_text.proofs.CommonNames.{⊤, ◌≡◌, ℕ, List, [], ◌∷◌, ◌++◌, length, map, Some, refl, ap, ap₂, subst, ◌∙◌, arith, Rule, Step, PlainStep, with_handler, UserStep, asked, with_policies}
 use Rattle.scenario_text.proofs.CommonNames.{first_policy, policies_after, policies_in, policy_before, with_installed, user_and_step}
 
 -- a step with a handler
@@ -31,7 +31,7 @@ with_policies_more (t ∷ rest) ps u s e =
 before_more : (s : PlainStep) (ps more : List (List Rule)) → policy_before s (ps ++ more) ≡ policy_before s ps ++ more
 before_more s ps more = grind arith
 
-pub policies_more : (xs : List Asked) (x : Asked) → policies_in (xs ++ x ∷ []) ≡ policies_in xs ++ policy_before x.step []
+pub policies_more : (xs : List UserStep) (x : UserStep) → policies_in (xs ++ x ∷ []) ≡ policies_in xs ++ policy_before x.step []
 policies_more [] x = refl
 policies_more (a ∷ rest) x = ap (policy_before a.step) (policies_more rest x) ∙ before_more a.step (policies_in rest) (policy_before x.step [])
 
@@ -39,6 +39,6 @@ pub length_with_policies : (ss : List (ℕ × Step ⊤)) (ps : List (List Rule))
 length_with_policies [] ps = refl
 length_with_policies (s ∷ rest) ps = let more = length_with_policies rest (policies_after s.1 ps) in omega (arith, more)
 
-pub asked_again : (xs : List Asked) → map asked (map user_and_step xs) ≡ xs
+pub asked_again : (xs : List UserStep) → map asked (map user_and_step xs) ≡ xs
 asked_again [] = refl
 asked_again (a ∷ rest) = ap (λ ys. a ∷ ys) (asked_again rest)

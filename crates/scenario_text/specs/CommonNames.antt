@@ -6,7 +6,7 @@ pub use Rattle.event_masks.specs.{Exits.both, Exits.mask_with, Exits.no_events, 
 pub use Rattle.event_masks.specs.declared.Call.{Call}
 pub use Rattle.json.specs.{Json.value, Token.Token, declared.reader.Invalid.Invalid}
 pub use Rattle.json_values.specs.{Reading.integer_in, Reading.members_among, Reading.read_items, Reading.read_members, Reading.text_in, declared.scalars.Scalar.Scalar}
-pub use Rattle.step_types.specs.{Plain.Asked, Plain.PlainStep, Status.no_options, declared.Act.Act, declared.Options.Options, declared.Request.Request}
+pub use Rattle.step_types.specs.{Plain.UserStep, Plain.PlainStep, Status.no_options, declared.Act.Act, declared.Options.Options, declared.Request.Request}
 pub use Rattle.step_types.specs.{declared.Settings.Settings}
 pub use Rattle.serde_json.specs.{Data.Data, Data.Items, Data.Members, Data.item, Data.member, Data.no_items, Data.no_members, Data.object, Events.items_len, Read.converted, Read.of_json, Read.read}
 pub use Rattle.serde_json.specs.Find.{as_array, as_i64, as_number, as_str, get_member}

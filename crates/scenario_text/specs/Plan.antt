@@ -1,17 +1,17 @@
 -- A scenario.
 use Rattle.std.specs.Prelude.{⊤, ℕ, List, [], ◌∷◌, Option, Some, None}
 use Rattle.stop_handlers.specs.declared.Rule.{Rule}
-use Rattle.step_types.specs.{Plain.Asked, Plain.PlainStep, Plain.map_handler, declared.Settings.Settings, declared.step.Step.Step, declared.step.Step.TheVariants.Install}
+use Rattle.step_types.specs.{Plain.UserStep, Plain.PlainStep, Plain.map_handler, declared.Settings.Settings, declared.step.Step.Step, declared.step.Step.TheVariants.Install}
 
 -- the settings of the host, and the steps in order
 pub record Plan : Type 0 where
   pub settings : Settings
-  pub steps : List Asked
+  pub steps : List UserStep
 
 abbrev pub max_steps : ℕ
 max_steps = 100000
 
-abbrev pub asked : ℕ × PlainStep → Asked
+abbrev pub asked : ℕ × PlainStep → UserStep
 asked s = record { uid = s.0; step = s.1 }
 
 -- the policies of the installs, in order
@@ -19,7 +19,7 @@ abbrev pub policy_before : PlainStep → List (List Rule) → List (List Rule)
 policy_before (Install caller policy) others = policy ∷ others
 policy_before s others = others
 
-abbrev pub policies_in : List Asked → List (List Rule)
+abbrev pub policies_in : List UserStep → List (List Rule)
 policies_in [] = []
 policies_in (a ∷ rest) = policy_before a.step (policies_in rest)
 
@@ -43,7 +43,7 @@ policies_after (Install caller own) policies = other_policies policies
 policies_after s policies = policies
 
 -- the steps, each install with the next policy
-abbrev pub with_policies : List (ℕ × Step ⊤) → List (List Rule) → List Asked
+abbrev pub with_policies : List (ℕ × Step ⊤) → List (List Rule) → List UserStep
 with_policies [] policies = []
 with_policies (s ∷ rest) policies = record { uid = s.0; step = with_installed (first_policy policies) s.1 } ∷ with_policies rest (policies_after s.1 policies)
 
@@ -52,5 +52,5 @@ first [] = None
 first (policy ∷ others) = Some policy
 
 -- a step with its user
-abbrev pub user_and_step : Asked → ℕ × PlainStep
+abbrev pub user_and_step : UserStep → ℕ × PlainStep
 user_and_step a = (a.uid, a.step)

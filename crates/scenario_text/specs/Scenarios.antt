@@ -1,7 +1,7 @@
 -- The scenario or the fault of some bytes.
 use Rattle.std.specs.Prelude.{◌≡◌, ◌⊎◌, ◌+◌, ◌<◌, ◌≤◌, ◌==◌, ◌∷◌, ◌++◌, if◌then◌else◌}
 use Rattle.scenario_text.specs.CommonNames.{⊤, ℕ, Bool, nat_lt, ℤ, pos, List, [], length, Option, Some, None, Result, Ok, Err, codes, IsUtf8, Consumes, members_among, Data, Items, object, items_len}
-use Rattle.scenario_text.specs.CommonNames.{get_member, read, Settings, Asked, Fault, Read, TooLong, BadJson, TooManySteps, BadShape, BadUser, BadName, BadNumber, TooManyRules, Memory, KeyError, Plan}
+use Rattle.scenario_text.specs.CommonNames.{get_member, read, Settings, UserStep, Fault, Read, TooLong, BadJson, TooManySteps, BadShape, BadUser, BadName, BadNumber, TooManyRules, Memory, KeyError, Plan}
 use Rattle.scenario_text.specs.CommonNames.{max_steps}
 use Rattle.scenario_text.specs.{Fields.◌>>=◌, Fields.atom_of, Fields.integer, Fields.items_of, Fields.required, Fields.optional, Fields.each, Fields.within, Fields.seen, Steps.step_of}
 use Rattle.scenario_text.specs.declared.fields.KeyError.TheVariants as flaws
@@ -18,7 +18,7 @@ abbrev pub numbered : {X : Type 0} → ℕ → Result X KeyError → Result X Fa
 numbered n (Ok x) = Ok x
 numbered n (Err flaw) = Err (at_step n flaw)
 
-abbrev pub steps_from : ℕ → Items → Result (List Asked) Fault
+abbrev pub steps_from : ℕ → Items → Result (List UserStep) Fault
 steps_from n ds = each (λ k d. numbered k (step_of d)) n ds
 
 -- the value of `kill_on_debugger_exit`, 0 or 1

@@ -1,5 +1,5 @@
 -- A step of a scenario, from its JSON value. Its keys are checked one by one, and the first failure is the flaw.
-use Rattle.scenario_text.specs.CommonNames.{ℕ, List, Option, Result, Ok, Err, codes, Data, Members, object, get_member, PlainStep, Call, Act, Request, no_options, Asked, Fields, KeyError, Shape, User}
+use Rattle.scenario_text.specs.CommonNames.{ℕ, List, Option, Result, Ok, Err, codes, Data, Members, object, get_member, PlainStep, Call, Act, Request, no_options, UserStep, Fields, KeyError, Shape, User}
 use Rattle.scenario_text.specs.CommonNames.{Number, Keys, ActKind, CallKind, Op}
 use Rattle.scenario_text.specs.Fields.{◌>>=◌, Atom, atom_of, integer, within, word, name_in, required, optional, options_of, mask_of, set_of}
 use Rattle.scenario_text.specs.{Keys.◌∪◌, Keys.keys_in, Keys.with_only, Names.op_named, Names.disposition_named, Names.act_named, Names.call_named, Names.request_named, Rules.rules_of}
@@ -136,13 +136,13 @@ rest_of ops.Turn f = do
   act ← act_of kind f
   Ok (plain.Turn lwp act)
 
-unfoldable pub step_from : Fields → Result Asked KeyError
+unfoldable pub step_from : Fields → Result UserStep KeyError
 step_from f = do
   user ← f.user
   op ← f.op
   step ← rest_of op f
   Ok (record { uid = user; step = step })
 
-abbrev pub step_of : Data → Result Asked KeyError
+abbrev pub step_of : Data → Result UserStep KeyError
 step_of (object ms) = step_from (fields_in ms)
 step_of d = Err Shape

@@ -2,7 +2,7 @@
 -- that is one value.
 use Rattle.std.specs.Prelude.{◌≡◌, ◌<◌, ◌≤◌, ◌∷◌, ◌++◌}
 use Rattle.scenario_text.specs.CommonNames.{ℕ, List, Option, Some, None, Result, Ok, Err, ⊤, ℤ, pos, [], Bool, false, length, codes, take, option_map, bytes_eq, value, Token, Invalid, read_items}
-use Rattle.scenario_text.specs.CommonNames.{read_members, members_among, Data, Items, Members, of_json, converted, items_len, get_member, Asked, Rule, Fields, Key, RuleFields, Fault, KeyError, Listed}
+use Rattle.scenario_text.specs.CommonNames.{read_members, members_among, Data, Items, Members, of_json, converted, items_len, get_member, UserStep, Rule, Fields, Key, RuleFields, Fault, KeyError, Listed}
 use Rattle.scenario_text.specs.CommonNames.{ScenarioKey, RuleList, Stop, max_steps}
 use Rattle.scenario_text.specs.Fields.{Atom, atom_of, integer, word, name_in, items_of, required, optional, options_of, mask_of, set_of, flags_of, ◌>>=◌}
 use Rattle.scenario_text.specs.{Keys.◌∪◌, Keys.key_set, Steps.user_in, Scenarios.at_step, Scenarios.steps_from}
@@ -53,7 +53,7 @@ unless None x = Ok x
 unless (Some flaw) x = Err flaw
 
 -- the steps so far, or the fault of the first that has one
-abbrev pub taken : Listed → Result (List Asked) Fault
+abbrev pub taken : Listed → Result (List UserStep) Fault
 taken l = unless (option_map (λ flaw. at_step flaw.0 flaw.1) l.flaw) l.steps
 
 -- the list is that of an array with these items; of more than `max_steps` items it only says so

@@ -22,10 +22,10 @@ pub struct StepList {
 
 impl Model for StepList {
     ghost use Rattle.std.specs.Prelude.{◌≡◌, List};
-    ghost use Rattle.step_types.specs.Plain.{Asked};
+    ghost use Rattle.step_types.specs.Plain.{UserStep};
     ghost use Rattle.scenario_text.specs.Plan.{with_policies, policies_in};
 
-    ghost Value = { List Asked };
+    ghost Value = { List UserStep };
 
     ghost view = { λ l. with_policies l.bare_steps.items l.policies.items };
 

@@ -9,7 +9,7 @@ pub use Rattle.host_lock.specs.Sessions.{HostData, InJournal, IsBelow, IsOf, Mak
 pub use Rattle.host_lock.specs.declared.journal.Entry.{Entry}
 pub use Rattle.requests.proofs.SoundHostIsApart.{users_are_apart_in_a_sound_host}
 pub use Rattle.requests.specs.Machine.{Machine}
-pub use Rattle.step_types.specs.{Plain.Asked, Plain.PlainStep, Replies.is_memory}
+pub use Rattle.step_types.specs.{Plain.UserStep, Plain.PlainStep, Replies.is_memory}
 pub use Rattle.requests.specs.Run.{asked_by, last, replies}
 pub use Rattle.requests.specs.View.{View, alone, view, with_view}
 pub use Rattle.sessions.specs.Boxed.{boxed_script, report_of, steps_of, uid_of}

@@ -1,6 +1,6 @@
 -- What each user's entries in a legal journal are.
 use Rattle.std.proofs.Common.{◌≡◌, ℕ, true, List, [], ◌∷◌, map, refl, sym, ap, ◌∙◌, arith}
-use Rattle.sessions.proofs.CommonNames.{Machine, Asked, asked_by, replies, last, alone, view, users_are_apart_in_a_sound_host, Entry, asked, IsLegal, entries_by, OwnEntries, RanBy}
+use Rattle.sessions.proofs.CommonNames.{Machine, UserStep, asked_by, replies, last, alone, view, users_are_apart_in_a_sound_host, Entry, asked, IsLegal, entries_by, OwnEntries, RanBy}
 use Rattle.step_types.specs.declared.Reply.{Reply}
 use Rattle.requests.specs.Isolation.{Users, replies_to}
 use Rattle.requests.specs.Sound.{sound}
@@ -19,8 +19,8 @@ pub own_entries : (m : Machine) (log : List Entry) → sound m ≡ true → User
 own_entries m log is users legal u user =
     let law = own_list_law m u (asked log) user users (users_are_apart_in_a_sound_host m is) in
     let steps = asked_own u log in (
-      sym (replies_own u log) ∙ ap (replies_to u (asked log)) legal.replies_given ∙ law.0 ∙ ap (λ (l : List Asked). replies l (alone u m)) steps,
-      law.1 ∙ ap (λ (l : List Asked). view u (last l (alone u m))) steps,
+      sym (replies_own u log) ∙ ap (replies_to u (asked log)) legal.replies_given ∙ law.0 ∙ ap (λ (l : List UserStep). replies l (alone u m)) steps,
+      law.1 ∙ ap (λ (l : List UserStep). view u (last l (alone u m))) steps,
     )
 
 -- a run of no scripts

@@ -1,6 +1,6 @@
 -- What two runs of scripts give a user.
 use Rattle.std.proofs.Common.{◌≡◌, ℕ, ◌<◌, Bool, true, false, ◌==◌, if◌then◌else◌, List, [], ◌∷◌, length, map, filter, Some, Vec, Global, vec_len, slice_get, slice_index_or, sym, refl, ap, ap₂, ◌∙◌, subst, arith, All, eq-eqb}
-use Rattle.sessions.proofs.CommonNames.{AllByRecursion, nat_tests, recursion_from_All, PlainStep, Machine, is_memory, Asked, replies, last, View, view, with_view, alone}
+use Rattle.sessions.proofs.CommonNames.{AllByRecursion, nat_tests, recursion_from_All, PlainStep, Machine, is_memory, UserStep, replies, last, View, view, with_view, alone}
 use Rattle.sessions.proofs.CommonNames.{users_are_apart_in_a_sound_host, Entry, asked, entries_of, IsBelow, Transcript, made, Plays, AllPlay, entries_by, plain_script, whole}
 use Rattle.std.proofs.lemmas.Option.{slice_get-get_or, get_or_from_slice_get, slice_get_within}
 use Rattle.step_types.specs.declared.Reply.{Reply}
@@ -10,7 +10,7 @@ use Rattle.sessions.specs.Schedules.{IsOnlyScript, IsAnswered, EverySchedule, Al
 
 -- The steps of one user's entries
 
-asked_mine : (u : ℕ) (log : List Entry) → AllByRecursion (λ (a : Asked). a.uid ≡ u) (asked (entries_by u log))
+asked_mine : (u : ℕ) (log : List Entry) → AllByRecursion (λ (a : UserStep). a.uid ≡ u) (asked (entries_by u log))
 asked_mine u [] = tt
 asked_mine u (e ∷ es) = grind (arith, nat_tests, asked_mine u es)
 
@@ -50,7 +50,7 @@ made_all u n [] (r ∷ rs) len none = absurd (omega arith)
 made_all u n (s ∷ ss) [] len none = absurd (omega arith)
 made_all u n (s ∷ ss) (r ∷ rs) len none =
     let rest = made_all u n ss rs (omega arith) none.1 in
-    rw none.0 (ap (λ (xs : List Asked). record { uid = u; step = s } ∷ xs) rest.0, ap (λ (qs : List Reply). r ∷ qs) rest.1)
+    rw none.0 (ap (λ (xs : List UserStep). record { uid = u; step = s } ∷ xs) rest.0, ap (λ (qs : List Reply). r ∷ qs) rest.1)
 
 same_tests : (u i : ℕ) (e : Entry) → (e.uid ≡ u → e.session ≡ i) → (e.session ≡ i → e.uid ≡ u) → (e.uid == u) ≡ (e.session == i)
 same_tests u i e there back = grind (arith, nat_tests, there, back)
@@ -97,7 +97,7 @@ every_schedule F m n scripts others k l log journal ts ws a b u i j s z t w user
     let second = b.own u user in
     let from : alone u m ≡ alone u n = ap (with_view u) same in (
       sym mine.1 ∙ first.0 ∙ ap₂ replies asks from ∙ sym second.0 ∙ theirs.1,
-      ap (view u) a.host ∙ first.1 ∙ ap₂ (λ (xs : List Asked) (h : Machine). view u (last xs h)) asks from ∙ sym second.1 ∙ sym (ap (view u) b.host),
+      ap (view u) a.host ∙ first.1 ∙ ap₂ (λ (xs : List UserStep) (h : Machine). view u (last xs h)) asks from ∙ sym second.1 ∙ sym (ap (view u) b.host),
     )
   where
     below : (ss : Vec (Script F) Global) (es : List Entry) → All (IsBelow (vec_len ss)) es → AllByRecursion (λ (e : Entry). e.session < length ss.items) es

@@ -62,7 +62,7 @@ pub fn run_sessions<
         return Err(RunRefusal::TooMany);
     }
     if scripts.is_empty() {
-        host.kept();
+        host.assert_invariant();
         let log = K::Log::empty(alloc);
         return Ok((host, K::of_log(log), Vec::new(alloc)));
     }
@@ -108,7 +108,7 @@ fn play<
     ensures reports { IfOk result (λ r. AllTell T.tells (map report_of scripts.items) r.transcripts.items) }
     ensures refuses { IfErr result (RefusesFor (vec_len scripts)) }
 {
-    host.kept();
+    host.assert_invariant();
     let Ok(ready) = prepare(alloc, host, scripts) else {
         return Err(RunRefusal::Memory);
     };

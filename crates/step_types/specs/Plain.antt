@@ -51,6 +51,6 @@ installs (Step.Install caller policy) = true
 installs s = false
 
 -- a step and its user
-pub record Asked : Type 0 where
+pub record UserStep : Type 0 where
   pub uid : ℕ
   pub step : PlainStep

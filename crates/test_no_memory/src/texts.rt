@@ -38,7 +38,7 @@ fn shown(user: &Option<Uid>) -> RunOptions {
 
 /// The lines of one run: those of this user or of all users, with threads or without.
 #[derive(Drop)]
-struct Asked {
+struct UserStep {
     user: Option<Uid>,
     threads: bool,
 }
@@ -48,7 +48,7 @@ fn run_into<R: Threads + Wait + Sync>(
     rt: &R,
     case: &Case<'_>,
     handlers: Vec<Handler<ByPolicy>>,
-    asked: &Asked,
+    asked: &UserStep,
     writer: &mut Vec<u8>,
 ) -> Result<(), RunFault> {
     let options = shown(&asked.user);
@@ -64,7 +64,7 @@ fn is_run<R: Threads + Wait + Sync>(
     rt: &R,
     case: &Case<'_>,
     text: &[u8],
-    asked: &Asked,
+    asked: &UserStep,
 ) -> Result<bool, TestError> {
     let mut writer = room(case.alloc, ROOM)?;
     let handlers = handlers(case)?;
@@ -77,7 +77,7 @@ fn check_text<R: Threads + Wait + Sync>(
     rt: &R,
     case: &Case<'_>,
     text: &[u8],
-    asked: &Asked,
+    asked: &UserStep,
 ) -> Result<(), TestError> {
     retry!(Some(done) = is_run(rt, case, text, asked)?.then_some(()))
 }
@@ -96,7 +96,7 @@ fn check_user<R: Threads + Wait + Sync>(
     threads: bool,
 ) -> Result<(), TestError> {
     let text = lines(case.alloc, made, &user)?;
-    let asked = Asked { user, threads };
+    let asked = UserStep { user, threads };
     check_text(rt, case, text.as_bytes(), &asked)
 }
 

@@ -15,14 +15,14 @@ use std::alloc::AllocError;
 fn has(tables: &Tables, number: u32) -> bool
     ensures { result ≡ is_process tables.now.rows number }
 {
-    tables.numbered(number).is_some()
+    tables.process_by_number(number).is_some()
 }
 
 /// Returns whether the user has the process.
 fn owns_process(tables: &Tables, uid: Uid, pid: Pid) -> bool
     ensures { result ≡ owns uid pid tables.now.rows.processes }
 {
-    tables.seen_process(uid, pid.get()).is_some()
+    tables.visible_process(uid, pid.get()).is_some()
 }
 
 /// Returns whether the tracer, if there is one, is a process.

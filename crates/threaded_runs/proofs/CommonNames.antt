@@ -5,7 +5,7 @@ pub use Rattle.pid_blocks.specs.Blocks.{rising, slot, users}
 pub use Rattle.pid_blocks.specs.Users.{IsUser}
 pub use Rattle.requests.specs.Isolation.{Users}
 pub use Rattle.requests.specs.Machine.{Machine, empty}
-pub use Rattle.step_types.specs.{Plain.Asked, Plain.PlainStep, declared.Reply.Reply}
+pub use Rattle.step_types.specs.{Plain.UserStep, Plain.PlainStep, declared.Reply.Reply}
 pub use Rattle.requests.specs.Run.{asked_by, replies}
 pub use Rattle.requests.specs.View.{alone}
 pub use Rattle.row_isolation.proofs.FilteredLists.{All-map, All-where}

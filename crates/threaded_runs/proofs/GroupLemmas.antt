@@ -1,6 +1,6 @@
 -- The lines of one user, and the lines grouped by user.
 use Rattle.std.proofs.Common.{◌≡◌, ◌≢◌, ℕ, ◌+◌, ◌<◌, ◌≤◌, zero, suc, List, [], ◌∷◌, ◌++◌, map, Option, Some, None, refl, sym, ap, ap₂, ◌∙◌, inl, inr, arith}
-use Rattle.threaded_runs.proofs.CommonNames.{concat, AllByRecursion, cases_eq, nat_tests, rising, users, IsUser, Reply, Users, empty, Asked, asked_by, replies}
+use Rattle.threaded_runs.proofs.CommonNames.{concat, AllByRecursion, cases_eq, nat_tests, rising, users, IsUser, Reply, Users, empty, UserStep, asked_by, replies}
 use Rattle.threaded_runs.proofs.CommonNames.{alone, Answered, lines, lines_after, lines_of, text_of, answers_by, shown_grouped, told_to, Plan, Style, paired, shown}
 use Rattle.std.proofs.lemmas.List.{append-nil}
 use Rattle.requests.specs.Isolation.{replies_to as replies_of}
@@ -68,7 +68,7 @@ shown_by_users style (Some u) answers known =
     ∙ shown_own style u answers
 
 -- the answers of one user in a list of all users' answers
-pub own_answers : (u : ℕ) (xs : List Asked) (rs : List Reply) → answers_by u (paired xs rs) ≡ told_to u (replies_of u xs rs)
+pub own_answers : (u : ℕ) (xs : List UserStep) (rs : List Reply) → answers_by u (paired xs rs) ≡ told_to u (replies_of u xs rs)
 own_answers u [] rs = refl
 own_answers u (x ∷ xs) [] = refl
 own_answers u (x ∷ xs) (r ∷ rs) = grind (arith, nat_tests, own_answers u xs rs)
@@ -80,7 +80,7 @@ alone_answers u plan user all =
     own_answers u plan.steps (replies plan.steps (empty plan.settings))
     ∙ ap (told_to u) (own_list_law (empty plan.settings) u plan.steps user all (users_are_apart_at_first plan.settings)).0
 
-pub users_answered : (xs : List Asked) (rs : List Reply) → Users xs → ToUsers (paired xs rs)
+pub users_answered : (xs : List UserStep) (rs : List Reply) → Users xs → ToUsers (paired xs rs)
 users_answered [] rs all = tt
 users_answered (x ∷ xs) [] all = tt
 users_answered (x ∷ xs) (r ∷ rs) all = (all.0, users_answered xs rs all.1)

@@ -1,9 +1,9 @@
 -- Scripts of users: in rising order, each with its user's steps.
 use Rattle.std.proofs.Common.{◌≡◌, ℕ, zero, suc, ◌+◌, ◌<◌, ◌≤◌, ◌==◌, false, List, [], ◌∷◌, length, get_or, map, filter, refl, arith}
-use Rattle.threaded_runs.proofs.CommonNames.{concat, flat_map, AllByRecursion, nat_tests, length-map, rising, users, IsUser, PlainStep, Asked, asked_by, All-where, All-map, Answered, answers_by, steps_of, has_steps, scripts_in}
+use Rattle.threaded_runs.proofs.CommonNames.{concat, flat_map, AllByRecursion, nat_tests, length-map, rising, users, IsUser, PlainStep, UserStep, asked_by, All-where, All-map, Answered, answers_by, steps_of, has_steps, scripts_in}
 use Rattle.std.proofs.lemmas.List.Sums.{length-filter, count_by-le-length}
 
-abbrev pub script_of : List Asked → ℕ → ℕ × List PlainStep
+abbrev pub script_of : List UserStep → ℕ → ℕ × List PlainStep
 script_of list u = (u, steps_of u list)
 
 -- users that rise from m on
@@ -15,7 +15,7 @@ rising_weaker : (m : ℕ) (ss : List (ℕ × List PlainStep)) → RisingFrom (m 
 rising_weaker m [] rises = tt
 rising_weaker m (s ∷ rest) rises = (omega (arith, rises.0), rises.1)
 
-pub rising_scripts : (n m : ℕ) (list : List Asked) → RisingFrom m (filter has_steps (map (script_of list) (rising n m)))
+pub rising_scripts : (n m : ℕ) (list : List UserStep) → RisingFrom m (filter has_steps (map (script_of list) (rising n m)))
 rising_scripts zero m list = tt
 rising_scripts (suc n) m list = let later = rising_scripts n (m + 1) list in grind (arith, later, rising_weaker m _ later)
 
@@ -39,11 +39,11 @@ pub one_script : (m : ℕ) (ss : List (ℕ × List PlainStep)) (i j : ℕ) → R
 one_script m ss i j rises hi hj same = grind (arith, same, rises_at m ss i j rises, rises_at m ss j i rises)
 
 -- a script has its user's steps, all of them, and its user is one
-own_steps : (u : ℕ) (list : List Asked) → map (λ s. record { uid = u; step = s }) (steps_of u list) ≡ asked_by u list
+own_steps : (u : ℕ) (list : List UserStep) → map (λ s. record { uid = u; step = s }) (steps_of u list) ≡ asked_by u list
 own_steps u [] = refl
 own_steps u (a ∷ rest) = grind (arith, nat_tests, own_steps u rest)
 
-pub record IsScript (list : List Asked) (s : ℕ × List PlainStep) : Type 0 where
+pub record IsScript (list : List UserStep) (s : ℕ × List PlainStep) : Type 0 where
   pub user : IsUser s.0
   pub steps : map (λ step. record { uid = s.0; step = step }) s.1 ≡ asked_by s.0 list
   pub short : length s.1 ≤ length list
@@ -52,25 +52,25 @@ all_users : (n m : ℕ) → 1001 ≤ m → m + n ≤ 1065 → AllByRecursion IsU
 all_users zero m low high = tt
 all_users (suc n) m low high = ((omega arith, omega arith), all_users n (m + 1) (omega arith) (omega arith))
 
-pub are_scripts : (list : List Asked) → AllByRecursion (IsScript list) (scripts_in list)
+pub are_scripts : (list : List UserStep) → AllByRecursion (IsScript list) (scripts_in list)
 are_scripts list =
     All-where has_steps (IsScript list) (IsScript list) (λ s is has. is) (map (script_of list) users)
     (All-map (script_of list) IsUser (IsScript list) (λ u user. record {
       user = user;
       steps = own_steps u list;
-      short = omega (arith, count_by-le-length (λ a. a.uid == u) list, length-filter (λ a. a.uid == u) list, length-map (asked_by u list) (λ (a : Asked). a.step));
+      short = omega (arith, count_by-le-length (λ a. a.uid == u) list, length-filter (λ a. a.uid == u) list, length-map (asked_by u list) (λ (a : UserStep). a.step));
     }) users (all_users 64 1001 (omega arith) (omega arith)))
 
-pub few_scripts : (list : List Asked) → length (scripts_in list) ≤ 64
+pub few_scripts : (list : List UserStep) → length (scripts_in list) ≤ 64
 few_scripts list = omega (arith, count_by-le-length has_steps (map (script_of list) users), length-filter has_steps (map (script_of list) users))
 
 -- users without a script have no answers
-no_steps : (u : ℕ) (list : List Asked) → has_steps (script_of list u) ≡ false → asked_by u list ≡ []
+no_steps : (u : ℕ) (list : List UserStep) → has_steps (script_of list u) ≡ false → asked_by u list ≡ []
 no_steps u [] none = refl
 no_steps u (a ∷ rest) none = grind (arith, none, no_steps u rest)
 
 -- so they add nothing to what is shown of each script's user
-pub shown_scripts : (shows : List Answered → List ℕ) (n m : ℕ) (list : List Asked) (answers : List Answered) → shows [] ≡ [] → ((u : ℕ) → asked_by u list ≡ [] → answers_by u answers ≡ [])
+pub shown_scripts : (shows : List Answered → List ℕ) (n m : ℕ) (list : List UserStep) (answers : List Answered) → shows [] ≡ [] → ((u : ℕ) → asked_by u list ≡ [] → answers_by u answers ≡ [])
     → flat_map shows (map (λ s. answers_by s.0 answers) (filter has_steps (map (script_of list) (rising n m)))) ≡ concat (map (λ u. shows (answers_by u answers)) (rising n m))
 shown_scripts shows zero m list answers nothing none = refl
 shown_scripts shows (suc n) m list answers nothing none =

@@ -1,6 +1,6 @@
 -- Each transcript of a run by sessions has the machine's answers to its user.
 use Rattle.std.proofs.Common.{◌≡◌, ℕ, suc, ◌<◌, ◌==◌, false, List, [], ◌∷◌, length, get_or, map, refl, sym, subst, ap, ap₂, ◌∙◌, arith}
-use Rattle.threaded_runs.proofs.CommonNames.{AllByRecursion, nat_tests, get_or-map, All-from_recursion, PlainStep, Reply, Users, empty, Asked, asked_by, replies}
+use Rattle.threaded_runs.proofs.CommonNames.{AllByRecursion, nat_tests, get_or-map, All-from_recursion, PlainStep, Reply, Users, empty, UserStep, asked_by, replies}
 use Rattle.threaded_runs.proofs.CommonNames.{alone, Entry, entries_by, OwnEntries, Plan, answers_by, answers_by_scripts, scripts_in, told_to, All-both}
 use Rattle.requests.specs.Isolation.{replies_to}
 use Rattle.step_types.specs.Replies.{is_memory}
@@ -83,7 +83,7 @@ joined f g (x ∷ xs) [] long same = absurd (omega arith)
 joined f g (x ∷ xs) (y ∷ ys) long same = let here = same 0 x y (omega arith) in let later = joined f g xs ys (omega arith) (λ k a b h. same (suc k) a b (omega arith)) in cc
 
 -- a user without steps has no answers
-no_replies : (u : ℕ) (xs : List Asked) (rs : List Reply) → asked_by u xs ≡ [] → replies_to u xs rs ≡ []
+no_replies : (u : ℕ) (xs : List UserStep) (rs : List Reply) → asked_by u xs ≡ [] → replies_to u xs rs ≡ []
 no_replies u [] rs none = refl
 no_replies u (x ∷ xs) [] none = refl
 no_replies u (x ∷ xs) (r ∷ rs) none = grind (arith, none, no_replies u xs rs)

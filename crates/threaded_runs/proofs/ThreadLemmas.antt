@@ -1,6 +1,6 @@
 -- One script more, one step more, one transcript more.
 use Rattle.std.proofs.Common.{◌≡◌, ◌≢◌, ℕ, zero, suc, ◌+◌, ◌-◌, ◌<◌, ◌≤◌, ◌==◌, cond, not, List, [], ◌∷◌, ◌++◌, length, get_or, map, filter, refl, sym, ap, ap₂, ◌∙◌, inl, inr, arith}
-use Rattle.threaded_runs.proofs.CommonNames.{set, length-map, map-append, map-set, get_or-map, cases_lt, nat_tests, rising, users, slot, IsUser, PlainStep, Asked, BoxedScript, boxed_script, own_step, has_steps, some_steps, steps_of}
+use Rattle.threaded_runs.proofs.CommonNames.{set, length-map, map-append, map-set, get_or-map, cases_lt, nat_tests, rising, users, slot, IsUser, PlainStep, UserStep, BoxedScript, boxed_script, own_step, has_steps, some_steps, steps_of}
 use Rattle.std.proofs.lemmas.List.{append-nil}
 use Rattle.requests.proofs.IsolationLaws.{at_slot}
 use Rattle.scenario_text.specs.Plan.{asked}
@@ -42,17 +42,17 @@ set_user {X} f g (suc n) m u least most other = elim (cases_lt m u) [
 ]
 
 -- one step more of all, and of a user
-steps_more : (w : ℕ) (done : List Asked) (a : Asked) → steps_of w (done ++ a ∷ []) ≡ steps_of w done ++ cond (a.uid == w) (a.step ∷ []) []
+steps_more : (w : ℕ) (done : List UserStep) (a : UserStep) → steps_of w (done ++ a ∷ []) ≡ steps_of w done ++ cond (a.uid == w) (a.step ∷ []) []
 steps_more w [] a = grind (arith)
 steps_more w (d ∷ done) a = grind (arith, steps_more w done a)
 
-one_asked : (done : List Asked) (a : Asked) → IsUser a.uid
+one_asked : (done : List UserStep) (a : UserStep) → IsUser a.uid
     → set (map (script_of done) users) (slot a.uid) (a.uid, steps_of a.uid done ++ a.step ∷ []) ≡ map (script_of (done ++ a ∷ [])) users
 one_asked done a user =
     let mine : steps_of a.uid (done ++ a ∷ []) ≡ steps_of a.uid done ++ a.step ∷ [] = grind (arith, nat_tests, steps_more a.uid done a) in
     rw (← mine) (set_user (script_of done) (script_of (done ++ a ∷ [])) 64 1001 a.uid user.0 (omega arith) (λ w differ. grind (arith, nat_tests, steps_more w done a, append-nil (steps_of w done))))
 
-pub step_added : {F T : Type 0} (ss : List (BoxedScript F T)) (new d : BoxedScript F T) (done : List Asked) (u : ℕ) (s : PlainStep) → IsUser u → map boxed_script ss ≡ map (script_of done) users
+pub step_added : {F T : Type 0} (ss : List (BoxedScript F T)) (new d : BoxedScript F T) (done : List UserStep) (u : ℕ) (s : PlainStep) → IsUser u → map boxed_script ss ≡ map (script_of done) users
     → new.uid ≡ (get_or ss (slot u) d).uid → map own_step new.steps.items ≡ map own_step (get_or ss (slot u) d).steps.items ++ s ∷ []
     → map boxed_script (set ss (slot u) new) ≡ map (script_of (done ++ asked (u, s) ∷ [])) users
 step_added ss new d done u s user before named longer =

@@ -1,12 +1,12 @@
 -- A script for each user with steps, and the answers of its transcript.
 use Rattle.std.specs.{Prelude.{◌≡◌, ℕ, ◌+◌, ◌<◌, ◌^◌, Bool, true, false, List, [], ◌∷◌, length, map, filter, Option, IfSome, String, string_bytes}, Global.Global, List.AllByRecursion}
 use Rattle.{pid_blocks.specs.Blocks.users, requests.specs.{Run.{asked_by}}, sessions.specs.declared.script.Transcript.Transcript}
-use Rattle.step_types.specs.{Plain.Asked, Plain.PlainStep, Replies.is_memory, declared.Reply.Reply}
+use Rattle.step_types.specs.{Plain.UserStep, Plain.PlainStep, Replies.is_memory, declared.Reply.Reply}
 use Rattle.{scenario_text.specs.Plan.Plan, scenario.specs.{Lines.Answered, Runs.{answers_of, shown}, declared.running.RunOptions.RunOptions}, threaded_runs.specs.Grouped.answers_by}
 use Rattle.threaded_runs.specs.{Unseen.unseen_in, declared.lines.{LineReport.LineReport, LineDraft.LineDraft, UserLines.UserLines}}
 
 -- a user's steps, in order
-abbrev pub steps_of : ℕ → List Asked → List PlainStep
+abbrev pub steps_of : ℕ → List UserStep → List PlainStep
 steps_of u list = map (λ a. a.step) (asked_by u list)
 
 abbrev pub some_steps : List PlainStep → Bool
@@ -17,7 +17,7 @@ abbrev pub has_steps : ℕ × List PlainStep → Bool
 has_steps s = some_steps s.1
 
 -- each user with steps, by rising number, with these steps
-abbrev pub scripts_in : List Asked → List (ℕ × List PlainStep)
+abbrev pub scripts_in : List UserStep → List (ℕ × List PlainStep)
 scripts_in list = filter has_steps (map (λ u. (u, steps_of u list)) users)
 
 -- replies to a user

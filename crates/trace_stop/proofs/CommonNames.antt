@@ -2,7 +2,7 @@
 pub use Rattle.std.proofs.lemmas.Bool.{cases_Bool, cases_lt, le-leb, leb-false, leb-true, not-false}
 pub use Rattle.std.proofs.lemmas.Bool.Decides.{nat_tests}
 pub use Rattle.trace_stop.specs.CommonNames.{AllByRecursion, Bool, Differ, IfSome, InBlock, InCall, InOwnBlock, InOwnersBlock, IsSomeAnd, IsUser, List, LwpData, Mode, None, Option, PL_FLAG_EXITED}
-pub use Rattle.trace_stop.specs.CommonNames.{ProcData, Resumption, Rise, Rows, Run, SIGCHLD, SIGKILL, SIGTRAP, Settings, Shown, Some, State, Trace, User, VforkWait, Zombie, [], asks, bit, bit_and, change}
+pub use Rattle.trace_stop.specs.CommonNames.{ProcData, Resumption, Rise, Rows, Run, SIGCHLD, SIGKILL, SIGTRAP, Settings, StopInfo, Some, State, Trace, User, VforkWait, Zombie, [], asks, bit, bit_and, change}
 pub use Rattle.trace_stop.specs.CommonNames.{change_lwp, change_process, drop_lwp, each, ends, false, filter_map, if◌then◌else◌, in_block, is_job, is_live, is_none, is_numbered, is_run, is_some}
 pub use Rattle.trace_stop.specs.CommonNames.{is_this, length, list_all, list_any, lwp_count, lwp_count_of, lwp_of, map, map_lwps, no_events, no_flags, not, nothing, option_and_then, option_map, owner}
 pub use Rattle.trace_stop.specs.CommonNames.{pid_block, process_count, process_of, reporting, set_lwp, shows, slot, suc, tid_block, traces, true, users, without, zero, ℕ, ◌&&◌, ◌==◌, ◌||◌, ◌∷◌, ◌≡◌}

@@ -1,7 +1,7 @@
 -- A trace stop keeps rows sound.
 use Rattle.trace_stop.proofs.CommonNames.{every_found, nat_tests, AllByRecursion, IsSomeAnd, shows, PL_FLAG_EXITED, LwpData, lwp_of, ProcData, State, Trace, is_run, is_run_state, is_zombie_state, named_by, process_of, Rows, each, lwp_count, tracer_in}
 use Rattle.trace_stop.proofs.CommonNames.{tracer_of, tracers, stop, notified, names_own, IsLiveOf, FitProcess, FitLwp, IsSound, MayTell, Ready, FitOrReady, MayStop, ◌≡◌, ℕ, ◌≤◌, true, false, ◌==◌, if◌then◌else◌, Option, Some, None, IfSome}
-use Rattle.trace_stop.proofs.CommonNames.{is_some, refl, sym, ap, subst, arith, eqb-true, eq-eqb, bit_and, rules, Shown, lwp_of-tid, process_of-pid}
+use Rattle.trace_stop.proofs.CommonNames.{is_some, refl, sym, ap, subst, arith, eqb-true, eq-eqb, bit_and, rules, StopInfo, lwp_of-tid, process_of-pid}
 use Rattle.trace_stop.proofs.SoundAfterEdit.{Leaves, row_at, lives_after, each_alone}
 use Rattle.trace_stop.proofs.CommonLemmas.{both, All-imply, All-both, choose, Holds, Row, Beside, Same, Stay, Edit, nobody, sound_holds, lwp_is, none_gone, no_ring, stay, edit_holds, the_row, live_told, notified_sound}
 pub use Rattle.trace_stop.proofs.Every.{find_passes}
@@ -10,7 +10,7 @@ pub run_quiet : (s : State) → is_run_state s ≡ true → (named_by s ≡ None
 run_quiet s is = grind (arith, nat_tests)
 
 -- so an LWP of it may stop it
-pub sound_ready : (rows : Rows) (pid tid : ℕ) (shown : Shown) (p : ProcData) → IsSound rows → process_of pid rows.processes ≡ Some p → Ready p
+pub sound_ready : (rows : Rows) (pid tid : ℕ) (shown : StopInfo) (p : ProcData) → IsSound rows → process_of pid rows.processes ≡ Some p → Ready p
     → IsSomeAnd (lwp_of tid rows.lwps) (λ l. l.pid ≡ pid) → (shows shown.flags PL_FLAG_EXITED ≡ true → 2 ≤ lwp_count pid rows) → MayStop pid tid shown rows
 sound_ready rows pid tid shown p s at ready own exits =
     let processes : AllByRecursion (FitOrReady pid) rows.processes =
@@ -18,11 +18,11 @@ sound_ready rows pid tid shown p s at ready own exits =
     assumption
 
 -- and so may an LWP of a traced process that runs, which is ready
-pub may_stop : (rows : Rows) (pid tid : ℕ) (shown : Shown) (p : ProcData) → IsSound rows → process_of pid rows.processes ≡ Some p → is_run p ≡ true → is_some p.tracer ≡ true
+pub may_stop : (rows : Rows) (pid tid : ℕ) (shown : StopInfo) (p : ProcData) → IsSound rows → process_of pid rows.processes ≡ Some p → is_run p ≡ true → is_some p.tracer ≡ true
     → IsSomeAnd (lwp_of tid rows.lwps) (λ l. l.pid ≡ pid) → (shows shown.flags PL_FLAG_EXITED ≡ true → 2 ≤ lwp_count pid rows) → MayStop pid tid shown rows
 may_stop rows pid tid shown p s at run traced own exits = sound_ready rows pid tid shown p s at (let fit = every_found FitProcess (λ q. q.pid == pid) rows.processes p s.processes at in grind (arith, nat_tests, fit, run, traced)) own exits
 
-module _ (rows : Rows) (pid tid : ℕ) (shown : Shown) (p : ProcData) (l : LwpData) (at : process_of pid rows.processes ≡ Some p) (there : lwp_of tid rows.lwps ≡ Some l) (may : MayStop pid tid shown rows) where
+module _ (rows : Rows) (pid tid : ℕ) (shown : StopInfo) (p : ProcData) (l : LwpData) (at : process_of pid rows.processes ≡ Some p) (there : lwp_of tid rows.lwps ≡ Some l) (may : MayStop pid tid shown rows) where
   s : Holds (FitOrReady pid) FitLwp rows
   s = record { stands = may.stands; processes = may.processes; lwps = may.lwps }
 

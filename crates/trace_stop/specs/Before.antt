@@ -1,6 +1,6 @@
 -- What rows must satisfy before a change that makes them sound.
 use Rattle.std.specs.Prelude.{◌≡◌, ◌≢◌, ◌≤◌}
-use Rattle.trace_stop.specs.CommonNames.{ℕ, true, false, None, is_some, AllByRecursion, IsSomeAnd, shows, PL_FLAG_EXITED, LwpData, lwp_of, ProcData, is_live, reporting, Rows, lwp_count, Shown}
+use Rattle.trace_stop.specs.CommonNames.{ℕ, true, false, None, is_some, AllByRecursion, IsSomeAnd, shows, PL_FLAG_EXITED, LwpData, lwp_of, ProcData, is_live, reporting, Rows, lwp_count, StopInfo}
 use Rattle.trace_stop.specs.Facts.{FitProcess, FitLwp, WithOwner, MidStepInvariant}
 use Rattle.trace_stop.specs.Sound.{is_live_at}
 
@@ -34,7 +34,7 @@ abbrev pub FitOrReady : ℕ → ProcData → Type 0
 FitOrReady pid p = (p.pid ≢ pid → FitProcess p) × (p.pid ≡ pid → Ready p)
 
 -- rows that become sound when the LWP tid stops the process pid. An LWP that shows its exit isn't the last one
-pub record MayStop (pid tid : ℕ) (shown : Shown) (rows : Rows) : Type 0 where
+pub record MayStop (pid tid : ℕ) (shown : StopInfo) (rows : Rows) : Type 0 where
   pub stands : MidStepInvariant rows
   pub processes : AllByRecursion (FitOrReady pid) rows.processes
   pub lwps : AllByRecursion (WithOwner rows FitLwp) rows.lwps

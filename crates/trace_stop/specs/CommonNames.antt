@@ -32,7 +32,7 @@ pub use Rattle.std.specs.Int.RustNames.{bit_and}
 pub use Rattle.std.specs.List.{list_all}
 pub use Rattle.std.specs.Prelude.{negsuc, option_to_list, pos, suc, unwrap_or, zero, zip, ℤ, ◌%◌, ◌||◌}
 pub use Rattle.step_types.specs.declared.Settings.{Settings}
-pub use Rattle.trace_stop.specs.declared.Shown.{Shown}
+pub use Rattle.trace_stop.specs.declared.StopInfo.{StopInfo}
 pub use Rattle.trace_stop.specs.declared.edits.Edit.{Edit}
 pub use Rattle.trace_stop.specs.declared.edits.Edit.TheVariants.{Detach, Post, Settle, Step}
 pub use Rattle.trace_stop.specs.declared.{Resumption.Resumption, Stepping.Stepping}

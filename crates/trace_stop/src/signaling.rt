@@ -97,7 +97,7 @@ pub fn post_sigchld(tables: &mut Tables, number: u32)
     ensures rows { tables.new.rows ≡ notified (number ∷ []) tables.old.rows }
     ensures sound { IsSound tables.old.rows → MayTell tables.old.rows number → IsSound tables.new.rows }
 {
-    if let Some(p) = tables.numbered(number) {
+    if let Some(p) = tables.process_by_number(number) {
         let _ = put(tables, p.pid, Signal::CHLD, &None);
     }
 }

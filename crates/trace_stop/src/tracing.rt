@@ -16,22 +16,12 @@ ghost use Rattle.trace_stop.specs.Stop.{stop};
 
 use crate::edits::{Edit, edit_lwps};
 use crate::signaling::post_sigchld;
-use crate::{Resumption, Shown, Stepping};
+use crate::{Resumption, Stepping, StopInfo};
 use event_masks::{EventMask, StopFlags};
 use lwp_table::LwpData;
 use pid_blocks::{Pid, Tid};
 use proc_table::{ProcData, State, Tables};
 use signals::SigSet;
-
-/// Returns the LWP that stopped a process for its tracer, if any.
-fn reporting(p: &ProcData) -> Option<Tid>
-    ensures { result ≡ reporting p.now }
-{
-    match p.state {
-        State::Trace { tid, .. } => Some(tid),
-        _ => None,
-    }
-}
 
 /// Returns an LWP that reports nothing.
 fn unreported(l: &LwpData) -> LwpData
@@ -87,7 +77,7 @@ pub fn detach_row(tables: &mut Tables, pid: Pid, lost: SigSet)
         pending: p.pending.difference(lost).difference(unwanted),
         ..p
     });
-    drop_stop(tables, &reporting(&p));
+    drop_stop(tables, &p.reporting());
     edit_lwps(tables, pid, &Edit::Detach { lost, unwanted });
 }
 
@@ -108,19 +98,19 @@ pub fn resume_row(tables: &mut Tables, process: &ProcData, how: &Resumption)
     requires at { process_of process.now.pid tables.old.rows.processes ≡ Some process.now }
     ensures { tables.new.rows ≡ resumed how.now process.now.pid tables.old.rows }
 {
-    tables.kept();
+    tables.assert_invariant();
     tables.set_process(ProcData {
         state: State::Run,
         mask: process.mask.with(how.adds),
         ..*process
     });
-    drop_stop(tables, &reporting(process));
+    drop_stop(tables, &process.reporting());
     step_lwps(tables, process.pid, how.stepping);
 }
 
 /// Stops a process for its tracer by an LWP of it, and notifies the tracer.
 #[tactic(auto, using(crate::proofs::Found::found_rows))]
-pub fn stop(tables: &mut Tables, pid: Pid, tid: Tid, shown: &Shown)
+pub fn stop(tables: &mut Tables, pid: Pid, tid: Tid, shown: &StopInfo)
     requires process { IsRow tables.old.rows pid }
     requires lwp { IsSomeAnd (lwp_of tid tables.old.rows.lwps) (λ l. l.pid ≡ pid) }
     ensures rows { tables.new.rows ≡ stop pid tid shown.now tables.old.rows }

@@ -1,7 +1,7 @@
 -- A run checked by computation: its replies. Further runs are row files, tests/rows/runs.
 use Rattle.std.specs.Prelude.{◌≡◌, ◌∷◌}
 use Rattle.requests.specs.CommonNames.{ℕ, negsuc, true, List, [], EventMask, StopFlags, Call, StatusKind, PlainStep}
-use Rattle.step_types.specs.{Plain.Asked, Status.no_options, declared.Act.Act, declared.Reply.Reply, declared.Request.Request, declared.step.Step.Step}
+use Rattle.step_types.specs.{Plain.UserStep, Status.no_options, declared.Act.Act, declared.Reply.Reply, declared.Request.Request, declared.step.Step.Step}
 use Rattle.step_types.specs.declared.Event.TheVariants as event
 use Rattle.requests.specs.Machine.{Machine, empty}
 use Rattle.requests.specs.Run.{replies}
@@ -9,7 +9,7 @@ use Rattle.requests.specs.Run.{replies}
 abbrev pub kills : Machine
 kills = empty (record { kill_on_debugger_exit = true })
 
-abbrev pub by : ℕ → PlainStep → Asked
+abbrev pub by : ℕ → PlainStep → UserStep
 by u s = record { uid = u; step = s }
 
 abbrev pub flags : ℕ → StopFlags
@@ -18,7 +18,7 @@ flags bits = record { 0 = bits }
 abbrev pub mask : ℕ → EventMask
 mask bits = record { 0 = bits }
 
-abbrev pub followed_fork : List Asked
+abbrev pub followed_fork : List UserStep
 followed_fork = by 1001 Step.Spawn ∷ by 1001 Step.Spawn ∷ by 1001 (Step.Ptrace 1000 Request.Attach 1001 0) ∷ by 1001 (Step.Wait4 1000 (negsuc 0) no_options)
     ∷ by 1001 (Step.Ptrace 1000 Request.SetEventMask 1001 12) ∷ by 1001 (Step.Ptrace 1000 Request.GetEventMask 1001 0)
     ∷ by 1001 (Step.Ptrace 1000 Request.Continue 1001 0) ∷ by 1001 (Step.Turn 100001 (Act.Enter Call.Fork)) ∷ by 1001 (Step.Turn 100001 Act.Leave)

@@ -29,8 +29,8 @@ pub fn one_step<F: Decider + Send + Drop>(
     ensures equal { BothGiven (reply_given result.0) (reply_given result.1) (λ r q. (r ≡ q) × (view user first.new ≡ view user second.new)) }
 {
     let _number = user.get();
-    first.kept();
-    second.kept();
+    first.assert_invariant();
+    second.assert_invariant();
     let reply = first.step(alloc, user, step);
     let other = second.step(alloc, user, same);
     (reply, other)
@@ -49,7 +49,7 @@ pub fn other_step<F: Decider + Send + Drop>(
     ensures view { view user host.new ≡ view user host.old }
 {
     let _numbers = (user.get(), other.get());
-    host.kept();
+    host.assert_invariant();
     host.step(alloc, other, step)
 }
 
@@ -70,7 +70,7 @@ pub fn foreign_number<F: Decider + Send + Drop>(
     ensures equal { BothGiven (reply_given result.0) (reply_given result.1) (λ r q. (r ≡ q) × (first.new ≡ second.new)) }
 {
     let _number = user.get();
-    first.kept();
+    first.assert_invariant();
     let reply = first.step(alloc, user, step);
     let answer = second.step(alloc, user, other);
     (reply, answer)
@@ -121,8 +121,8 @@ pub fn two_lists<F: Decider + Send + Drop>(
     ensures second_refused { OnErr result (second.new ≡ second.old) }
 {
     let _number = user.get();
-    first.kept();
-    second.kept();
+    first.assert_invariant();
+    second.assert_invariant();
     let (told, said) = both_lists(alloc, first, second, steps, others)?;
     Ok((told, said))
 }
@@ -148,8 +148,8 @@ pub fn foreign_numbers<F: Decider + Send + Drop>(
     ensures second_refused { OnErr result (second.new ≡ second.old) }
 {
     let _number = user.get();
-    first.kept();
-    second.kept();
+    first.assert_invariant();
+    second.assert_invariant();
     let (told, said) = both_lists(alloc, first, second, steps, others)?;
     Ok((told, said))
 }

@@ -43,7 +43,7 @@ pub fn run_list<F: Decider + Send + Drop>(
     ensures own { IfOk result (λ replies. Private (map asked steps.items) (map reply_given replies.items) host.old host.new) }
     ensures refused { OnErr result (host.new ≡ host.old) }
 {
-    host.kept();
+    host.assert_invariant();
     let replies = Vec::with_capacity(alloc, steps.len())?;
     Ok(run_into(alloc, host, steps, replies))
 }

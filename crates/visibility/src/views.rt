@@ -108,7 +108,7 @@ fn lwps_of(tables: &Tables, alloc: Global, user: Uid) -> Result<Vec<LwpData>, Al
     let mut rows = Vec::with_capacity(alloc, tables.lwp_count_of(user))?;
     let mut place = 0;
     while let Some(l) = tables.lwp_at(place) {
-        if tables.seen_process(user, l.pid.get()).is_some() {
+        if tables.visible_process(user, l.pid.get()).is_some() {
             rows.push(l)?;
         }
         place += 1;

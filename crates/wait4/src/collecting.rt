@@ -102,9 +102,9 @@ fn find_by_number(tables: &Tables, which: i64) -> Option<ProcData>
     ensures row { (n : ℕ) → which ≡ pos n → result ≡ process_of n tables.now.rows.processes }
     ensures kept { TableInvariant tables.now.rows }
 {
-    tables.kept();
+    tables.assert_invariant();
     match u32::try_from(which) {
-        Ok(number) => tables.numbered(number),
+        Ok(number) => tables.process_by_number(number),
         Err(_) => None,
     }
 }
@@ -158,7 +158,7 @@ fn collect_one(tables: &mut Tables, caller: Pid, p: &ProcData)
     requires there { process_of p.now.pid tables.old.rows.processes ≡ Some p.now }
     ensures { tables.new.rows ≡ collect_one caller p.now tables.old.rows }
 {
-    tables.kept();
+    tables.assert_invariant();
     match p.state {
         State::Run => tables.set_process(ProcData {
             continued: false,

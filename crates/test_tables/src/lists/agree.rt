@@ -51,7 +51,7 @@ pub fn process(tally: &mut Tally, tables: &Tables, plain: &Plain, pid: Pid) {
     let number = pid.get();
     check!(tally, number, 0;
         tables.process(pid) == plain.process(number),
-        tables.numbered(number) == plain.process(number),
+        tables.process_by_number(number) == plain.process(number),
         tables.first_lwp(pid) == plain.first_lwp(pid),
         tables.lwp_count(pid) == plain.lwp_count(pid),
     );
@@ -99,7 +99,7 @@ fn counts(tally: &mut Tally, tables: &Tables, plain: &Plain, uid: Uid) {
 fn sight(tally: &mut Tally, tables: &Tables, plain: &Plain, uid: Uid, number: u32) {
     check!(tally, uid.get(), number;
         tables.find_seen(uid, number) == plain.find_seen(uid, number),
-        tables.seen_process(uid, number) == plain.seen_process(uid, number),
+        tables.visible_process(uid, number) == plain.visible_process(uid, number),
         tables.seen_lwp(uid, number) == plain.seen_lwp(uid, number),
         tables.next_of(uid, number) == plain.next_of(uid, number),
     );

@@ -84,7 +84,7 @@ impl Plain {
         rows.find(|p| p.pid.get() > after && p.parent == pid.get())
     }
 
-    pub fn seen_process(&self, uid: Uid, number: u32) -> Option<ProcData> {
+    pub fn visible_process(&self, uid: Uid, number: u32) -> Option<ProcData> {
         match self.process(number) {
             Some(p) if p.uid == uid => Some(p),
             _ => None,
@@ -93,7 +93,7 @@ impl Plain {
 
     pub fn seen_lwp(&self, uid: Uid, number: u32) -> Option<LwpData> {
         match self.lwp(number) {
-            Some(l) if self.seen_process(uid, l.pid.get()).is_some() => Some(l),
+            Some(l) if self.visible_process(uid, l.pid.get()).is_some() => Some(l),
             _ => None,
         }
     }
@@ -101,7 +101,7 @@ impl Plain {
     /// Returns the user's process that a number names. A number up to 99999 is a process's, a greater one an LWP's.
     pub fn find_seen(&self, uid: Uid, number: u32) -> Option<Pid> {
         if number < 100000 {
-            match self.seen_process(uid, number) {
+            match self.visible_process(uid, number) {
                 Some(p) => Some(p.pid),
                 None => None,
             }
@@ -125,7 +125,7 @@ impl Plain {
     pub fn lwp_count_of(&self, uid: Uid) -> usize {
         self.lwps
             .iter()
-            .filter(|l| self.seen_process(uid, l.pid.get()).is_some())
+            .filter(|l| self.visible_process(uid, l.pid.get()).is_some())
             .count()
     }
 
@@ -185,7 +185,7 @@ impl Plain {
     /// Replaces the row with this number, if there is one, it is of the same user, and the new row's tracer and parent
     /// are processes.
     pub fn turn(&mut self, row: ProcData) -> bool {
-        if self.seen_process(row.uid, row.pid.get()).is_none() || !self.names_rows(row) {
+        if self.visible_process(row.uid, row.pid.get()).is_none() || !self.names_rows(row) {
             return false;
         }
         for p in self.processes.iter_mut() {
@@ -210,7 +210,9 @@ impl Plain {
 
     /// Adds an LWP, if its number is the next of the user and its process is the user's.
     pub fn start(&mut self, uid: Uid, row: LwpData) -> Result<bool, AllocError> {
-        if self.fresh_tid(uid) != Some(row.tid) || self.seen_process(uid, row.pid.get()).is_none() {
+        if self.fresh_tid(uid) != Some(row.tid)
+            || self.visible_process(uid, row.pid.get()).is_none()
+        {
             return Ok(false);
         }
         self.lwps.push(row)?;

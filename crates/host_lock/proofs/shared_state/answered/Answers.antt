@@ -10,4 +10,4 @@ pub returns-clause-memory : goal.returns-clause-memory
 returns-clause-memory g c = λ told. wanted c.args.host.now c.make.new.host c.make.result told (λ e. (c.make.ensures.memory e).0)
 
 pub returns-clause-list : goal.returns-clause-list
-returns-clause-list g c = λ plenty lists. listed c.args.user (g.H.OwnHandler.plain c.args.step) c.args.host.now c.make.new.host c.make.result c.kept.ensures plenty lists c.make.ensures.machine
+returns-clause-list g c = λ plenty lists. listed c.args.user (g.H.OwnHandler.plain c.args.step) c.args.host.now c.make.new.host c.make.result c.assert_invariant.ensures plenty lists c.make.ensures.machine

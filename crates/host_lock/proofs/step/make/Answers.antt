@@ -7,12 +7,12 @@ use Rattle.host_lock.proofs.step.make.Goals as goal
 
 pub returns-in-Some : goal.returns-in-Some
 returns-in-Some g c =
-    subst (λ s. Steps c.args.user s c.args.host.now c.make.new.self c.in-Some.reply) (sym (g.met.H.OwnHandler.plain_is c.args.step)) (made_mapped g.H.OwnHandler.policy c.args.user c.args.step c.args.host.now c.make.new.self c.in-Some.reply (rw c.in-Some.is at c.make.ensures))
+    subst (λ s. Steps c.args.user s c.args.host.now c.step_without_handler.new.self c.in-Some.reply) (sym (g.met.H.OwnHandler.plain_is c.args.step)) (made_mapped g.H.OwnHandler.policy c.args.user c.args.step c.args.host.now c.step_without_handler.new.self c.in-Some.reply (rw c.in-Some.is at c.step_without_handler.ensures))
 
 pub returns : goal.returns
 returns g c =
-    let kept = rw c.in-Install.is at c.make.ensures in
+    let kept = rw c.in-Install.is at c.step_without_handler.ensures in
     let is : g.H.OwnHandler.plain c.args.step ≡ Step.Install c.in-Install.caller c.into_handler-handler.result =
     g.met.H.OwnHandler.plain_is c.args.step ∙ ap (map_handler g.H.OwnHandler.policy) c.in-Install.is ∙ ap (λ (h : List Rule). Step.Install c.in-Install.caller h) (sym c.into_handler-handler.ensures) in
-    let did = subst (λ (s : PlainStep). Steps c.args.user s c.make.new.self c.step.new.self c.step.result) (sym is) c.step.ensures in
+    let did = subst (λ (s : PlainStep). Steps c.args.user s c.step_without_handler.new.self c.step.new.self c.step.result) (sym is) c.step.ensures in
     subst (λ (m : Machine). Steps c.args.user (g.H.OwnHandler.plain c.args.step) m c.step.new.self c.step.result) kept.1 did

@@ -2,4 +2,4 @@ use Rattle.requests.proofs.CommonNames.{false, sym, refl, ◌∙◌, change_lwp-
 use Rattle.requests.proofs.acts.stop_stepping.Goals as goal
 
 pub returns : goal.returns
-returns c = record { rows = c.set_lwp.ensures.rows ∙ sym (change_lwp-at c.args.l.now.tid (λ k. record k { stepping = false }) c.args.tables.now.rows c.args.l.now c.kept.ensures.differ c.requires refl) }
+returns c = record { rows = c.set_lwp.ensures.rows ∙ sym (change_lwp-at c.args.l.now.tid (λ k. record k { stepping = false }) c.args.tables.now.rows c.args.l.now c.assert_invariant.ensures.differ c.requires refl) }

@@ -15,13 +15,13 @@ parent_there : (u : ℕ) (new : ProcData) (child : LwpData) (p : ProcData) (l : 
 parent_there u new child p l rows kept free a = has-lwp_added u child p.pid l.tid (add_process new rows) (has-process_added new p.pid l.tid rows kept free (acting_has p l rows a))
 
 pub add_process-requires-clause-named : goal.add_process-requires-clause-named
-add_process-requires-clause-named c = subst (Named c.args.tables.now.rows) (sym c.forked.ensures) (forked_named c.is_asked-followed.result c.args.p.now c.args.pid c.args.tables.now.rows c.kept.ensures c.requires.acting.process)
+add_process-requires-clause-named c = subst (Named c.args.tables.now.rows) (sym c.forked.ensures) (forked_named c.is_asked-followed.result c.args.p.now c.args.pid c.args.tables.now.rows c.assert_invariant.ensures c.requires.acting.process)
 
 pub stop-requires-clause-lwp : goal.stop-requires-clause-lwp
 stop-requires-clause-lwp c = rw (c.add_lwp.ensures.rows, c.add_process.ensures.rows, c.born.ensures) (child_found c.args.tid c.args.pid c.args.l.now.blocked c.args.tables.now.rows.lwps c.requires.own_fresh)
 
 pub returns-else-followed-clause-there : goal.returns-else-followed-clause-there
-returns-else-followed-clause-there c = grind (arith, nat_tests, parent_there c.args.p.now.uid c.forked.result c.born.result c.args.p.now c.args.l.now c.args.tables.now.rows c.kept.ensures (subst (λ (q : ProcData). is_process c.args.tables.now.rows q.pid ≡ false) (sym c.forked.ensures) c.requires.fresh) c.requires.acting)
+returns-else-followed-clause-there c = grind (arith, nat_tests, parent_there c.args.p.now.uid c.forked.result c.born.result c.args.p.now c.args.l.now c.args.tables.now.rows c.assert_invariant.ensures (subst (λ (q : ProcData). is_process c.args.tables.now.rows q.pid ≡ false) (sym c.forked.ensures) c.requires.fresh) c.requires.acting)
 
 pub returns-then-followed-clause-there : goal.returns-then-followed-clause-there
-returns-then-followed-clause-there c = grind (arith, nat_tests, has-stop, parent_there c.args.p.now.uid c.forked.result c.born.result c.args.p.now c.args.l.now c.args.tables.now.rows c.kept.ensures (subst (λ (q : ProcData). is_process c.args.tables.now.rows q.pid ≡ false) (sym c.forked.ensures) c.requires.fresh) c.requires.acting)
+returns-then-followed-clause-there c = grind (arith, nat_tests, has-stop, parent_there c.args.p.now.uid c.forked.result c.born.result c.args.p.now c.args.l.now c.args.tables.now.rows c.assert_invariant.ensures (subst (λ (q : ProcData). is_process c.args.tables.now.rows q.pid ≡ false) (sym c.forked.ensures) c.requires.fresh) c.requires.acting)

@@ -7,7 +7,7 @@ gone : (p : ProcData) (l : LwpData) (rows rows' : Rows) → TableInvariant rows 
 gone p l rows rows' kept a set = set ∙ sym (change_lwp-at l.tid (λ k. record k { due = Due.Nothing }) rows l kept.differ a.lwp refl)
 
 pub stop_with-requires : goal.stop_with-requires
-stop_with-requires c = grind (arith, nat_tests, gone c.args.p.now c.args.l.now c.args.tables.now.rows c.set_lwp.new.self.rows c.kept.ensures c.requires c.set_lwp.ensures.rows, has-lwp_changed c.args.l.now.tid (λ k. record k { due = Due.Nothing }) (λ k. refl) (λ k. refl) c.args.p.now.pid c.args.l.now.tid c.args.tables.now.rows (acting_has c.args.p.now c.args.l.now c.args.tables.now.rows c.requires))
+stop_with-requires c = grind (arith, nat_tests, gone c.args.p.now c.args.l.now c.args.tables.now.rows c.set_lwp.new.self.rows c.assert_invariant.ensures c.requires c.set_lwp.ensures.rows, has-lwp_changed c.args.l.now.tid (λ k. record k { due = Due.Nothing }) (λ k. refl) (λ k. refl) c.args.p.now.pid c.args.l.now.tid c.args.tables.now.rows (acting_has c.args.p.now c.args.l.now c.args.tables.now.rows c.requires))
 
 pub returns : goal.returns
 returns c = record { rows = search (rules, gone); reply = search rules }

@@ -1,4 +1,4 @@
-use Rattle.scenario.proofs.CommonNames.{◌+◌, ◌++◌, ◌∷◌, ◌∙◌, List, [], drop, refl, ap, sym, string_bytes, append-nil, arith, into_iter_items, empty, Asked, replies, with_policies, policies_in, first_policy}
+use Rattle.scenario.proofs.CommonNames.{◌+◌, ◌++◌, ◌∷◌, ◌∙◌, List, [], drop, refl, ap, sym, string_bytes, append-nil, arith, into_iter_items, empty, UserStep, replies, with_policies, policies_in, first_policy}
 use Rattle.scenario.proofs.CommonNames.{with_installed, answered, answers_of, paired}
 use Rattle.scenario.proofs.LineLemmas.{counted_start, counted_more, counted_few, counted_number, shown_after, shown_none, shown_whole, text_next}
 use Rattle.scenario.proofs.{BindLemmas.each_next, BindLemmas.with_policies_next, BindLemmas.first_before, RunLemmas.answers_next, RunLemmas.none_left}
@@ -15,7 +15,7 @@ loop-bare_step-init g c =
       before = [];
       few = refl;
       counted = counted_start;
-      text = rw (host, c.new-text.ensures.bytes) (ap (λ (xs : List Asked). shown_after options.style options.user [] (paired xs (replies xs (empty plan.settings)))) steps
+      text = rw (host, c.new-text.ensures.bytes) (ap (λ (xs : List UserStep). shown_after options.style options.user [] (paired xs (replies xs (empty plan.settings)))) steps
           ∙ shown_whole options.style options.user (answers_of plan));
       each = ap policies_in steps ∙ sym handlers;
     }

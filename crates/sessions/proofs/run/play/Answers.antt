@@ -29,7 +29,7 @@ returns-clause-ran g c =
       entries = subst (λ (n : ℕ). All (IsBelow n) log) count f.entries;
       transcripts = all_play g.T.Report.drafted c.args.host c.in-Ok.ready.host.id g.T.Report.made_of g.T.Report.tells log c.args.scripts.items c.in-Ok.ready.jobs.items c.in-Some.done.items (e.sessions, e.steps, e.reports, e.jobs) c.in-Some.ensures.done
           c.split_outputs-sessions.result.0.items c.split_outputs-sessions.result.1.items c.split_outputs-sessions.ensures.sessions c.split_outputs-sessions.ensures.transcripts f.sessions;
-      own = own_entries c.args.host log c.kept.ensures f.users legal;
+      own = own_entries c.args.host log c.assert_invariant.ensures f.users legal;
     }
 
 pub returns-clause-reports : goal.returns-clause-reports

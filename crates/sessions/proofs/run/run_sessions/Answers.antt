@@ -21,7 +21,7 @@ returns-then-is_empty-clause-reports g c =
     λ k s t lt. absurd (omega (arith, none))
 
 pub returns-then-is_empty-clause-own : goal.returns-then-is_empty-clause-own
-returns-then-is_empty-clause-own g c = subst (λ (log : List Entry). OwnEntries c.args.host log) (sym (c.of_log.ensures ∙ c.empty-log.ensures)) (nothing_ran {O = ℕ} (λ n. []) c.args.host c.kept.ensures).own
+returns-then-is_empty-clause-own g c = subst (λ (log : List Entry). OwnEntries c.args.host log) (sym (c.of_log.ensures ∙ c.empty-log.ensures)) (nothing_ran {O = ℕ} (λ n. []) c.args.host c.assert_invariant.ensures).own
 
 pub play-requires-clause-count : goal.play-requires-clause-count
 play-requires-clause-count g c κs within =

@@ -4,7 +4,7 @@ use Rattle.trace_stop.proofs.CommonLemmas.{reporter_there}
 use Rattle.trace_stop.proofs.tracing.resume_row.Goals as goal
 
 pub set_process-requires-clause-named : goal.set_process-requires-clause-named
-set_process-requires-clause-named c = named-same c.args.tables.now.rows c.args.process.now _ c.requires.at c.kept.ensures refl refl
+set_process-requires-clause-named c = named-same c.args.tables.now.rows c.args.process.now _ c.requires.at c.assert_invariant.ensures refl refl
 
 pub drop_stop-requires : goal.drop_stop-requires
 drop_stop-requires c = rw c.set_process.ensures.rows (reporter_there c.args.process.now.pid c.args.tables.now.rows c.args.process.now c.requires.stands c.requires.at c.reporting.result (sym c.reporting.ensures))

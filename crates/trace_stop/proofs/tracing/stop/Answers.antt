@@ -1,5 +1,5 @@
 use Rattle.trace_stop.proofs.CommonNames.{IsSound, MayStop, ◌≡◌, Some, None, [], ◌∷◌, sym, ap, ◌∙◌, rules, ℕ, false, lwp_of, process_of, set_process, set_lwp, TableInvariant, notified, tracers, stop, LwpData, ProcData, Trace, Rows, change_process, tracer_in}
-use Rattle.trace_stop.proofs.CommonNames.{lwp_of-tid, process_of-pid, process_there, named-same, change_process-at, Shown}
+use Rattle.trace_stop.proofs.CommonNames.{lwp_of-tid, process_of-pid, process_there, named-same, change_process-at, StopInfo}
 use Rattle.trace_stop.proofs.Notified.{notified-none}
 use Rattle.trace_stop.proofs.SoundAfterStop.{stopped_sound}
 use Rattle.proc_table.proofs.Changes.{change_lwp-at}
@@ -8,14 +8,14 @@ use Rattle.trace_stop.proofs.tracing.stop.Goals as goal
 
 -- A trace stop as edits of two rows
 
-abbrev stopped_by : ℕ → Shown → ProcData → ProcData
+abbrev stopped_by : ℕ → StopInfo → ProcData → ProcData
 stopped_by tid shown p = record p { state = Trace tid shown.sig false }
 
-abbrev showing : Shown → LwpData → LwpData
+abbrev showing : StopInfo → LwpData → LwpData
 showing shown l = record l { flags = shown.flags; child = shown.child; code = shown.code }
 
 -- where both rows are written, and the tracer, if any, is notified
-stop-done : (pid tid : ℕ) (shown : Shown) (rows mid made out : Rows) (p : ProcData) (l : LwpData) → TableInvariant rows → process_of pid rows.processes ≡ Some p → lwp_of tid rows.lwps ≡ Some l
+stop-done : (pid tid : ℕ) (shown : StopInfo) (rows mid made out : Rows) (p : ProcData) (l : LwpData) → TableInvariant rows → process_of pid rows.processes ≡ Some p → lwp_of tid rows.lwps ≡ Some l
     → mid ≡ set_process (stopped_by tid shown p) rows → made ≡ set_lwp (showing shown l) mid → out ≡ notified (tracers p.tracer) made → (out ≡ stop pid tid shown rows) × (MayStop pid tid shown rows → IsSound out)
 stop-done pid tid shown rows mid made out p l k at there set written told =
     let shows = change_lwp-at tid (showing shown) rows l k.differ there (lwp_of-tid tid l rows.lwps there) in

@@ -7,4 +7,4 @@ returns-clause-equal g c =
     let done = c.in_ok-told.ensures in
     λ alike. foreign_runs (map asked c.args.steps.items) (map asked c.args.others.items) (map reply_given c.in_ok-told.told.items) (map reply_given c.in_ok-told.said.items)
     c.args.first.now c.args.second.now c.both_lists.new.first c.both_lists.new.second c.args.user c.get-number.ensures.user done.users.0 done.users.1
-    (users_are_apart_in_a_sound_host c.args.first.now c.kept.ensures) (users_are_apart_in_a_sound_host c.args.second.now c.kept-2.ensures) done.first done.second c.requires.seen alike
+    (users_are_apart_in_a_sound_host c.args.first.now c.assert_invariant.ensures) (users_are_apart_in_a_sound_host c.args.second.now c.assert_invariant-2.ensures) done.first done.second c.requires.seen alike

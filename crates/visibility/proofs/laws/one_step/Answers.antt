@@ -10,5 +10,5 @@ returns g c =
       first = first;
       second = second;
       equal = both_steps c.args.user c.args.step (reply_given c.step-reply.result) (reply_given c.step-other.result) c.args.first.now c.args.second.now c.step-reply.new.self c.step-other.new.self
-          c.get-number.ensures.user c.kept.ensures c.kept-2.ensures c.requires.seen first second;
+          c.get-number.ensures.user c.assert_invariant.ensures c.assert_invariant-2.ensures c.requires.seen first second;
     }

@@ -16,7 +16,7 @@ loop-l-preserved c =
     let at : slice_get c.args.tables.now.rows.lwps c.loop-l.place ≡ Some c.in-Some.l = cc in
     let here = slice_get_within c.args.tables.now.rows.lwps c.loop-l.place c.in-Some.l at in
     let mine : LwpData → Bool = (λ w. owns c.args.user w.pid c.args.tables.now.rows.processes) in
-    let owned : c.is_some.result ≡ owns c.args.user c.in-Some.l.pid c.args.tables.now.rows.processes = rw (← c.get.ensures.number) (c.is_some.ensures ∙ ap is_some c.seen_process.ensures.row ∙ sym (any-found _ c.args.tables.now.rows.processes)) in
+    let owned : c.is_some.result ≡ owns c.args.user c.in-Some.l.pid c.args.tables.now.rows.processes = rw (← c.get.ensures.number) (c.is_some.ensures ∙ ap is_some c.visible_process.ensures.row ∙ sym (any-found _ c.args.tables.now.rows.processes)) in
     record {
       within = omega (arith, here);
       kept = elim c.if-is_some.branch [

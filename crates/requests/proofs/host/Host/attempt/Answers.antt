@@ -20,14 +20,14 @@ called-done-requires-clause-caller g c κs within = host_caller c.self.view_is c
 
 pub invariant_of-self : goal.invariant_of-self
 invariant_of-self g c =
-    (host_uncalled c.self.view_is c.requires.user c.self.invariant (bare c.args.asked.now) c.fits.ensures {rows = c.uncalled-done.new.tables.rows} {left = c.drop_ended.new.handlers} {r = c.uncalled-done.result} c.drop_ended.ensures (sym c.caller.ensures ∙ c.in-None.is) c.uncalled-done.ensures).sound
+    (host_uncalled c.self.view_is c.requires.user c.self.invariant (bare c.args.step.now) c.fits.ensures {rows = c.uncalled-done.new.tables.rows} {left = c.drop_ended.new.handlers} {r = c.uncalled-done.result} c.drop_ended.ensures (sym c.caller.ensures ∙ c.in-None.is) c.uncalled-done.ensures).sound
 
 pub returns-in-None : goal.returns-in-None
-returns-in-None g c = rw (← c.self.view_is) (host_uncalled c.self.view_is c.requires.user c.self.invariant (bare c.args.asked.now) c.fits.ensures {rows = c.uncalled-done.new.tables.rows} {left = c.drop_ended.new.handlers} {r = c.uncalled-done.result} c.drop_ended.ensures (sym c.caller.ensures ∙ c.in-None.is) c.uncalled-done.ensures)
+returns-in-None g c = rw (← c.self.view_is) (host_uncalled c.self.view_is c.requires.user c.self.invariant (bare c.args.step.now) c.fits.ensures {rows = c.uncalled-done.new.tables.rows} {left = c.drop_ended.new.handlers} {r = c.uncalled-done.result} c.drop_ended.ensures (sym c.caller.ensures ∙ c.in-None.is) c.uncalled-done.ensures)
 
 pub invariant_of-self-in-Some : goal.invariant_of-self-in-Some
 invariant_of-self-in-Some g c =
-    (host_called c.self.view_is c.requires.user c.self.invariant (bare c.args.asked.now) c.fits.ensures {rows = c.called-done.new.tables.rows} {left = c.drop_ended-in-Some.new.handlers} {r = c.called-done.result} c.drop_ended-in-Some.ensures c.in-Ok.ensures.found (sym c.caller.ensures ∙ c.in-Some.is) c.requires.other c.called-done.ensures).sound
+    (host_called c.self.view_is c.requires.user c.self.invariant (bare c.args.step.now) c.fits.ensures {rows = c.called-done.new.tables.rows} {left = c.drop_ended-in-Some.new.handlers} {r = c.called-done.result} c.drop_ended-in-Some.ensures c.in-Ok.ensures.found (sym c.caller.ensures ∙ c.in-Some.is) c.requires.other c.called-done.ensures).sound
 
 pub returns-in-Ok : goal.returns-in-Ok
-returns-in-Ok g c = rw (← c.self.view_is) (host_called c.self.view_is c.requires.user c.self.invariant (bare c.args.asked.now) c.fits.ensures {rows = c.called-done.new.tables.rows} {left = c.drop_ended-in-Some.new.handlers} {r = c.called-done.result} c.drop_ended-in-Some.ensures c.in-Ok.ensures.found (sym c.caller.ensures ∙ c.in-Some.is) c.requires.other c.called-done.ensures)
+returns-in-Ok g c = rw (← c.self.view_is) (host_called c.self.view_is c.requires.user c.self.invariant (bare c.args.step.now) c.fits.ensures {rows = c.called-done.new.tables.rows} {left = c.drop_ended-in-Some.new.handlers} {r = c.called-done.result} c.drop_ended-in-Some.ensures c.in-Ok.ensures.found (sym c.caller.ensures ∙ c.in-Some.is) c.requires.other c.called-done.ensures)
