@@ -24,7 +24,7 @@ from .runner import Result, Runner, Setting, Task, verify
 from .schedules import Switch
 
 FAILED, USAGE, BROKEN, ANOTHER_WAY = 1, 2, 3, 4
-VERSION = "0.9.0"
+VERSION = "0.10.0"
 _ADDR_NO_RANDOMIZE = 0x0040000
 
 

@@ -35,7 +35,7 @@ use threaded_runs::run_threads;
 use trace_stop::Settings;
 
 /// The version of the program and of all that comes with it.
-const VERSION: &str = "0.9.0";
+const VERSION: &str = "0.10.0";
 
 /// Why the program ends with another status than 0.
 #[derive(Drop)]
