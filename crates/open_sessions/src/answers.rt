@@ -8,10 +8,10 @@ use scenario::Fault;
 use std::alloc::{AllocError, Global};
 
 /// An answer: a reply to a user, or the fault for which a line is not a step.
-pub(crate) type Answer = Result<(Uid, Reply), Fault>;
+pub(crate) type LineAnswer = Result<(Uid, Reply), Fault>;
 
 /// Returns the answer, if it is a reply.
-pub(crate) fn reply_of(last: &Option<Answer>) -> Option<&Reply>
+pub(crate) fn reply_of(last: &Option<LineAnswer>) -> Option<&Reply>
     ensures { option_map (λ r. r.now) result ≡ last_reply (option_map line_reply last.now) }
 {
     match last {
@@ -21,7 +21,7 @@ pub(crate) fn reply_of(last: &Option<Answer>) -> Option<&Reply>
 }
 
 /// Returns the numbers of the answer, if it is a list, or else none.
-pub(crate) fn numbers_of(last: &Option<Answer>) -> &[u32]
+pub(crate) fn numbers_of(last: &Option<LineAnswer>) -> &[u32]
     ensures { result.now ≡ last_numbers (option_map line_reply last.now) }
 {
     match last {
@@ -31,7 +31,7 @@ pub(crate) fn numbers_of(last: &Option<Answer>) -> &[u32]
 }
 
 /// Returns an equal answer. An error means out of memory: only a list takes memory.
-pub(crate) fn copy_of(alloc: Global, last: &Option<Answer>) -> Result<Option<Answer>, AllocError>
+pub(crate) fn copy_of(alloc: Global, last: &Option<LineAnswer>) -> Result<Option<LineAnswer>, AllocError>
     ensures { IfOk result (λ copy. copy ≡ last.now) }
 {
     Ok(match last {

@@ -9,7 +9,7 @@ ghost use Rattle.open_sessions.specs.Calls.{last_text, Steps, Answers, IsFull, F
 ghost use Rattle.open_sessions.specs.declared.fault.SessionFault.TheVariants as session_fault;
 ghost use Rattle.scenario_text.specs.declared.fault.Fault.TheVariants.{Memory as NoMemory};
 
-use crate::answers::{Answer, copy_of, numbers_of, reply_of};
+use crate::answers::{LineAnswer, copy_of, numbers_of, reply_of};
 use crate::fault::SessionFault;
 use crate::texts::push_last;
 use pid_blocks::Uid;
@@ -27,7 +27,7 @@ use visibility::{View, user_view};
 pub struct Session {
     host: Host<ByPolicy>,
     made: [u64; USERS],
-    last: Option<Answer>,
+    last: Option<LineAnswer>,
     steps: StepReader,
     text: String,
 }

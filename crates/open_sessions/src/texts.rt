@@ -3,7 +3,7 @@ ghost use Rattle.std.specs.Prelude.{◌≡◌, ◌++◌, OnOk, string_bytes, opt
 ghost use Rattle.scenario.specs.declared.style.Style.TheVariants as style;
 ghost use Rattle.open_sessions.specs.Answers.{answer_text, line_reply, refusal};
 
-use crate::answers::Answer;
+use crate::answers::LineAnswer;
 use reply_json::refusal_json;
 use scenario::{Fault, ObjectWriter, Style, USERS, push_line};
 use std::alloc::{AllocError, Global};
@@ -45,7 +45,7 @@ fn push_refusal(
 pub(crate) fn push_last(
     alloc: Global,
     style: Style,
-    last: &Option<Answer>,
+    last: &Option<LineAnswer>,
     made: &[u64; USERS],
     text: &mut String,
 ) -> Result<(), AllocError>

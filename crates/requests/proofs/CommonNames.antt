@@ -65,7 +65,7 @@ pub use Rattle.requests.specs.Sound.{sound, sound_installed}
 pub use Rattle.requests.specs.Step.{calls, checked, step, step_of, uncalled}
 pub use Rattle.requests.specs.Turn.{acts, computes, due_or_more, due_stop, in_user_mode, job_stops, next_signal, plain, raises, signal_or_act, takes, takes_by_default, takes_untraced, turn, turn_by}
 pub use Rattle.requests.specs.Turn.{turn_of, turn_seen, waits, without_signal}
-pub use Rattle.requests.specs.Callers.{IsCaller, Calls, Barred}
+pub use Rattle.requests.specs.Callers.{IsCaller, IsCallerByNumber, Barred}
 pub use Rattle.std.proofs.Math.ListN.{get_or-map, replicate}
 pub use Rattle.requests.specs.Ending.{may_end}
 pub use Rattle.std.proofs.lemmas.List.Folds.{list_any-append, list_all-append, find-append}

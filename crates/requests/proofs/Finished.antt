@@ -3,7 +3,7 @@ use Rattle.requests.proofs.CommonNames.{ℕ, List, [], ◌∷◌, ◌++◌, set,
 use Rattle.requests.proofs.CommonNames.{get_or, length-map, IsUser, Rows, PlainStep, Outcome, Installed, is_live_at, after, sound, step, put_at, slots_differ, either, get_or-map, length-set}
 use Rattle.requests.proofs.CommonNames.{get_or-set_other, ◌≢◌, Some, None, false, refl, inl, inr, set-get_or, answers, nat_tests, takes_memory, is_refusal, may_want, step_fits, Steps, ProcData, calls}
 use Rattle.requests.proofs.CommonNames.{caller_of, le-leb, not, ◌≤◌, if◌then◌else◌, cases_Bool, attempted_reply, Errno, Step, Attempts, Result, Ok, Err, uncalled, installs, outcome_of, Tries, step_of}
-use Rattle.requests.proofs.CommonNames.{IsCaller, Calls, Barred, may_end}
+use Rattle.requests.proofs.CommonNames.{IsCaller, IsCallerByNumber, Barred, may_end}
 use Rattle.requests.specs.View.{view}
 use Rattle.requests.proofs.SoundWithoutEnded.{slots_of, same_at, all_left, left_live, answers_same, rows_sound}
 use Rattle.requests.proofs.IsolationLaws.{other_step}
@@ -110,14 +110,14 @@ module _ {u : ℕ} {h m : Machine} (view : h ≡ m) (user : IsUser u) (kept : so
     pub host_uncalled : caller_of s ≡ None → Attempts (takes_memory u s h) (outcome_of (uncalled u s h)) h.rows rows r → Tries u s h (record h { rows = rows; installed = left }) r
     host_uncalled none did = subst (λ x. Tries u s h (record h { rows = rows; installed = x }) r) (sym (only_left (outcome_of (uncalled u s h)) (ap (step_of u s h) none ∙ uncalled_after u s h) did)) (finished u s h user kept fits (outcome_of (uncalled u s h)) rows r (ap (step_of u s h) none ∙ uncalled_after u s h) did)
 
-    pub host_called : {n : ℕ} {p : ProcData} → Calls u n m.rows p → caller_of s ≡ Some n → installs s ≡ false → Attempts (takes_memory u s h) (outcome_of (calls u s p h)) h.rows rows r → Tries u s h (record h { rows = rows; installed = left }) r
+    pub host_called : {n : ℕ} {p : ProcData} → IsCallerByNumber u n m.rows p → caller_of s ≡ Some n → installs s ≡ false → Attempts (takes_memory u s h) (outcome_of (calls u s p h)) h.rows rows r → Tries u s h (record h { rows = rows; installed = left }) r
     host_called {n} {p} found by kind did =
-        let f : Calls u n h.rows p = subst (λ x. Calls u n x.rows p) (sym view) found in
+        let f : IsCallerByNumber u n h.rows p = subst (λ x. IsCallerByNumber u n x.rows p) (sym view) found in
         (subst (λ x. Tries u s h (record h { rows = rows; installed = x }) r) (sym (only_left (outcome_of (calls u s p h)) (called u n s h by p f.seen f.live f.runs ∙ calls_after u s p h kind) did)) (finished u s h user kept fits (outcome_of (calls u s p h)) rows r (called u n s h by p f.seen f.live f.runs ∙ calls_after u s p h kind) did))
 
-  module _ {n : ℕ} {p : ProcData} (found : Calls u n m.rows p) where
-    by_host : Calls u n h.rows p
-    by_host = subst (λ x. Calls u n x.rows p) (sym view) found
+  module _ {n : ℕ} {p : ProcData} (found : IsCallerByNumber u n m.rows p) where
+    by_host : IsCallerByNumber u n h.rows p
+    by_host = subst (λ x. IsCallerByNumber u n x.rows p) (sym view) found
 
     pub host_caller : IsCaller u p h.rows
     host_caller = is_caller u n h.rows p (rows_sound h kept).stands.rising by_host

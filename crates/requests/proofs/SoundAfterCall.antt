@@ -1,6 +1,6 @@
 -- Steps of a caller: what they are once it was looked up, and that each kind keeps a host sound.
 use Rattle.requests.proofs.CommonNames.{◌≡◌, ℕ, true, Some, refl, ap, ◌∙◌, eqb-true, rules, ProcData, is_live, is_run, visible_process, PlainStep, Machine, step, step_of, checked, calls, caller_of, Rows}
-use Rattle.requests.proofs.CommonNames.{Rise, and_right, find_some, own_rows, IsCaller, Calls, List, [], ◌∷◌, false, ◌==◌, ◌&&◌, None, eq-eqb, list_any, arith, nat_tests, process_of, process_of-pid}
+use Rattle.requests.proofs.CommonNames.{Rise, and_right, find_some, own_rows, IsCaller, IsCallerByNumber, List, [], ◌∷◌, false, ◌==◌, ◌&&◌, None, eq-eqb, list_any, arith, nat_tests, process_of, process_of-pid}
 use Rattle.requests.proofs.CommonNames.{any_holds, the_row, find_passes, IsLiveOf, ℤ, Bool, not, if◌then◌else◌, Option, subst, ESRCH, EINVAL, set_disposition, Disposition, IsSound, All-filter}
 use Rattle.requests.proofs.CommonNames.{disposed_sound, Options, reportable, candidates, is_child, fits, reported, rows_after, Reply, answers, refuses, sigaction, wait, is_which, after, sound}
 use Rattle.requests.proofs.CommonNames.{collect_sound, is_refused, run_quiet}
@@ -11,7 +11,7 @@ pub called : (u n : ℕ) (s : PlainStep) (m : Machine) → caller_of s ≡ Some 
 called u n s m by p seen live run = ap (step_of u s m) by ∙ (ap (λ o. checked u s o m) seen ∙ rw (live, run) refl)
 
 -- A caller that was found
-pub is_caller : (u n : ℕ) (rows : Rows) (p : ProcData) → Rise rows.processes → Calls u n rows p → IsCaller u p rows
+pub is_caller : (u n : ℕ) (rows : Rows) (p : ProcData) → Rise rows.processes → IsCallerByNumber u n rows p → IsCaller u p rows
 is_caller u n rows p rise c = search (rules, find_some, own_rows, eqb-true, and_right)
 
 -- ---- Whether the row with a number is live.

@@ -12,7 +12,7 @@ pub record IsCaller (user : ℕ) (p : ProcData) (rows : Rows) : Type 0 where
   pub runs : is_run p ≡ true
 
 -- the process that a user's number names, if it may make steps
-pub record Calls (user n : ℕ) (rows : Rows) (p : ProcData) : Type 0 where
+pub record IsCallerByNumber (user n : ℕ) (rows : Rows) (p : ProcData) : Type 0 where
   pub seen : visible_process user n rows ≡ Some p
   pub live : is_live p ≡ true
   pub runs : is_run p ≡ true

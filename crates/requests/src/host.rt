@@ -3,7 +3,7 @@
 ghost use Rattle.std.specs.Prelude.{◌≡◌, None, true, false, IfOk, IfErr, option_map, slice_get};
 ghost use Rattle.pid_blocks.specs.Users.{IsUser};
 ghost use Rattle.step_types.specs.declared.step.Step.TheVariants as op;
-ghost use Rattle.requests.specs.Callers.{Calls, Barred};
+ghost use Rattle.requests.specs.Callers.{IsCallerByNumber, Barred};
 ghost use Rattle.requests.specs.Hosts.{Steps, Tries};
 ghost use Rattle.requests.specs.Memory.{attempted_reply};
 ghost use Rattle.step_types.specs.Plain.{installs};
@@ -141,7 +141,7 @@ impl<F: Decider + Send + Drop> Host<F> {
     /// Returns the caller with this number, a process that runs. The error is the reply to a step with such a caller.
     #[tactic(auto, using(std::proofs::lemmas::Bool::Decides::nat_tests))]
     fn caller(&self, user: Uid, caller: u32) -> Result<ProcData, Reply>
-        ensures found { IfOk result (Calls user caller self.now.rows) }
+        ensures found { IfOk result (IsCallerByNumber user caller self.now.rows) }
         ensures barred { IfErr result (Barred user caller self.now) }
     {
         let _settings = self.settings;
