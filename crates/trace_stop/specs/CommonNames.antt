@@ -1,7 +1,6 @@
 -- The words of other crates, and the types of this one, that these definitions use, from one place.
 pub use Rattle.event_masks.specs.Exits.{asks, mask_with, no_flags, shows}
-pub use Rattle.event_masks.specs.declared.EventMask.{EventMask}
-pub use Rattle.event_masks.specs.declared.Call.{Call}
+pub use Rattle.event_masks.specs.declared.{Call.Call, EventMask.EventMask}
 pub use Rattle.event_masks.specs.declared.TheConstants.EventMask.{PTRACE_VFORK}
 pub use Rattle.event_masks.specs.declared.TheConstants.StopFlags.{PL_FLAG_EXITED}
 pub use Rattle.lwp_table.specs.Lwps.{lwp_of}
@@ -32,7 +31,6 @@ pub use Rattle.std.specs.Int.RustNames.{bit_and}
 pub use Rattle.std.specs.List.{list_all}
 pub use Rattle.std.specs.Prelude.{negsuc, option_to_list, pos, suc, unwrap_or, zero, zip, ℤ, ◌%◌, ◌||◌}
 pub use Rattle.step_types.specs.declared.Settings.{Settings}
-pub use Rattle.trace_stop.specs.declared.StopInfo.{StopInfo}
+pub use Rattle.trace_stop.specs.declared.{Resumption.Resumption, Stepping.Stepping, StopInfo.StopInfo}
 pub use Rattle.trace_stop.specs.declared.edits.Edit.{Edit}
 pub use Rattle.trace_stop.specs.declared.edits.Edit.TheVariants.{Detach, Post, Settle, Step}
-pub use Rattle.trace_stop.specs.declared.{Resumption.Resumption, Stepping.Stepping}
