@@ -31,7 +31,10 @@ pub(crate) fn numbers_of(last: &Option<LineAnswer>) -> &[u32]
 }
 
 /// Returns an equal answer. An error means out of memory: only a list takes memory.
-pub(crate) fn copy_of(alloc: Global, last: &Option<LineAnswer>) -> Result<Option<LineAnswer>, AllocError>
+pub(crate) fn copy_of(
+    alloc: Global,
+    last: &Option<LineAnswer>,
+) -> Result<Option<LineAnswer>, AllocError>
     ensures { IfOk result (λ copy. copy ≡ last.now) }
 {
     Ok(match last {
