@@ -190,7 +190,7 @@ cc -c -o "$room/plain.o" "$room/plain.c"
 cc -o "$room/headerless" "$room/plain.o" -pthread -Wl,-u,tracehost_start -L"$posix/build" -ltracehost-posix
 check "a program without the runtime" refused 'compile it with tracehost-cc' "$room/plain"
 check "a program without the header" refused 'compile its files with tracehost-cc' "$room/headerless"
-check "the same with several jobs" refused 'compile its files with tracehost-cc' --jobs 2 --schedules 9 "$room/headerless"
+check "the same with several jobs" refused 'compile its files with tracehost-cc' --jobs 8 --schedules 90 "$room/headerless"
 check "no program" refused 'no PROGRAM'
 check "a program that isn't there" refused 'No such file' "$room/nothing"
 check "a number that is none" refused '--seed' --seed x "$room/odd"

@@ -52,7 +52,8 @@ def _serve(pipe: Connection, setting: Setting, digest: bool) -> None:
         runner = Runner(setting)
     except NotRunnable as why:
         pipe.send(why)
-        return
+        while True:  # tasks may be on their way: the pipe stays open until the pool closes it
+            pipe.recv()
     try:
         while True:
             task = pipe.recv()
