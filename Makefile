@@ -21,6 +21,7 @@ docdir = $(datarootdir)/doc/tracehost
 pkgdatadir = $(datadir)/tracehost
 pkgconfigdir = $(datadir)/pkgconfig
 libpkgconfigdir = $(libdir)/pkgconfig
+cmakedir = $(libdir)/cmake/tracehost
 bashcompletiondir = $(datadir)/bash-completion/completions
 zshcompletiondir = $(datadir)/zsh/site-functions
 
@@ -32,21 +33,30 @@ OUT = out
 SONAME = libtracehost.so.1
 
 PAGES = tracehost.1 tracehost-view.1 tracehost-perfetto.1
-DATA = schema/scenario.schema.json viewer/src/*
-DOCUMENTS = LICENSE README.md CHANGELOG.md docs/* examples/*
+DATA = schema/scenario.schema.json viewer/src/* viewer/*.py
+DOCUMENTS = LICENSE README.md CHANGELOG.md SECURITY.md docs/* examples/*
 # the client in C: tracehost_client.c includes the others
 CLIENT = tracehost_client.c internal.h calls.c in_process.c names.c pipe.c record.c session.c steps.c threads.c
-# C programs on the model: its Makefile, and where it installs
-POSIX = -f clients/posix/Makefile --no-print-directory bindir='$(bindir)' libdir='$(libdir)' man1dir='$(man1dir)' \
-  libpkgconfigdir='$(libpkgconfigdir)'
+# C programs on the model: its Makefile, and where it installs. Relative names are those of this folder.
+staged = $(if $(filter /%,$(firstword $(DESTDIR)$(bindir))),$(DESTDIR),$(CURDIR)/$(DESTDIR))
+POSIX = -C clients/posix --no-print-directory DESTDIR='$(staged)' bindir='$(bindir)' libdir='$(libdir)' \
+  man1dir='$(man1dir)' libpkgconfigdir='$(libpkgconfigdir)'
+# commands whose completions come from their own --help
+HELPED = tracehost-cc tracehost-run tracehost-view tracehost-perfetto
+# what the linker finds without being told
+SYSTEM_LIBRARIES = /usr/lib /usr/lib/% /usr/lib64 /lib /lib/% /lib64
 
 all:
 	@tools/program
 
+# readable by all, whatever the umask
 install:
 	@tools/program >/dev/null
+	@umask 022 && $(MAKE) --no-print-directory install-files
+
+install-files:
 	for folder in "$(bindir)" "$(includedir)" "$(man1dir)" "$(docdir)/docs" "$(docdir)/examples" "$(pkgdatadir)/schema" \
-	  "$(pkgdatadir)/viewer/src" "$(pkgconfigdir)" "$(bashcompletiondir)" "$(zshcompletiondir)"; do \
+	  "$(pkgdatadir)/viewer/src" "$(pkgconfigdir)" "$(cmakedir)" "$(bashcompletiondir)" "$(zshcompletiondir)"; do \
 	  $(INSTALL) -d "$(DESTDIR)$$folder" || exit; done
 	$(INSTALL_PROGRAM) "$$(tools/program)" "$(DESTDIR)$(bindir)/tracehost"
 	for page in $(PAGES); do $(INSTALL_DATA) man/$$page "$(DESTDIR)$(man1dir)" || exit; done
@@ -62,10 +72,18 @@ install:
 	sed -e 's|@prefix@|$(prefix)|; s|@bindir@|$(bindir)|; s|@includedir@|$(includedir)|; s|@pkgdatadir@|$(pkgdatadir)|' \
 	  -e 's|=$(prefix)/|=$${prefix}/|' -e "s|@version@|$$(tools/version)|" clients/c/tracehost-client.pc.in \
 	  >"$(DESTDIR)$(pkgconfigdir)/tracehost-client.pc"
-	chmod 644 "$(DESTDIR)$(pkgconfigdir)/tracehost-client.pc"
+	for file in tracehost-config tracehost-config-version; do \
+	  from() { realpath -m --relative-to="$$1" "$$2"; }; \
+	  sed -e "s|@to_prefix@|$$(from "$(cmakedir)" "$(prefix)")|; s|@includedir@|$$(from "$(prefix)" "$(includedir)")|" \
+	    -e "s|@libdir@|$$(from "$(prefix)" "$(libdir)")|; s|@pkgdatadir@|$$(from "$(prefix)" "$(pkgdatadir)")|" \
+	    -e "s|@version@|$$(tools/version)|; s|@soname@|$(SONAME)|" include/cmake/$$file.cmake.in \
+	    >"$(DESTDIR)$(cmakedir)/$$file.cmake" || exit; done
 	if library=$$(tools/library); then $(MAKE) --no-print-directory install-library library="$$library"; fi
 	$(INSTALL_DATA) completions/tracehost.bash "$(DESTDIR)$(bashcompletiondir)/tracehost"
-	$(INSTALL_DATA) completions/_tracehost "$(DESTDIR)$(zshcompletiondir)"
+	$(INSTALL_DATA) completions/_tracehost completions/_tracehost-commands "$(DESTDIR)$(zshcompletiondir)"
+	$(INSTALL_DATA) completions/tracehost-commands.bash "$(DESTDIR)$(bashcompletiondir)/tracehost-run"
+	for name in $(filter-out tracehost-run,$(HELPED)); do \
+	  ln -sf tracehost-run "$(DESTDIR)$(bashcompletiondir)/$$name" || exit; done
 	if command -v $(CC) >/dev/null; then $(MAKE) $(POSIX) install; \
 	  else echo "there is no $(CC): tracehost-cc and tracehost-run are not installed" >&2; fi
 
@@ -77,9 +95,11 @@ install-library:
 	$(INSTALL_DATA) "$(library)/libtracehost.so" "$(DESTDIR)$(libdir)/$(SONAME)"
 	ln -sf $(SONAME) "$(DESTDIR)$(libdir)/libtracehost.so"
 	sed -e 's|@prefix@|$(prefix)|; s|@libdir@|$(libdir)|; s|@includedir@|$(includedir)|' \
+	  -e 's|@rpath@|$(if $(filter $(SYSTEM_LIBRARIES),$(libdir)),, -Wl,-rpath,"$${libdir}")|' \
 	  -e 's|=$(prefix)/|=$${prefix}/|' -e "s|@version@|$$(tools/version)|" include/tracehost.pc.in \
 	  >"$(DESTDIR)$(libpkgconfigdir)/tracehost.pc"
-	chmod 644 "$(DESTDIR)$(libpkgconfigdir)/tracehost.pc"
+	if [ -z "$(DESTDIR)" ] && [ "$$(id -u)" -eq 0 ] && [ -n "$(filter /usr/local/lib $(SYSTEM_LIBRARIES),$(libdir))" ]; then \
+	  PATH="$$PATH:/sbin:/usr/sbin" ldconfig || true; fi
 
 install-strip:
 	$(MAKE) INSTALL_PROGRAM='$(INSTALL_PROGRAM) -s' install
@@ -91,24 +111,28 @@ uninstall:
 	  "$(libdir)/libtracehost.a" "$(libdir)/libtracehost.so" "$(libdir)/$(SONAME)" \
 	  "$(libpkgconfigdir)/tracehost.pc" "$(pkgconfigdir)/tracehost-client.pc" \
 	  "$(pkgdatadir)/viewer/make" "$(pkgdatadir)/viewer/perfetto" "$(bashcompletiondir)/tracehost" \
-	  "$(zshcompletiondir)/_tracehost"; do rm -f "$(DESTDIR)$$file"; done
+	  "$(zshcompletiondir)/_tracehost" "$(zshcompletiondir)/_tracehost-commands" \
+	  "$(cmakedir)/tracehost-config.cmake" "$(cmakedir)/tracehost-config-version.cmake"; do rm -f "$(DESTDIR)$$file"; done
+	for name in $(HELPED); do rm -f "$(DESTDIR)$(bashcompletiondir)/$$name"; done
 	$(MAKE) $(POSIX) uninstall
 	for page in $(PAGES); do rm -f "$(DESTDIR)$(man1dir)/$$page"; done
 	for file in $(CLIENT); do rm -f "$(DESTDIR)$(pkgdatadir)/c/$$file"; done
 	test ! -d "$(DESTDIR)$(pkgdatadir)/c" || rmdir "$(DESTDIR)$(pkgdatadir)/c"
 	for file in $(DATA); do rm -f "$(DESTDIR)$(pkgdatadir)/$$file"; done
 	for file in $(DOCUMENTS); do rm -f "$(DESTDIR)$(docdir)/$$file"; done
-	for folder in "$(docdir)/docs" "$(docdir)/examples" "$(docdir)" \
+	for folder in "$(cmakedir)" "$(docdir)/docs" "$(docdir)/examples" "$(docdir)" \
 	  "$(pkgdatadir)/schema" "$(pkgdatadir)/viewer/src" "$(pkgdatadir)/viewer" "$(pkgdatadir)"; do \
 	  test ! -d "$(DESTDIR)$$folder" || rmdir "$(DESTDIR)$$folder"; done
 
 deb:
 	tools/deb "$(OUT)"
 
+# twice the same bits: no time but the release's, and no mode but the umask's
 wheel:
-	$(PYTHON) -m pip wheel --quiet --no-deps $(PIPFLAGS) --wheel-dir "$(OUT)" ./clients/python
+	umask 022 && SOURCE_DATE_EPOCH=$${SOURCE_DATE_EPOCH:-$$(tools/version --time)} \
+	  $(PYTHON) -m pip wheel --quiet --no-deps $(PIPFLAGS) --wheel-dir "$(OUT)" ./clients/python
 
 check:
 	./test
 
-.PHONY: all install install-library install-strip uninstall deb wheel check
+.PHONY: all install install-files install-library install-strip uninstall deb wheel check

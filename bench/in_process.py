@@ -8,6 +8,8 @@ attaches to a process, waits for it and detaches, again and again. Printed is fo
 9), in nanoseconds a step; the runs of the ways take turns. Instructions are counted by valgrind's callgrind, as the
 difference of two runs; `-` where there is no valgrind, for Python, and for a pipe, whose other end is another process.
 The client in C calls the library by text, that in Python by typed calls. Without cargo or c++ their rows are left out.
+Then come the instructions of one tracehost_view of a user, by the number of other users with 250 processes and 1,000
+LWPs each.
 """
 
 from __future__ import annotations
@@ -24,6 +26,8 @@ import tempfile
 
 TOP = pathlib.Path(__file__).resolve().parent.parent
 COUNTED = re.compile(r"Collected : (\d+)")
+FULL_USERS = (0, 16, 63)
+SECONDS = 600  # at most, for one run in valgrind
 
 
 def compile_c(room: pathlib.Path, library: pathlib.Path) -> pathlib.Path:
@@ -77,9 +81,10 @@ def nanoseconds(way: list[str], steps: int) -> float:
     return float(subprocess.run(command(way, steps), check=True, capture_output=True, text=True).stdout)
 
 
-def instructions(way: list[str], steps: int) -> int:
-    words = ["valgrind", "--tool=callgrind", "--callgrind-out-file=/dev/null", *command(way, steps)]
-    ran = subprocess.run(words, check=True, capture_output=True, text=True)
+def instructions(run: list[str], *options: str) -> int:
+    """What callgrind collects in a run of this command."""
+    words = ["valgrind", "--tool=callgrind", "--callgrind-out-file=/dev/null", *options, *run]
+    ran = subprocess.run(words, check=True, capture_output=True, text=True, timeout=SECONDS)
     counted = COUNTED.search(ran.stderr)
     if counted is None:
         raise RuntimeError(ran.stderr)
@@ -89,7 +94,19 @@ def instructions(way: list[str], steps: int) -> int:
 def instructions_a_step(way: list[str]) -> str:
     if way[1] in ("pipe", "library") or not shutil.which("valgrind"):
         return "-"
-    return f"{(instructions(way, 60000) - instructions(way, 30000)) / 30000:,.0f}"
+    return f"{(instructions(command(way, 60000)) - instructions(command(way, 30000))) / 30000:,.0f}"
+
+
+def compile_views(room: pathlib.Path, library: pathlib.Path) -> pathlib.Path:
+    to = room / "views"
+    source = TOP / "bench/in_process/views.c"
+    subprocess.run(["cc", "-O2", "-I", TOP / "include", "-o", to, source, library], check=True)
+    return to
+
+
+def instructions_of_view(views: pathlib.Path, own: int, full: int) -> int:
+    """Those of a view of a user with `own` processes of one LWP, beside `full` full users."""
+    return instructions([str(views), str(own), str(full)], "--toggle-collect=look")
 
 
 def main() -> None:
@@ -111,6 +128,15 @@ def main() -> None:
         print(f'{"way":30} {"ns a step":>10} {"instructions":>13}')
         for name, way in table.items():
             print(f"{name:30} {best[name]:10,.0f} {instructions_a_step(way):>13}")
+        if shutil.which("valgrind"):
+            print_views(compile_views(pathlib.Path(room), library))
+
+
+def print_views(views: pathlib.Path) -> None:
+    print("\ninstructions of a view" + "".join(f"{full:>12} full" for full in FULL_USERS))
+    for own, name in ((1, "1 process"), (250, "250 processes")):
+        counts = [instructions_of_view(views, own, full) for full in FULL_USERS]
+        print(f"{name:22}" + "".join(f"{count:17,}" for count in counts))
 
 
 if __name__ == "__main__":

@@ -39,20 +39,20 @@ PARTS = {
         r'scenario_text::reading::read\b.*',
         r'scenario_text::parsing::parse\b.*',
         r'scenario_text::streaming::(stream|read_scenario)\b.*',
-        r'scenario::reading::read\b.*',
-        r'scenario::parsing::parse\b.*',
+        r'scenario_runs::reading::read\b.*',
+        r'scenario_runs::parsing::parse\b.*',
     ),
-    'bind': (r'scenario::binding::bind\b.*', r'scenario::binding::bound\b.*'),
+    'bind': (r'scenario_runs::binding::bind\b.*', r'scenario_runs::binding::bound\b.*'),
     'steps': (
         r'requests::host::Host::(step|make)\b.*',
         r'visibility::runs::run_list\b.*',
         # the steps and what is around them, where they are inlined: in `text_of` the text too
-        r'scenario::running::(text_of|replies_of)\b.*',
+        r'scenario_runs::running::(text_of|replies_of)\b.*',
     ),
     'text': (
-        r'scenario::lines::push_(shown|line|words)\b.*',
-        r'scenario::lines::render\b.*',
-        r'scenario::running::write_lines\b.*',
+        r'scenario_runs::lines::push_(shown|line|words)\b.*',
+        r'scenario_runs::lines::render\b.*',
+        r'scenario_runs::running::write_lines\b.*',
     ),
 }
 

@@ -22,6 +22,9 @@
  *   - No call from a signal handler, or from the forked child of a process with threads.
  *   - Pointers are not null, also where a size is 0, and the objects behind a call's pointers don't overlap.
  *   - malloc, realloc and free, which a session uses, are of one allocator.
+ *
+ * A call on a handle that was closed is NOT_OPEN. So is one on memory that was never a handle, unless its tag happens to be
+ * that of an open one.
  */
 #ifndef TRACEHOST_LIBRARY_H
 #define TRACEHOST_LIBRARY_H
@@ -34,8 +37,13 @@
 extern "C" {
 #endif
 
-typedef struct tracehost { void *session; bool is_open; } tracehost;
-#define TRACEHOST_CLOSED {NULL, false}
+/* The tag is 0 while the handle is closed, and a number of the library's own while it is open. */
+typedef struct tracehost { void *session; uint64_t tag; } tracehost;
+#define TRACEHOST_CLOSED {NULL, 0}
+
+/* tools/format version */
+#define TRACEHOST_VERSION "0.11.0"
+/* end */
 
 /* What a call returns. After 1, 2, 3 and 5 the session, and all that the call's pointers lead to, are as before. */
 enum {
@@ -121,6 +129,12 @@ enum { /* calls that TRACEHOST_ENTER enters */
     TRACEHOST_FORK = 0, TRACEHOST_VFORK = 1, TRACEHOST_EXEC = 2, TRACEHOST_THR_NEW = 3, TRACEHOST_THR_EXIT = 4,
     TRACEHOST_EXIT = 5 /* argument: the exit status, 0 to 255 */, TRACEHOST_OTHER = 6 /* argument: the call's number */
 };
+
+/* The version of the library that the program runs with: that of the header is TRACEHOST_VERSION. */
+const char *tracehost_version(void);
+
+/* What a code that a call returned says, in English. For any other number it says that no call returns it. */
+const char *tracehost_strerror(uint32_t code);
 
 /* Opens a session with an unused host. Closes one, and frees it. Copies one at its present state into a closed handle. */
 uint32_t tracehost_open(bool kill_on_debugger_exit, tracehost *out);

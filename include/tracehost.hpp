@@ -48,6 +48,36 @@ public:
         return reply;
     }
 
+    // tracehost_handle, with a function that decides where the rules of the caller leave or decline the stop. It gets the
+    // reply of the stop, with the system call's number in `code`, and returns TRACEHOST_CONTINUE .. or such a decision with
+    // the signal to pass on, `tracehost_session::passing(TRACEHOST_CONTINUE, 15)`. Then the request is made, which is a step
+    // of its own; its reply is returned if it is an error. Else the reply is that of the stop, with that decision.
+    template <typename Decide> tracehost_reply handle_with(uint32_t user, uint32_t caller, Decide decide)
+    {
+        tracehost_reply stop = call(tracehost_handle, user, caller);
+        if (stop.kind != TRACEHOST_HANDLED || (stop.decision != TRACEHOST_LEAVE && stop.decision != TRACEHOST_DECLINE))
+            return stop;
+        const verdict made = decide(static_cast<const tracehost_reply &>(stop));
+        stop.has_handler = stop.handler = 0;
+        stop.decision = made.decision;
+        stop.pass = made.pass;
+        const uint32_t request = made.decision == TRACEHOST_CONTINUE ? TRACEHOST_PT_CONTINUE
+                                 : made.decision == TRACEHOST_DETACH ? TRACEHOST_PT_DETACH
+                                 : made.decision == TRACEHOST_KILL   ? TRACEHOST_PT_KILL
+                                                                     : TRACEHOST_PT_TRACE_ME;
+        if (request == TRACEHOST_PT_TRACE_ME) // the stop remains
+            return stop;
+        const tracehost_reply done = call(tracehost_ptrace, user, caller, request, stop.pid, made.pass);
+        return done.kind == TRACEHOST_OK ? stop : done;
+    }
+
+    // what a function of handle_with returns: TRACEHOST_CONTINUE .. is one without a signal
+    struct verdict {
+        verdict(uint32_t decision, uint32_t pass = 0) : decision(decision), pass(pass) {}
+        uint32_t decision, pass;
+    };
+    static verdict passing(uint32_t decision, uint32_t signal) { return verdict(decision, signal); }
+
     // for tracehost_line, tracehost_numbers and tracehost_view
     tracehost *get() noexcept { return &handle; }
 

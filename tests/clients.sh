@@ -17,7 +17,7 @@ for file in tests/rows/*/*.json examples/*.json; do
 done
 
 # ---- Python
-needs_pytest() { [[ $1 =~ /(pytest_plugin|strategies|stateful|test_pytest_plugin)\.py$ ]]; } # tests/pytest.sh has these
+needs_pytest() { grep -qE '^(import|from) (pytest|hypothesis)' "$1"; } # tests/pytest.sh has their types
 plain=()
 for file in clients/python/*/*.py; do needs_pytest "$file" || plain+=("$file"); done
 need mypy && MYPYPATH=clients/python check "mypy" mypy --strict --cache-dir "$room/mypy" "${plain[@]}" \
@@ -35,6 +35,9 @@ if folder=$(find_library); then
   libraries+=("$folder/libtracehost.so")
   TRACEHOST_LIBRARY=${libraries[1]} python_by library
   TRACEHOST_LIBRARY=${libraries[1]} check "clients/python/tests/test_library.py" python3 -W error clients/python/tests/test_library.py
+  TRACEHOST_LIBRARY=${libraries[1]} run_pytest -W error \
+    clients/python/tests/test_{arguments,checkouts,handlers,lifetimes,recording_faults,refusals}.py \
+    tests/python/test_hostile_clients.py
 else
   skip "there is no library, so the client in Python runs over a pipe alone"
 fi
@@ -53,9 +56,10 @@ check "cc clients/c/tracehost_client.c" cc "${flags[@]}" -c -o "$room/tracehost.
 for source in clients/c/tests/*.c clients/c/examples/*.c; do
   check "cc $source" cc "${flags[@]}" -I clients/c -o "$room/$(basename "$source" .c)" "$source" "$room/tracehost.o"
 done
+strict=("${warnings[@]}" -Wconversion -Wsign-conversion)
 for source in clients/c/*.c; do
   [ "$source" = clients/c/in_process.c ] ||
-    check "cc -std=c99 $source" cc -std=c99 "${warnings[@]}" -c -o "$room/c99.o" "$source"
+    check "cc -std=c99 $source" cc -std=c99 "${strict[@]}" -c -o "$room/c99.o" "$source"
 done
 fake=clients/c/tests/fake.sh
 check "the tests of the client in C" "$room/test" "$program" "$fake" "$room" 1
@@ -105,7 +109,7 @@ replay_all "$room/replay" C
 archive=${folder:-none}/libtracehost.a
 in_process() {
   local name inside=(-DTRACEHOST_IN_PROCESS -I include)
-  check "cc -std=c99 in_process.c" cc -std=c99 "${warnings[@]}" "${inside[@]}" -c -o "$room/c99.o" \
+  check "cc -std=c99 in_process.c" cc -std=c99 "${strict[@]}" "${inside[@]}" -c -o "$room/c99.o" \
     clients/c/in_process.c
   mkdir "$room/inside"
   for name in test threads replay; do
@@ -118,15 +122,17 @@ in_process() {
   check "cc codes.c" cc "${flags[@]}" "${inside[@]}" -o "$room/inside/codes" clients/c/tests/in_process/codes.c \
     clients/c/tracehost_client.c
   check "a library that runs out of memory" "$room/inside/codes"
+  TRACEHOST_LIBRARY=$folder/libtracehost.so run_pytest clients/c/tests/test_faults.py
 }
 
 # ---- C++: the library's header, and tracehost.hpp
 in_cpp() {
-  local standard
+  local standard header
   need c++ || return
   for standard in 11 14 17 20; do
-    check "tracehost.h in C++$standard" c++ "-std=c++$standard" "${warnings[@]}" -fsyntax-only -x c++ \
-      include/tracehost.h
+    for header in include/tracehost.h include/tracehost.hpp clients/c/tracehost_client.h; do
+      check "$header in C++$standard" c++ "-std=c++$standard" "${strict[@]}" -fsyntax-only -x c++ "$header"
+    done
     check "c++ -std=c++$standard session.cpp" c++ "-std=c++$standard" "${flags[@]:1}" -I include \
       -o "$room/cpp$standard" clients/cpp/tests/session.cpp "$archive"
     check "the tests of tracehost.hpp in C++$standard" "$room/cpp$standard"

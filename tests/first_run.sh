@@ -203,9 +203,9 @@ check "the scheduler is given no edits" test "$(grep -c '^edits ' "$CALLS")" -eq
 ./tracehost --prove other.json >"$room/out" 2>"$room/err"
 same <(echo "ran other.json") "$room/out" "the program that was built is run"
 same /dev/null "$CALLS" "nothing is proved again"
-echo "// changed" >>crates/scenario/src/lib.rt
+echo "// changed" >>crates/scenario_runs/src/lib.rt
 ./tracehost --prove other.json >"$room/out" 2>"$room/err"
-same <(echo "proved scenario") <(grep proved "$CALLS") "a changed source is proved again"
+same <(echo "proved scenario_runs") <(grep proved "$CALLS") "a changed source is proved again"
 
 # a kit that keeps no record: the next run takes what was proved, unless something has changed below it
 proved() { sed -n 's/^proved //p' "$CALLS" | sort; }
@@ -216,17 +216,17 @@ run_without_record() {
 run_without_record wait4
 check "a failed proof by a kit without a record ends with status 1" test $? -eq 1
 proved >"$room/first"
-check "some crates are proved before it" grep -qx trace_stop "$room/first"
-check "they are kept" test -d out/proved/trace_stop
+check "some crates are proved before it" grep -qx trace_rows "$room/first"
+check "they are kept" test -d out/proved/trace_rows
 run_without_record
 check "the next run ends with status 0" test $? -eq 0
 same <(comm -23 "$room/whole" "$room/first") <(proved) "it proves the others"
-check "it reports what was kept" grep -q 'trace_stop is proved (as before): ' "$room/err"
+check "it reports what was kept" grep -q 'trace_rows is proved (as before): ' "$room/err"
 check "nothing is kept once the program is built" test ! -e out/proved
 run_without_record wait4
 echo "// changed" >>crates/bit_sets/src/lib.rt
 run_without_record
-check "a changed source and all above it are proved again" test "$(proved | grep -cxE 'bit_sets|proc_table|trace_stop')" -eq 3
+check "a changed source and all above it are proved again" test "$(proved | grep -cxE 'bit_sets|proc_table|trace_rows')" -eq 3
 check "what doesn't stand on it is kept" test "$(proved | grep -cxE 'signals|lwp_table')" -eq 0
 run_without_record wait4
 echo "another kit" >"$room/KIT-ID"

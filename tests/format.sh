@@ -29,7 +29,7 @@ change() {
 }
 
 mkdir "$room/copy"
-git ls-files -z format tools crates schema include clients/c clients/python clients/rust/src viewer/src docs/FORMAT.md man | xargs -0 cp --parents -t "$room/copy"
+git ls-files -z format tools crates schema include clients/c clients/python clients/rust/src viewer docs/FORMAT.md man | xargs -0 cp --parents -t "$room/copy"
 clients=(clients/c/names.c clients/c/tracehost_client.h clients/python/tracehost/names.py clients/rust/src/steps.rs
   include/tracehost.h)
 manual=clients/python/tracehost/manual.py
@@ -37,18 +37,18 @@ parsers=(crates/scenario_text/src/names.rt crates/scenario_text/specs/Names.antt
 keys=(crates/scenario_text/{src/members.rt,specs/Streams.antt})
 change "another kind of a key" 's/^kind = "integer"$/kind = "word"/' crates/diagnostics/src/tables.rt "${keys[@]}"
 change "one more key" 's/^# A key has$/[[key]]\nname = "spare"\nkind = "word"\n/' "${keys[@]}" \
-  crates/scenario_text/{src/keys.rt,specs/Keys.antt,proofs/KeyLemmas.antt}
+  crates/scenario_text/{src/keys.rt,specs/Keys.antt,proofs/KeyLemmas.antt,proofs/KeySets.antt}
 change "another name of a request" 's/PT_ATTACH/PT_SEIZE/' "${parsers[@]}" crates/json_trace/src/names.rt \
   schema/scenario.schema.json "${clients[@]}" "$manual" docs/FORMAT.md man/tracehost.1
 change "another name of an op" 's/^name = "list"/name = "pids"/' "${parsers[@]}" crates/json_trace/src/names.rt \
-  schema/scenario.schema.json clients/python/tracehost/names.py viewer/src/read.mjs docs/FORMAT.md
+  schema/scenario.schema.json clients/python/tracehost/names.py viewer/src/read.mjs viewer/reading.py docs/FORMAT.md
 change "another number of a request" 's/^number = 10$/number = 12/' crates/flat_forms/src/requests_by_number.rt \
   crates/flat_forms/specs/Numbers.antt "${clients[@]}"
 change "another name of a call" 's/"vfork"/"rfork"/' "${parsers[@]}" crates/json_trace/src/names.rt \
   schema/scenario.schema.json clients/c/names.c clients/python/tracehost/names.py "$manual" docs/FORMAT.md
 change "another range" 's/^user = .*/user = [1001, 1065]/' crates/diagnostics/src/tables.rt schema/scenario.schema.json
 change "a key that may be missing" 's/"caller", "which", "signal"/"caller", "which", "[signal]"/' \
-  crates/diagnostics/src/tables.rt schema/scenario.schema.json viewer/src/read.mjs
+  crates/diagnostics/src/tables.rt schema/scenario.schema.json viewer/src/read.mjs viewer/reading.py
 change "another help" 's/^help = "Counts the LWPs/help = "Counts LWPs/' "$manual" clients/rust/src/steps.rs
 change "another effect" 's/^effect = "lists the user.s processes.*/effect = "lists them"/' docs/FORMAT.md
 

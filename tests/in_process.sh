@@ -1,8 +1,8 @@
 #!/usr/bin/env bash
 # The library in the caller's process, include/tracehost.h: its lines are those of `tracehost --lines`, its typed calls
-# are its lines; codes, rooms, views, copies, sessions next to each other and in threads, each allocation refused in turn;
-# the names that it exports, and the header in C and C++. Programs are run as they are, with the compiler's sanitizers, and
-# in valgrind.
+# are its lines; codes, rooms, views, copies, handles that aren't open, sessions next to each other and in threads, each
+# allocation refused in turn; the names that it exports and its interface, unwinding, the instructions of a view, and the
+# header in C and C++. Programs are run as they are, with the compiler's sanitizers, and in valgrind.
 #
 #   bash tests/in_process.sh [PROGRAM]
 #
@@ -33,7 +33,7 @@ fi
 # ---- the names: those of the header, and what it takes of the C library
 names() {
   local functions=$room/functions defined=$room/defined allowed='memcpy|memmove|memset|memcmp|bcmp|malloc|realloc|free'
-  grep -oE '^uint32_t tracehost_[a-z0-9_]+' include/tracehost.h | cut -d ' ' -f 2 | sort >"$functions"
+  sed -nE 's/^(uint32_t |const char \*)(tracehost_[a-z0-9_]+)\(.*/\2/p' include/tracehost.h | sort >"$functions"
   check "the header has functions" test -s "$functions"
   nm --defined-only --extern-only "$library/libtracehost.a" | awk 'NF == 3 { print $3 }' | sort >"$defined"
   same "$functions" "$defined" "the names that libtracehost.a defines"
@@ -45,14 +45,21 @@ names() {
     grep -vxE "$allowed" >"$room/others"
   same /dev/null "$room/others" "other names that libtracehost.so needs"
 }
-need nm && names
+# a release's library is older than its header where the header's calls have changed since
+is_present=yes
+if ! grep -qF "$(tools/version)" "$library/libtracehost.so" || ! grep -qF tracehost_version "$library/libtracehost.so"; then
+  is_present=
+  skip "the library is older than its header: tools/build_library.py builds it; names, handles and unwind aren't tested"
+fi
+[ -z "$is_present" ] || { need nm && names; }
+need cc && TRACEHOST_LIB_DIR=$library run_pytest tests/python/test_library_abi.py
 if need objdump; then
   check "its soname" grep -q 'SONAME *libtracehost.so.1$' <(objdump -p "$library/libtracehost.so")
   check "no path of this machine in it" test -z "$(strings -a "$library/libtracehost.so" "$library/libtracehost.a" | grep -F "$top")"
 fi
 
 # ---- the programs: compiled into a folder with some flags, and run behind some words
-tests=(agree codes copies lines rooms sessions threads views)
+tests=(agree codes copies lines rooms sessions threads views ${is_present:+handles})
 compile() {
   local folder=$1 name
   shift
@@ -64,6 +71,8 @@ compile() {
   check "cc $* refusals.c" cc -std=c11 "${warnings[@]}" -g "${own[@]}" "$@" \
     -Wl,--wrap=malloc,--wrap=realloc,--wrap=free -o "$folder/refusals" tests/in_process/refusals.c \
     "$library/libtracehost.a"
+  [ -z "$is_present" ] || check "cc $* unwind.c" cc -std=c11 "${warnings[@]}" -g "${own[@]}" "$@" \
+    -Wl,--wrap=malloc,--wrap=realloc -o "$folder/unwind" tests/in_process/unwind.c "$library/libtracehost.a"
 }
 
 # the lines of all row files, and the answers of `lines` to them
@@ -81,6 +90,7 @@ run_all() {
   check "rooms $*" "$@" "$folder/rooms"
   check "threads $*" "$@" "$folder/threads" "$refusals"
   check "views $*" "$@" "$folder/views"
+  [ -z "$is_present" ] || check "handles $*" "$@" "$folder/handles" "$((refusals / 2))"
   check "refusals $*" "$@" "$folder/refusals" "$refusals"
   check "lines $*" answer_rows "$@" "$folder/lines"
   [ -e "$room/wanted" ] || cp "$room/answers" "$room/wanted" # of the first run, which the lines below are compared with
@@ -89,6 +99,7 @@ run_all() {
 
 compile "$room/plain" -O2
 run_all "$room/plain" "${CALLS:-1000000}" 200 2000
+[ -z "$is_present" ] || check "unwinding" "$room/plain/unwind"
 sanitizers=("-fsanitize=address,undefined" -fno-sanitize-recover=all)
 echo 'int main(void) { return 0; }' >"$room/empty.c"
 if cc "${sanitizers[@]}" -o "$room/empty" "$room/empty.c" 2>/dev/null && "$room/empty"; then
@@ -101,6 +112,11 @@ if need valgrind; then
   run_all "$room/plain" 5000 2 100 valgrind -q --error-exitcode=1 --leak-check=full --show-leak-kinds=all
   check "threads, for races" valgrind -q --tool=helgrind --error-exitcode=1 "$room/plain/threads" 100
 fi
+
+# ---- the instructions of a view
+need valgrind && TRACEHOST_LIB_DIR=$library run_pytest tests/python/test_views.py
+need mypy && check "the types of the counts" env MYPYPATH=bench:clients/python mypy --strict --cache-dir "$room/mypy" \
+  bench/in_process.py tests/python/test_views.py tests/python/test_library_abi.py
 
 # ---- the shared object
 shared() {

@@ -1,7 +1,8 @@
 #!/usr/bin/env bash
 # `make install` and the Debian package, each in a fresh folder: the program, the manual pages, the completions, the
 # viewer, the client in C, the library, and C programs on the model are found and run there. `make uninstall` removes all.
-# Nothing is installed elsewhere.
+# Nothing is installed elsewhere. tests/python/test_install.py does it as a stranger: with spaces in names, umask 077, a
+# clone that can't be written, CMake and Meson.
 #
 #   bash tests/install.sh
 program=none
@@ -50,7 +51,7 @@ installed() {
   check "$prefix: cc" cc -o "$room/prog" "$room/prog.c" \
     $(pkg-config --cflags tracehost-client) $(pkg-config --variable=source tracehost-client)
   check "$prefix: a program in C" test "$("$room/prog" 2>/dev/null)" = "1001 stopped: SIGSTOP"
-  installed_library "$prefix" "$3"
+  installed_library "$root" "$prefix" "$3"
   installed_posix "$prefix" "$3"
 }
 
@@ -77,9 +78,11 @@ without_a_compiler() {
   check "make uninstall CC=none" make uninstall CC=no-such-compiler PREFIX="$room/plain"
 }
 
-# the library, for the program in C of docs/IN_PROCESS.md: as shared object, and as archive
+# the library, for the program in C of docs/IN_PROCESS.md: as shared object, and as archive. In a root that isn't the
+# system's, LD_LIBRARY_PATH stands for its linker
 installed_library() {
-  local prefix=$1 folder=$1/$2
+  local prefix=$2 folder=$2/$3 start=()
+  [ -z "$1" ] || start=(env "LD_LIBRARY_PATH=$folder")
   if ! tools/library >/dev/null 2>&1; then
     skip "there is no library of the present sources to install"
     return
@@ -90,7 +93,7 @@ installed_library() {
   # shellcheck disable=SC2046 # the line that docs/IN_PROCESS.md shows
   check "$prefix: cc with the library" cc -o "$room/inside" "$room/inside.c" $(pkg-config --cflags --libs tracehost)
   check "$prefix: a program with the shared object" \
-    test "$(LD_LIBRARY_PATH=$folder "$room/inside")" = "1001 stopped: word 4479"
+    test "$("${start[@]}" "$room/inside")" = "1001 stopped: word 4479"
   # shellcheck disable=SC2046
   check "$prefix: cc with the archive" cc -o "$room/inside" "$room/inside.c" $(pkg-config --cflags tracehost) \
     "$folder/libtracehost.a"
@@ -139,3 +142,4 @@ dpkg_installs() {
 
 make_installs
 dpkg_installs
+run_pytest tests/python/test_install.py tests/python/test_sbom.py

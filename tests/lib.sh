@@ -23,6 +23,7 @@
 #   find_library          prints the folder of the library to test
 #   need COMMAND..        is true where all these commands are installed, and else counts one skip
 #   count TEXT COMMAND..  runs a command that counts its own checks and prints them as its last line, and adds them
+#   run_pytest WORD..     runs pytest with these words, and adds the tests that it counts
 #
 # At the end the script prints `N passed, M failed, K skipped`.  Its status is 0 where it counted checks and none failed.
 set -uo pipefail
@@ -109,6 +110,19 @@ count() {
   failed=$((failed + BASH_REMATCH[2]))
   skipped=$((skipped + ${BASH_REMATCH[4]:-0}))
   [ "$status" -eq 0 ] || [ "${BASH_REMATCH[2]}" -gt 0 ] || fail "$text (status $status)"
+}
+
+# the tests of pytest are counted by its report, since its last line has other words
+run_pytest() {
+  local python
+  for python in python3 /usr/bin/python3; do
+    if "$python" -c 'import pytest' 2>/dev/null; then
+      "$python" -m pytest -q -p no:cacheprovider --junit-xml="$room/.junit" "$@" >"$room/.pytest" 2>&1 || tail -n 40 "$room/.pytest"
+      count "pytest $*" "$python" tests/python/count_junit.py "$room/.junit"
+      return
+    fi
+  done
+  skip "no python3 here has pytest: $*"
 }
 
 # prints the absolute path of the program to test, $1 where it isn't empty

@@ -8,9 +8,23 @@
 # first line of clap's message, or with --lines a line of standard output.  Where clap's message has the remedy there is
 # no place.
 #
+# tests/client_mistakes.tsv has mistakes that are made with the clients: which client; the mistake; code of Python or C, words
+# of the shell or a command; and what has to be in the message, between ` && `, or - where the message doesn't help. How
+# many of all mistakes are told so that one can mend them is printed at the end.
+#
 #   bash tests/mistakes.sh [PROGRAM]
 source "$(dirname "${BASH_SOURCE[0]}")/lib.sh"
 need python3 || exit
 
 count "mistakes" python3 tests/python/test_mistakes.py "$program" tests/mistakes.tsv "$room"
 count "on a terminal" python3 tests/python/test_terminal.py "$program"
+
+library=
+if folder=$(find_library); then
+  export TRACEHOST_LIBRARY=$folder/libtracehost.so
+  ! need cc || ! grep -q tracehost_strerror "$folder/libtracehost.a" || library=$folder/libtracehost.a
+fi
+need mypy && check "the types of the clients' mistakes" env MYPYPATH=clients/python:tests/python mypy --strict \
+  --cache-dir "$room/mypy" tests/python/test_client_mistakes.py
+count "with the clients" python3 tests/python/test_client_mistakes.py "$program" tests/client_mistakes.tsv tests/mistakes.tsv \
+  "$room" ${library:+"$library"}

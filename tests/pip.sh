@@ -24,6 +24,8 @@ transport() { (cd "$room" && "$bin/python" -c 'import tracehost; print(tracehost
 
 fails() { ! "$@"; }
 
+sums_hold() { (cd "$1" && sha256sum --quiet --strict -c SHA256SUMS); }
+
 # a python3 that builds a package offline
 building_python() {
   local python tools='import ensurepip, venv, importlib.util as u, setuptools
@@ -56,17 +58,41 @@ with_the_program() {
 tracehost.Host(record=sys.argv[1]).close()
 assert tracehost.view(sys.argv[1]).stat().st_size > 0' "$room/session.json"
   packages=$("$bin/python" -c 'import tracehost; print(tracehost.__path__[0])')/..
+  check "the digests of the package's files" sums_hold "$packages/tracehost"
   check "the viewer is in the package" test -e "$packages/tracehost/viewer/make"
   check "pytest finds the plugin" \
-    grep -qxF "tracehost = tracehost.pytest_plugin" "$packages"/tracehost-*.dist-info/entry_points.txt
+    grep -qxF "tracehost.pytest_plugin = tracehost.pytest_plugin" "$packages"/tracehost-*.dist-info/entry_points.txt
   if tools/library >/dev/null 2>&1; then
     check "the package has the library" test -e "$packages/tracehost/lib/libtracehost.so"
     check "a session in the process" test "$(transport)" = library
+    cp "$packages/tracehost/lib/libtracehost.so" "$room/kept.so"
+    echo x >>"$packages/tracehost/lib/libtracehost.so"
+    check "not over a library that was changed" test "$(transport)" = pipe
+    check "and why" grep -q "libtracehost.so: its digest isn't that of" \
+      <("$bin/python" -c 'import tracehost; tracehost.Host(transport="library")' 2>&1)
+    cp "$room/kept.so" "$packages/tracehost/lib/libtracehost.so"
   else
     skip "there is no library of the present sources to install"
     check "a session over a pipe" test "$(transport)" = pipe
   fi
   check "TRACEHOST names the program" fails env TRACEHOST="$room/false/tracehost" "$bin/python" "$room/page.py"
+}
+
+# the command of docs/PYTEST.md, in this clone and an environment that has the package
+pytest_of_the_clone() {
+  local word
+  if ! "$bin/python" -c 'import pytest' 2>/dev/null; then
+    skip "the environment has no pytest: the plugin isn't tried there"
+    return
+  fi
+  echo 'def test_one(tracehost): assert tracehost.user(1001).spawn().pid == 1000' >"$room/test_one.py"
+  for word in "" "-p tracehost.pytest_plugin"; do
+    # shellcheck disable=SC2086 # two words
+    check "pytest $word in the environment" "$bin/python" -m pytest -q -p no:cacheprovider $word "$room/test_one.py"
+    # shellcheck disable=SC2086
+    check "pytest $word with the clone's client" env PYTHONPATH="$top/clients/python" TRACEHOST="$(tools/program)" \
+      "$bin/python" -m pytest -q -p no:cacheprovider $word "$room/test_one.py"
+  done
 }
 
 # a copy of the client and of the version's place, with no program
@@ -100,6 +126,7 @@ bin=$room/venv/bin
 if python=$(building_python); then
   check "a fresh environment" "$python" -m venv --system-site-packages "$room/venv"
   with_the_program
+  pytest_of_the_clone
   without_the_program
   wheel
   types

@@ -1,7 +1,7 @@
 #!/usr/bin/env bash
 # C programs on the model: builds the runtime, runs all cases, races and examples of clients/posix under many schedules, has
 # each record replayed, and looks whether a seed is a schedule, whether anything is left behind, and what mistakes print.
-# POSIX_SEEDS (50) schedules of each case; with 50 these are some 14,700 runs.
+# POSIX_SEEDS (50) schedules of each case; with 50 these are some 16,800 runs.
 #
 #   bash tests/posix.sh [PROGRAM]
 source "$(dirname "${BASH_SOURCE[0]}")/lib.sh"
@@ -9,7 +9,7 @@ source "$(dirname "${BASH_SOURCE[0]}")/lib.sh"
 posix=$top/clients/posix
 run=$posix/tracehost-run
 cc=$posix/tracehost-cc
-export TRACEHOST=$program TMPDIR=$room/tmp
+export TRACEHOST=$program TMPDIR=$room/tmp WERROR=-Werror
 mkdir "$TMPDIR"
 
 need cc make python3 timeout xargs addr2line pgrep awk || exit
@@ -45,6 +45,19 @@ if need mypy; then
   check "the broker is typed" env MYPYPATH="$top/clients/python:$posix" mypy --strict --cache-dir "$room/mypy" "$posix/tracehost_posix"
 fi
 
+# ---- programs with awkward calls, in C and C++, and what is told of a run: the tests of pytest
+for python in python3 /usr/bin/python3 ""; do
+  [ -z "$python" ] || "$python" -c 'import pytest' 2>/dev/null && break
+done
+if [ -n "$python" ]; then
+  need mypy && check "the tests are typed" mypy --strict --python-executable "$python" --cache-dir "$room/mypy" tests/python/test_posix_*.py
+  for file in tests/python/test_posix_*.py; do
+    run_pytest --basetemp="$room/pytest" "$file"
+  done
+else
+  skip "no python3 here has pytest: tests/python/test_posix_*.py aren't run"
+fi
+
 # ---- the cases: plain and under seeds, each record replayed by tracehost --expect. Those of DIFFERENCES.txt have to fail
 one_case() { # one_case SEEDS FOLDER PROGRAM CASE
   local name
@@ -75,7 +88,7 @@ while read -r verdict name; do
 done <"$room/verdicts"
 cases=$(wc -l <"$room/list")
 runs=$(sed -n 's/^tracehost-run: \([0-9]*\) runs,.*/\1/p' "$room"/cases/*.log | awk '{ n += $1 } END { print n + 0 }')
-check "there are at least 280 cases" [ "$cases" -ge 280 ]
+check "there are at least 340 cases" [ "$cases" -ge 340 ]
 check "each case has a verdict" [ "$(wc -l <"$room/verdicts")" -eq "$cases" ]
 passing=$((cases - $(wc -l <"$room/differences")))
 check "each case that passes ran under all schedules" [ "$runs" -ge $((passing * (seeds + 1))) ]
@@ -84,7 +97,7 @@ echo "-- $cases cases, $(wc -l <"$room/differences") of them differences; $runs 
 # ---- races: found, and gone with their remedies
 is_found() {
   "$run" --jobs 4 --schedules 1000 --record "$room/race.json" "$1" >"$room/log" 2>&1
-  [ $? -eq 1 ] && grep -q 'are enough: --switches' "$room/log" && grep -q '\.c:[0-9]*' "$room/log" || return 1
+  [ $? -eq 1 ] && grep -q 'enough: --switches' "$room/log" && grep -q '\.c:[0-9]*' "$room/log" || return 1
   "$program" --expect "$room/race.json.lines" "$room/race.json" && [ -s "$room/race.json.html" ] || return 1
   "$run" --replay "$room/race.json" >"$room/replay" 2>&1
   [ $? -eq 1 ] && grep -q 'goes as recorded' "$room/replay"
@@ -100,7 +113,11 @@ check "truss passes 1,000 schedules with SIGINT at any time" is_clean "$room/tru
 
 # ---- strategies
 fails() { timeout 120 "$run" "$@" >"$room/log" 2>&1; [ $? -eq 1 ]; }
-check "priorities (PCT) find the lost wakeup" fails --strategy pct --schedules 1000 "$room/race_lost_wakeup"
+fails_in_time() { timeout 1200 "$run" "$@" >"$room/log" 2>&1; [ $? -eq 1 ]; } # tracer_dies takes a thousand runs
+for source in "$posix"/races/*.c; do
+  name=$(basename "$source" .c)
+  check "$name: priorities (PCT) find its race" fails_in_time --jobs 4 --strategy pct --schedules 2000 "$room/race_$name"
+done
 check "one preemption is enough for the lost wakeup" fails --preemptions 1 "$room/race_lost_wakeup"
 says() { # says WANTED COMMAND..: whether standard error has this
   local wanted=$1

@@ -22,7 +22,7 @@ fi
 run_pytest() { "$python" -m pytest -q -rN -p tracehost.pytest_plugin -p no:cacheprovider "$@"; }
 
 need mypy && MYPYPATH=clients/python check "mypy" mypy --strict --python-executable "$python" --cache-dir "$room/mypy" \
-  clients/python/*/*.py
+  clients/python/*/*.py clients/c/tests/*.py
 
 # the plugin's own tests, by $1, in the folder $at
 own_tests() {
@@ -85,6 +85,8 @@ over() {
 }
 
 TRACEHOST_LIBRARY='' over pipe
+TRACEHOST_LIBRARY='' check "clients/python/tests/test_artifacts.py" run_pytest --basetemp="$room/artifacts" \
+  clients/python/tests/test_artifacts.py
 if folder=$(find_library); then
   TRACEHOST_LIBRARY=$folder/libtracehost.so over library
 else

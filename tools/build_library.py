@@ -7,11 +7,12 @@
 
 `rt ci` proves a static library and builds none. What it left of the crates below has their statements alone, and `rt lib`
 would prove these crates anew. So this gives `rattle build` the words that rt itself makes for the crate: that checks the
-whole crate from nothing, as the gate did, and then compiles what it has just proved.
+whole crate from nothing, as the gate did, and then compiles what it has just proved. tools/unwinding_clang stands in the
+place of the kit's clang there, and asks it for unwind tables.
 
-Both files contain the kit's functions for memory, which call malloc, realloc and free. They define the names
-tracehost_* and no others. All is done by the kit's own tools, and no time, path or build number gets into a file, so
-that the same sources give the same bits.
+The words of its codes, and its version, are of library/words.c. Both files contain the kit's functions for memory, which call
+malloc, realloc and free. They define the names tracehost_* and no others. All is done by the kit's own tools, and no time,
+path or build number gets into a file, so that the same sources give the same bits.
 """
 
 from __future__ import annotations
@@ -30,7 +31,11 @@ CRATE = "tracehost_c"
 OUT = f"{TOP}/crates/{CRATE}/out"
 NAMES = ("libtracehost.a", "libtracehost.so")
 SONAME = "libtracehost.so.1"  # its number changes with a call or struct of include/tracehost.h that older programs don't fit
-EXPORTED = "{ global: tracehost_*; local: *; };\n"
+C_FLAGS = (
+    "--target=x86_64-unknown-linux-gnu --no-default-config -std=c11 -march=x86-64-v2 -O2 -fPIC -fasynchronous-unwind-tables"
+    " -ffreestanding -nostdinc -Wall -Wextra -Wconversion -Werror"
+).split()
+HEADERS = ("-isystem", f"{TOP}/library/freestanding", "-I", f"{TOP}/include")
 
 
 def refuse(why: str) -> None:
@@ -41,6 +46,17 @@ def digest_of_sources() -> str:
     """Returns the digest of all that the library is built from."""
     command = [f"{TOP}/tools/sources", CRATE]
     return subprocess.run(command, stdout=subprocess.PIPE, text=True, check=True).stdout.strip()
+
+
+def unwinding(kit: types.ModuleType, folder: str) -> str:
+    """Makes a toolchain in the folder: the kit's, but that its clang adds unwind tables. Returns the folder."""
+    tools = f"{kit.KIT}/toolchain"
+    os.mkdir(f"{folder}/bin")
+    os.symlink(f"{tools}/lib", f"{folder}/lib")
+    for name in ("ld.lld", "llvm-ar", "kit-clang"):
+        os.symlink(f"{tools}/bin/clang", f"{folder}/bin/{name}")
+    os.symlink(f"{TOP}/tools/unwinding_clang", f"{folder}/bin/clang")
+    return folder
 
 
 def build_archive(kit: types.ModuleType) -> str:
@@ -54,15 +70,15 @@ def build_archive(kit: types.ModuleType) -> str:
     if missing:
         refuse(f"run `rt ci` first: there is no library of {', '.join(missing)}")
     os.makedirs(OUT, exist_ok=True)
-    words = [*crate.words(["--jobs", "1"], keeps=False), "--toolchain", f"{kit.KIT}/toolchain", "--backend", "llvm"]
-    with open(f"{OUT}/build.log", "w+", encoding="utf-8") as crate.out:
-        status = crate.prove(["build", *words, "-o", archive])
+    words = [*crate.words(["--jobs", "1"], keeps=False), "--backend", "llvm"]
+    with open(f"{OUT}/build.log", "w+", encoding="utf-8") as crate.out, tempfile.TemporaryDirectory() as room:
+        status = crate.prove(["build", *words, "--toolchain", unwinding(kit, room), "-o", archive])
         crate.out.seek(0)
         lines = crate.out.read().splitlines()
     del held
     if status:
         print(*lines[-20:], sep="\n", file=sys.stderr)
-        refuse(f"{CRATE} is not proved: the whole log is {OUT}/build.log")
+        refuse(f"{CRATE} is not proved (status {status}): the whole log is {OUT}/build.log")
     print(*(line for line in lines if line.startswith(("logic=proved", "axioms"))), sep="\n")
     return f"{TOP}/crates/{CRATE}/{archive}"
 
@@ -84,14 +100,15 @@ def link(kit: types.ModuleType, archive: str, folder: str) -> None:
         members = run("llvm-ar", "t", archive).split()
         run("llvm-ar", "x", archive)
         run("llvm-ar", "x", f"{kit.KIT}/c/liblibc_c.a", "heap.pic.o")
-        run("ld.lld", "-m", "elf_x86_64", "-r", "--threads=1", "-o", "tracehost.o", *members, "heap.pic.o")
+        run("clang", *C_FLAGS, *HEADERS, "-c", f"{TOP}/library/words.c", "-o", "words.o")
+        members += ["words.o", "heap.pic.o"]
+        run("ld.lld", "-m", "elf_x86_64", "-r", "--threads=1", "-o", "tracehost.o", *members)
         run("llvm-objcopy", "--wildcard", "--keep-global-symbol=tracehost_*", "tracehost.o")
         run("llvm-ar", "rcsD", NAMES[0], "tracehost.o")
-        with open(f"{room}/exported", "w", encoding="ascii") as script:
-            script.write(EXPORTED)
-        words = f"-m elf_x86_64 -shared -soname {SONAME} --version-script exported --build-id=none --hash-style=gnu"
+        words = f"-m elf_x86_64 -shared -soname {SONAME} --build-id=none --hash-style=gnu"
         words += " -z relro -z now -z noexecstack -z defs --gc-sections --eh-frame-hdr --strip-all --threads=1"
-        run("ld.lld", *words.split(), "-o", NAMES[1], "tracehost.o", f"{tools}/lib/libc.so.6")
+        exported = ["--version-script", f"{TOP}/library/tracehost.map"]
+        run("ld.lld", *words.split(), *exported, "-o", NAMES[1], "tracehost.o", f"{tools}/lib/libc.so.6")
         os.chmod(f"{room}/{NAMES[1]}", 0o755)
         os.makedirs(folder, exist_ok=True)
         for name in NAMES:

@@ -1,10 +1,10 @@
 """Follows the names that contracts and definitions cite, from the contracts of some functions on.
 
 A *definition* is a paragraph of a file of a crate's `specs/`: a declaration with the comment before it. A *type* is an
-enum or a struct of a crate's `src/`. Names of the kit's own libraries are not followed.
+enum, a struct or a trait of a crate's `src/`, private ones too. Names of the kit's own libraries are not followed.
 
 Names are looked up by spelling. A variable with the spelling of an imported name counts as a citation, so what is found
-may be too much, and is not too little.
+may be too much. It is not too little: a name that is imported from this repository and leads to nothing is an error.
 """
 
 from __future__ import annotations
@@ -25,6 +25,9 @@ DECLARED = re.compile(r'\s*(?:abbrev |unfoldable )?(?:pub )?(record |data )?(\S+
 CONSTRUCTOR = re.compile(r'^  (?:pub )?(\S+) :', re.MULTILINE)
 FUNCTION = re.compile(r'^( *)pub (?:extern "C" )?fn (\w+)\b(.*?)^\1\{\}?$', re.DOTALL | re.MULTILINE)
 CITED = re.compile(r"(?<![\w'])(?<!\w\.)([A-Za-z_][\w'-]*)")
+TYPE = re.compile(r'^((?:(?:///|#\[).*\n)*)(?:pub(?:\([^)]*\))? )?(?:enum|struct|trait) (\w+)', re.MULTILINE)
+# the constants of a type, and the value by which contracts see it
+FURTHER = r'^bitflag_items! \{{\n    impl {0}:|^impl.* Model for {0}\b'
 # what leads from a type to its parts, in the path of a name
 PARTS = ('TheVariants', 'TheInside', 'TheConstants')
 
@@ -109,16 +112,26 @@ def used_by(crate: str) -> tuple[str, ...]:
 
 @cache
 def read_types(crate: str) -> dict[str, tuple[Definition, ...]]:
-    """The public types of a crate, each with its constants, and with the value by which contracts see it."""
+    """The types of a crate, each with its constants, and with what contracts see of it: its value, or a trait's ghosts."""
     found: dict[str, tuple[Definition, ...]] = {}
     for path in sorted((CRATES / crate / 'src').rglob('*.rt')):
         text = path.read_text(encoding='utf-8')
-        for head in re.finditer(r'^(?:(?:///|#\[).*\n)*pub (?:enum|struct) (\w+)', text, re.MULTILINE):
-            name = head[1]
-            further = rf'^bitflag_items! \{{\n    impl {name}:|^impl.* Model for {name}\b'
-            starts = [head.start(), *(it.start() for it in re.finditer(further, text, re.MULTILINE))]
-            found[name] = tuple(Definition(path, name, text.count('\n', 0, at) + 1, item_at(text, at)) for at in starts)
+        for head in re.finditer(TYPE, text):
+            name = head[2]
+            starts = [it.start() for it in re.finditer(FURTHER.format(name), text, re.MULTILINE)]
+            parts = [item_at(text, at) for at in starts]
+            parts += [lines_of(item_at(text, it.start()), 'ghost ') for it in re.finditer(rf'^impl.* {name}\b.* for ', text, re.MULTILINE)]
+            parts += [lines_of(item_at(text, it.start()), 'const ') for it in re.finditer(rf'^impl {name} \{{', text, re.MULTILINE)]
+            made = [Definition(path, name, text.count('\n', 0, text.index(part)) + 1, part) for part in parts if part]
+            own = Definition(path, name, text.count('\n', 0, head.start()) + 1, item_at(text, head.start()))
+            found[name] = (*found.get(name, ()), own, *made)
     return found
+
+
+def lines_of(item: str, word: str) -> str:
+    """The lines of an item from the first that declares such a thing to the last; empty if there is none."""
+    found = re.findall(rf'^    (?:pub(?:\([^)]*\))? )?{word}.*?;$', item, re.DOTALL | re.MULTILINE)
+    return item[item.index(found[0]) : item.index(found[-1]) + len(found[-1])] if found else ''
 
 
 def item_at(text: str, at: int) -> str:
@@ -161,17 +174,21 @@ class Walk:
             return  # the kit's
         if below[1] == 'declared':
             types = [word for word in below[2:] if word[0].isupper() and word not in PARTS]
-            self.add_type(crate, (types or [name])[-1])
+            if not self.add_type(crate, (types or [name])[-1]):
+                raise LookupError(f'{module}.{name} leads to no type of {crate}')
         elif below[1] != 'contracts':
             path = CRATES / crate / 'specs' / f'{"/".join(below[1:])}.antt'
             source = read_specs(path)
             if name in source.definitions:
                 self.add(source.definitions[name], source, path)
-            else:
+            elif name in source.names:
                 self.cite(source.names[name], name)
+            else:
+                raise LookupError(f'{module}.{name} leads to no definition of {crate}')
 
-    def add_type(self, crate: str, name: str) -> None:
-        """Adds a type and the types of its fields. A type with a model is seen by its value alone."""
+    def add_type(self, crate: str, name: str) -> bool:
+        """Adds a type and the types of its fields, and returns whether there is one. A type with a model is seen by its
+        value alone."""
         for place in used_by(crate):
             parts = read_types(place).get(name, ())
             if parts and parts[0] not in self.types:
@@ -180,7 +197,8 @@ class Walk:
                 for part in models or parts[:1]:
                     self.add_value(part, place, is_model=bool(models))
             if parts:
-                return
+                return True
+        return False
 
     def add_value(self, part: Definition, crate: str, is_model: bool) -> None:
         source, text = Source(), part.text

@@ -72,7 +72,7 @@ static int library_end(th_host *h)
 
 th_host *th_open(const struct th_settings *settings)
 {
-    static const struct thp_transport in_process = {library_exchange, library_reason, library_stop, library_end};
+    static const struct thp_transport in_process = {library_exchange, library_reason, library_stop, library_end, 0};
     static const tracehost closed = TRACEHOST_CLOSED;
     th_host *h = thp_new(&in_process, settings);
     if (h == NULL)

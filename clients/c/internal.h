@@ -57,6 +57,8 @@ struct thp_transport {
     void (*stop)(th_host *h);
     /* Ends the session, also one that has stopped; the program's status. */
     int (*end)(th_host *h);
+    /* whether a forked child has the session of its parent, and no copy of its own */
+    int is_shared;
 };
 
 struct th_host {
@@ -69,6 +71,7 @@ struct th_host {
     int socket;             /* -1 once it is closed */
     int reasons;            /* the program's standard error */
     pid_t program;
+    pid_t owner;            /* the process that opened the session */
     void *library;          /* a session in the process */
     struct thp_text step;   /* the line that is sent */
     struct thp_text answer; /* the line that was received, with a NUL in place of its line feed */
@@ -78,6 +81,7 @@ struct th_host {
     size_t steps;           /* recorded in them */
     off_t recorded;         /* bytes of the scenario before the brackets that close it */
     off_t lines_end;        /* bytes of the lines */
+    int record_error;       /* why a step can't be recorded; 0 while all are */
     struct thp_text entry;  /* what is added to the scenario */
 };
 
@@ -91,6 +95,10 @@ int thp_room_for(struct thp_text *text, size_t more);
 void thp_break_off(th_host *h);
 /* -1 with EPROTO: what was received is no reply */
 int thp_no_reply(th_host *h);
+/* whether the session was opened before a fork, by another process */
+int thp_is_inherited(const th_host *h);
+/* whether it is that process's, so that no call can be made */
+int thp_is_foreign(const th_host *h);
 /* Sends the line in `step`, and receives the line of its answer. */
 int thp_exchange(th_host *h);
 /* whether it was `refused`; the calling thread's fault and reason are set */

@@ -132,6 +132,8 @@ const char *th_strerror(int error)
     switch (error) {
     case TH_EHELD: return "The caller or the LWP doesn't run, and the step isn't made";
     case TH_EREFUSED: return "Refused: what was sent is no step";
+    case TH_ERECORD: return "The step can't be recorded, and the session has ended";
+    case TH_EFORKED: return "The session is that of the parent, which opened it before a fork";
     case EFAULT: return "Bad address";
     case ETIMEDOUT: return "Operation timed out";
     case EPIPE: return "The program has ended";

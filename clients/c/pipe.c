@@ -105,6 +105,12 @@ static void pass_errors_on(th_host *h)
 
 static int pipe_end(th_host *h)
 {
+    if (thp_is_inherited(h)) { /* the program is the parent's, and so is the connection */
+        if (h->socket >= 0)
+            pipe_stop(h);
+        close(h->reasons);
+        return 0;
+    }
     if (h->socket >= 0) {
         /* the program has written its last answer when its input is at its end and its output is closed */
         char rest[4096];
@@ -197,7 +203,7 @@ static void pipe_reason(th_host *h, char *reason, size_t size)
 
 th_host *th_start(const char *program, const struct th_settings *settings)
 {
-    static const struct thp_transport over_pipe = {pipe_exchange, pipe_reason, pipe_stop, pipe_end};
+    static const struct thp_transport over_pipe = {pipe_exchange, pipe_reason, pipe_stop, pipe_end, 1};
     th_host *h = thp_new(&over_pipe, settings);
     if (h == NULL)
         return NULL;

@@ -5,20 +5,37 @@
 
 #include <fcntl.h>
 #include <string.h>
+#include <sys/resource.h>
 #include <unistd.h>
 
-/* Writes all bytes at an offset of the file, and moves it past them. */
-static int write_at(int file, const char *bytes, size_t length, off_t *at)
+static const char end[] = "\n]}\n";
+
+/* a longer file than the limit isn't begun, since SIGXFSZ would end the program */
+static int may_have_size(off_t size)
 {
-    while (length > 0) {
-        ssize_t written = pwrite(file, bytes, length, *at);
-        if (written < 0 && errno == EINTR)
-            continue;
-        if (written < 0)
+    struct rlimit limit;
+    return getrlimit(RLIMIT_FSIZE, &limit) != 0 || limit.rlim_cur == RLIM_INFINITY || (rlim_t)size <= limit.rlim_cur;
+}
+
+/* Writes the bytes from `at` on, where the file ends in `before`; -1 with errno, and the file ends as before. */
+static int replace_end(int file, const char *bytes, size_t length, off_t at, const char *before)
+{
+    size_t done = 0, kept = strlen(before);
+    if (!may_have_size(at + (off_t)length)) {
+        errno = EFBIG;
+        return -1;
+    }
+    while (done < length) {
+        ssize_t written = pwrite(file, bytes + done, length - done, at + (off_t)done);
+        if (written >= 0) {
+            done += (size_t)written;
+        } else if (errno != EINTR) {
+            int error = errno;
+            if (done > 0 && (kept == 0 || pwrite(file, before, kept, at) == (ssize_t)kept))
+                (void)!ftruncate(file, at + (off_t)kept);
+            errno = error;
             return -1;
-        bytes += written;
-        *at += written;
-        length -= (size_t)written;
+        }
     }
     return 0;
 }
@@ -26,9 +43,7 @@ static int write_at(int file, const char *bytes, size_t length, off_t *at)
 /* Adds to the scenario in place of the brackets that close it, and closes it again, so that it is whole after each step. */
 static int add_entry(th_host *h, const char *between, const char *bytes, size_t length)
 {
-    static const char end[] = "\n]}\n";
     struct thp_text *entry = &h->entry;
-    off_t at = h->recorded;
     entry->length = 0;
     thp_add_text(entry, between);
     thp_add_bytes(entry, bytes, length);
@@ -38,8 +53,10 @@ static int add_entry(th_host *h, const char *between, const char *bytes, size_t 
         errno = ENOMEM;
         return -1;
     }
+    if (replace_end(h->scenario, entry->bytes, entry->length, h->recorded, h->recorded == 0 ? "" : end) != 0)
+        return -1;
     h->recorded += (off_t)added;
-    return write_at(h->scenario, entry->bytes, entry->length, &at);
+    return 0;
 }
 
 static int open_new(const char *path)
@@ -73,30 +90,53 @@ int th_record(th_host *h, const char *scenario, const char *lines)
     return result;
 }
 
-/* a step that ran out of memory isn't part of a scenario */
+/* a step that ran out of memory isn't part of a scenario, and a forked child's steps aren't the parent's */
 static int is_recorded(const th_host *h)
 {
-    return h->scenario >= 0 && !thp_refused(h) && strstr(h->answer.bytes, " error ENOMEM ") == NULL;
+    return h->scenario >= 0 && !thp_refused(h) && strstr(h->answer.bytes, " error ENOMEM ") == NULL &&
+           !thp_is_inherited(h);
 }
 
-int thp_record(th_host *h)
+static int add_line(th_host *h)
 {
     struct thp_text *answer = &h->answer;
+    if (h->lines < 0)
+        return 0;
+    answer->bytes[answer->length - 1] = '\n';
+    int result = replace_end(h->lines, answer->bytes, answer->length, h->lines_end, "");
+    answer->bytes[answer->length - 1] = '\0';
+    return result;
+}
+
+/* The line comes first: a program that is killed between both has one line too many, and no step without a line. */
+int thp_record(th_host *h)
+{
     if (!is_recorded(h))
         return 0;
-    const char *between = h->steps++ == 0 ? "\n" : ",\n";
-    int result = add_entry(h, between, h->step.bytes, h->step.length - 1);
-    if (result == 0 && h->lines >= 0) {
-        answer->bytes[answer->length - 1] = '\n';
-        result = write_at(h->lines, answer->bytes, answer->length, &h->lines_end);
-        answer->bytes[answer->length - 1] = '\0';
+    int result = add_line(h);
+    if (result == 0) {
+        result = add_entry(h, h->steps == 0 ? "\n" : ",\n", h->step.bytes, h->step.length - 1);
+        if (result != 0 && h->lines >= 0) {
+            int error = errno;
+            (void)!ftruncate(h->lines, h->lines_end);
+            errno = error;
+        }
     }
     if (result != 0) {
-        int error = errno;
+        h->record_error = errno;
         thp_break_off(h);
-        errno = error;
+        errno = TH_ERECORD;
+        return -1;
     }
-    return result;
+    h->steps++;
+    if (h->lines >= 0)
+        h->lines_end += (off_t)h->answer.length;
+    return 0;
+}
+
+int th_record_error(const th_host *h)
+{
+    return h->record_error;
 }
 
 void thp_close_record(th_host *h)

@@ -5,6 +5,7 @@
 
 #include <stdlib.h>
 #include <string.h>
+#include <unistd.h>
 
 /* why the calling thread's last step was refused, in the session of this number; as errno, it is the thread's own */
 #if __STDC_VERSION__ >= 201112L
@@ -75,6 +76,7 @@ th_host *thp_new(const struct thp_transport *transport, const struct th_settings
     h->kills = settings == NULL || settings->kill_on_debugger_exit != 0;
     h->scenario = h->lines = -1;
     h->session = next_session();
+    h->owner = getpid();
     int error = thp_init_threads(h);
     if (error == 0)
         return h;
@@ -83,10 +85,21 @@ th_host *thp_new(const struct thp_transport *transport, const struct th_settings
     return NULL;
 }
 
+int thp_is_inherited(const th_host *h)
+{
+    return getpid() != h->owner;
+}
+
+int thp_is_foreign(const th_host *h)
+{
+    return h->transport->is_shared && thp_is_inherited(h);
+}
+
 void thp_free(th_host *h)
 {
     thp_close_record(h);
-    thp_end_threads(h);
+    if (!thp_is_inherited(h)) /* else it would wait for threads that sleep in the parent */
+        thp_end_threads(h);
     free(h->step.bytes);
     free(h->answer.bytes);
     free(h->entry.bytes);
@@ -166,6 +179,10 @@ int thp_exchange(th_host *h)
     thp_add_bytes(&h->step, "\n", 1);
     if (h->step.failed) {
         errno = ENOMEM;
+        return -1;
+    }
+    if (thp_is_foreign(h)) {
+        errno = TH_EFORKED;
         return -1;
     }
     if (h->broken) {

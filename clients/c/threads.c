@@ -37,8 +37,11 @@ static struct thp_wait *first_due(const th_host *h)
     return wait;
 }
 
+/* In a forked child a lock may be held by a thread that isn't there. A call there is refused without it. */
 void thp_enter(th_host *h)
 {
+    if (thp_is_foreign(h))
+        return;
     pthread_mutex_lock(&h->lock);
     while (first_due(h) != NULL)
         pthread_cond_wait(&h->changed, &h->lock);
@@ -47,7 +50,8 @@ void thp_enter(th_host *h)
 void thp_leave(th_host *h)
 {
     int error = errno;
-    pthread_mutex_unlock(&h->lock);
+    if (!thp_is_foreign(h))
+        pthread_mutex_unlock(&h->lock);
     errno = error;
 }
 
@@ -134,6 +138,10 @@ int th_until_blocked(th_host *h, size_t count, int timeout)
 {
     struct timespec deadline = deadline_in(timeout < 0 ? 0 : timeout);
     int error = 0;
+    if (thp_is_foreign(h)) {
+        errno = TH_EFORKED;
+        return -1;
+    }
     pthread_mutex_lock(&h->lock);
     while (error == 0 && !are_blocked(h, count))
         if (sleep_until(h, timeout < 0 ? NULL : &deadline) == ETIMEDOUT && !are_blocked(h, count))

@@ -20,18 +20,24 @@
  *   - TH_EHELD: the caller, or the LWP at its turn, doesn't run, and the call isn't made.
  *   - TH_EREFUSED: what was sent is no step (a user outside 1001 to 1064, a 17th rule). th_fault names the fault, th_reason
  *     has its reason.
+ *   - TH_ERECORD: the step was made, and can't be recorded (th_record). The session has ended.
+ *   - TH_EFORKED: the process is a child of the one that opened the session over a pipe, which is the parent's.
  *   - EPIPE: the program has ended, or broke off its answer. No SIGPIPE is raised: the program's standard input and output
  *     are a socket, which is written by send(2) with MSG_NOSIGNAL.
  *   - EPROTO: the program's line isn't one that docs/LINES.md describes; the next call answers EPIPE.
  *   - ETIMEDOUT: a wait was blocked for longer than its timeout.
  *
- * th_strerror has words for all of these; perror(3) and strerror(3) have wrong ones for TH_EHELD and TH_EREFUSED.
+ * th_strerror has words for all of these; perror(3) and strerror(3) have wrong ones for those that begin with TH_.
  *
  * A call that a signal interrupts goes on (EINTR is never returned). Numbers are FreeBSD's, whatever the host's headers say;
  * the protocol goes by names.
  *
  * Several threads may use a session: every call may be made while other threads are in calls, but th_close, which is the
  * last one. Steps are made one after another, each under the session's lock. Compile with -pthread.
+ *
+ * After fork(2) a session over a pipe is the parent's: each call of the child is refused, and its th_close frees the memory
+ * only. A session in the process (th_open) is copied: fork while no thread is in a call of it. The child's steps aren't
+ * recorded.
  */
 #ifndef TRACEHOST_CLIENT_H
 #define TRACEHOST_CLIENT_H
@@ -181,6 +187,8 @@ int th_freebsd_errno(int error);
 /* own errno values, none of which the model answers */
 #define TH_EHELD EINPROGRESS
 #define TH_EREFUSED EBADMSG
+#define TH_ERECORD ENOTRECOVERABLE
+#define TH_EFORKED ESTALE
 
 /* The words for an errno that a call has set: FreeBSD's for the model's, strerror(3)'s for one that is none of the client's. */
 const char *th_strerror(int error);
@@ -221,9 +229,15 @@ const char *th_reason(const th_host *h);
 /*
  * Records the session from its beginning: all steps that were answered as a scenario, and their lines in a second file, unless
  * `lines` is NULL. Both are whole after each step, also where the test ends by abort(3). `tracehost SCENARIO --expect LINES`
- * then makes the session again. EBUSY after the first step; a step that can't be written ends the session with its errno.
+ * then makes the session again. EBUSY after the first step.
+ *
+ * A step that can't be written, as on a full disk, is answered TH_ERECORD, and ends the session. Both files are then those of
+ * the steps before. A program that is killed may leave one line more than steps.
  */
 int th_record(th_host *h, const char *scenario, const char *lines);
+
+/* The errno of the file after TH_ERECORD, ENOSPC as an example; 0 before. */
+int th_record_error(const th_host *h);
 
 /*
  * Sends a line as it is (a step as in docs/FORMAT.md, without a line feed), and stores the line of its answer, without

@@ -4,6 +4,7 @@ has them, and the viewer.
 
 from __future__ import annotations
 
+import hashlib
 import pathlib
 import re
 import shutil
@@ -62,6 +63,10 @@ class BuildPackage(build_py):
         if library is not None:
             (package / "lib").mkdir()
             shutil.copy(library, package / "lib")
+        copies = [path for path in (package / "bin" / "tracehost", package / "lib" / "libtracehost.so") if path.exists()]
+        if copies:  # the client compares them: tracehost/packaged.py
+            sums = [f"{hashlib.sha256(path.read_bytes()).hexdigest()}  {path.relative_to(package)}\n" for path in copies]
+            (package / "SHA256SUMS").write_text("".join(sums), encoding="ascii")
 
 
 built = [file for file in (program, library) if file is not None]
@@ -71,6 +76,7 @@ setup(
     version=version(),
     license="BSD-2-Clause",
     cmdclass={"build_py": BuildPackage},
-    entry_points={"pytest11": ["tracehost = tracehost.pytest_plugin"], **commands},
+    # the name is the module's, so that pytest takes -p tracehost.pytest_plugin and an installed package for one plugin
+    entry_points={"pytest11": ["tracehost.pytest_plugin = tracehost.pytest_plugin"], **commands},
     options={"bdist_wheel": {"plat_name": platform(built)}} if built else {},
 )

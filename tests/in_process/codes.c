@@ -59,8 +59,8 @@ static void on_a_closed_handle(tracehost *closed)
     tracehost to = TRACEHOST_CLOSED;
     size_t length = 9;
     const uint32_t code = TRACEHOST_NOT_OPEN;
-    CHECK(tracehost_close(closed) == code && !closed->is_open);
-    CHECK(tracehost_copy(closed, &to) == code && to.session == NULL && !to.is_open);
+    CHECK(tracehost_close(closed) == code && closed->tag == 0);
+    CHECK(tracehost_copy(closed, &to) == code && to.session == NULL && to.tag == 0);
     CHECK(tracehost_line(closed, false, spawn, sizeof spawn - 1, out, 3, &length) == code);
     CHECK(tracehost_last_line(closed, false, out, 3, &length) == code);
     CHECK(tracehost_numbers(closed, numbers, 1, &length) == code && numbers[0] == 7);
@@ -75,13 +75,13 @@ static void on_closed_handles(void)
 {
     tracehost zeros, closed = TRACEHOST_CLOSED, constant = TRACEHOST_CLOSED;
     memset(&zeros, 0, sizeof zeros);
-    CHECK(tracehost_open(true, &closed) == TRACEHOST_ANSWERED && closed.is_open);
-    CHECK(tracehost_close(&closed) == TRACEHOST_ANSWERED && !closed.is_open);
+    CHECK(tracehost_open(true, &closed) == TRACEHOST_ANSWERED && closed.tag != 0);
+    CHECK(tracehost_close(&closed) == TRACEHOST_ANSWERED && closed.tag == 0);
     on_a_closed_handle(&zeros);
     on_a_closed_handle(&closed);
     on_a_closed_handle(&constant);
     /* each of them can be opened, and is copied into */
-    CHECK(tracehost_open(true, &zeros) == 0 && tracehost_copy(&zeros, &closed) == 0 && closed.is_open);
+    CHECK(tracehost_open(true, &zeros) == 0 && tracehost_copy(&zeros, &closed) == 0 && closed.tag != 0);
     CHECK(tracehost_open(false, &constant) == 0);
     CHECK(tracehost_close(&zeros) == 0 && tracehost_close(&closed) == 0 && tracehost_close(&constant) == 0);
 }
@@ -91,7 +91,7 @@ static void on_an_open_handle(void)
 {
     tracehost other = TRACEHOST_CLOSED, moved;
     void *session = h.session;
-    CHECK(tracehost_open(true, &h) == TRACEHOST_NOT_OPEN && h.is_open && h.session == session);
+    CHECK(tracehost_open(true, &h) == TRACEHOST_NOT_OPEN && h.tag != 0 && h.session == session);
     CHECK(tracehost_open(true, &other) == TRACEHOST_ANSWERED);
     RETURNS(TRACEHOST_ANSWERED, tracehost_spawn(&other, 1003, &reply));
     CHECK(tracehost_copy(&h, &other) == TRACEHOST_NOT_OPEN && tracehost_copy(&other, &h) == TRACEHOST_NOT_OPEN);

@@ -197,10 +197,10 @@ static unsigned long opening(tracehost *from, tracehost *to)
             CHECK(same(&before, &after));
         }
         if (!was_refused) {
-            CHECK(code == TRACEHOST_ANSWERED && to->is_open);
+            CHECK(code == TRACEHOST_ANSWERED && to->tag != 0);
             return (unsigned long)number - 1;
         }
-        CHECK(code == TRACEHOST_NO_MEMORY && !to->is_open && to->session == NULL && blocks == held);
+        CHECK(code == TRACEHOST_NO_MEMORY && to->tag == 0 && to->session == NULL && blocks == held);
     }
 }
 

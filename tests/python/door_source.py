@@ -48,7 +48,7 @@ SHAPES: dict[str, dict[str, str]] = {
         'serve': """fetch_add::<Draw>(seat,1,1)@draw await_ticket
             exchange(seat,0,HostSlot::Taken(user,Snapshot::of(plain))) else { } state.make
             if { give_back return } count_up give_back""",
-        'await_ticket': 'for { load::<Turn>(seat,0)@look-at-serving if == { return } }',
+        'await_ticket': 'for { load::<Look>(seat,0)@look-at-serving if == { return } }',
         'count_up': 'fetch_add::<Count>(seat,2,1)',
         'give_back': 'exchange(seat,0,HostSlot::Present(state)) fetch_add::<Release>(seat,0,1)@serve-next',
     },

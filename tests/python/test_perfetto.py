@@ -4,6 +4,7 @@ What a file has to have is that format's description: an object with `traceEvent
 tid, ts and dur. The steps come from the trace, and stops of small sessions from docs/FORMAT.md.
 """
 import collections
+import importlib.machinery
 import json
 import os
 import pathlib
@@ -14,6 +15,7 @@ import tempfile
 import unittest
 from typing import Any
 
+import damage
 from by_chance import scenario
 from counting import run_unit_tests
 
@@ -46,6 +48,43 @@ def events_of(trace: str) -> list[Event]:
     assert set(made) == {"traceEvents"}
     events: list[Event] = made["traceEvents"]
     return events
+
+
+class Damaged(unittest.TestCase):
+    """Traces with wrong values: each is converted, or refused in one line. DAMAGED sets how many, 2,000 at first."""
+
+    def test_damaged_traces(self) -> None:
+        perfetto = importlib.machinery.SourceFileLoader("perfetto", str(SCRIPT)).load_module()
+        chance = random.Random(46)
+        traces = [trace_of(file.read_bytes()).splitlines() for file in EXAMPLES]
+        outcomes: collections.Counter[str] = collections.Counter()
+        for _ in range(int(os.environ.get("DAMAGED", "2000"))):
+            text = "\n".join(damage.damaged_lines(chance.choice(traces), chance))
+            try:
+                json.dumps(perfetto.events_of(text))
+                outcomes["converted"] += 1
+            except perfetto.Refused as refused:
+                self.assertRegex(str(refused), r"\Aline \d+: no line of tracehost --json=trace: [ -~]+\Z")
+                outcomes["refused"] += 1
+        self.assertGreater(min(outcomes["converted"], outcomes["refused"]), 200, outcomes)
+
+    def test_a_damaged_file(self) -> None:
+        line = '{"user":1001,"step":1,"index":1,"asked":{"op":"turn"},"reply":"ok"}\n'
+        told = f'no line of tracehost --json=trace: in its step: "lwp" is missing or of a wrong form: {line}'
+        self.assertEqual(convert("-", data=line), ("", f"viewer/perfetto: standard input, line 1: {told}", 1))
+
+    def test_a_full_disk(self) -> None:
+        """What was there stays."""
+        with tempfile.TemporaryDirectory() as room:
+            trace, made = pathlib.Path(room, "t"), pathlib.Path(room, "made.json")
+            trace.write_text(trace_of(EXAMPLES[0].read_bytes()))
+            made.write_text("older")
+            small = "import resource, runpy; resource.setrlimit(resource.RLIMIT_FSIZE, (50, 50)); "
+            code = small + f"runpy.run_path({str(SCRIPT)!r}, run_name='__main__')"
+            done = subprocess.run([sys.executable, "-c", code, str(trace), "-o", str(made)], capture_output=True)
+            self.assertEqual((done.returncode, made.read_text()), (1, "older"))
+            self.assertTrue(done.stderr.decode().endswith("made.json: File too large\n"), done.stderr)
+            self.assertEqual(len(os.listdir(room)), 2)
 
 
 class Perfetto(unittest.TestCase):
@@ -133,6 +172,13 @@ class Perfetto(unittest.TestCase):
             ("SIGSTOP", 1002, 100002, 11, 14),
         ])
 
+    def test_stops_that_a_handler_ends(self) -> None:
+        """A handler that continues the process or kills it ends the stop: none lasts beyond its `handle`."""
+        events = self.check(trace_of((TOP / "examples/sandbox.json").read_bytes()))
+        stops = [(event["name"], event["ts"], event["ts"] + event["dur"]) for event in events if event["ph"] == "X"]
+        self.assertEqual(stops, [
+            ("SIGSTOP", 3, 7), ("SIGTRAP SCE", 8, 9), ("SIGTRAP SCE", 11, 12), ("SIGTRAP SCX EXEC", 13, 14)])
+
     def test_names(self) -> None:
         events = self.check(trace_of((TOP / "examples/two_users.json").read_bytes()))
         named = {(event["name"], event["pid"]): event["args"] for event in events if event["ph"] == "M"}
@@ -156,11 +202,12 @@ class Perfetto(unittest.TestCase):
     def test_texts_that_are_no_trace(self) -> None:
         good = trace_of((TOP / "examples/first.json").read_bytes()).splitlines()[0]
         plain = '{"user":1001,"step":1,"reply":"ok"}'
-        for bad in ("1001 1 ok", "[]", "{", plain, plain.replace('"reply"', '"index":"1","asked":{"op":"list"},"reply"'),
-                    '{"user":1001,"op":"spawn"}'):
+        for bad, why in (("1001 1 ok", "no JSON"), ("[]", "no object"), ("{", "no JSON"), (plain, "it has no step"),
+                         (plain.replace('"reply"', '"index":"1","asked":{"op":"list"},"reply"'), "no index of a step"),
+                         ('{"user":1001,"op":"spawn"}', "no number of a step")):
             out, err, status = convert("-", data=f"{good}\n{bad}\n")
-            self.assertEqual((out, err, status), (
-                "", "viewer/perfetto: standard input, line 2: no line of tracehost --json=trace\n", 1))
+            told = f"viewer/perfetto: standard input, line 2: no line of tracehost --json=trace: {why}: {bad}\n"
+            self.assertEqual((out, err, status), ("", told, 1))
         self.assertEqual(events_of(""), [])
 
 

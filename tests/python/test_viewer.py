@@ -3,14 +3,18 @@
 
 What a page shows is read from the document that the browser has made of it, and compared with the program's lines.
 """
+import base64
 import collections
+import hashlib
 import html.parser
 import json
+import subprocess
+import sys
 import unittest
 
 import viewer_runs as runs
 from viewer_browser import Tab
-from viewer_pages import BROWSER, EXAMPLES, HAS_BROWSER, NO_BROWSER, TOP, Pages, lines_of, run, run_make
+from viewer_pages import BROWSER, EXAMPLES, MAKE, HAS_BROWSER, NO_BROWSER, TOP, Pages, lines_of, run, run_make
 
 ALARM = "document.body.dataset.executed = 1"
 
@@ -42,13 +46,16 @@ class Make(unittest.TestCase):
 
     def test_files_come_back_as_they_were(self):
         hostile = '</script><script>alert(1)</script>\n<!-- <script>\n]]>\u2028\u2029"\\ &lt; \u00e9 \U0001f600\n'
-        lines = self.pages.file("a.lines", hostile.encode())
-        scenario = self.pages.file("b.json", b'{"steps":["</script>"]}')
-        made = run_make(lines, scenario, check=True).stdout
-        data, scripts = self.embedded(made)
-        self.assertEqual(data, {"title": "b.json", "files": [{"name": "a.lines", "text": hostile},
-                                                             {"name": "b.json", "text": '{"steps":["</script>"]}'}]})
-        self.assertEqual(scripts, 2)
+        data, scripts = self.embedded(self.pages.unread("a", hostile).read_bytes())
+        self.assertEqual((data["files"], scripts), ([{"name": "a.lines", "text": hostile}], 2))
+        line = json.dumps({"user": 1001, "step": 1, "reply": "ok", "note": hostile}, ensure_ascii=False) + "\n"
+        steps = '{"steps":[{"user":1001,"op":"kill","caller":1,"which":1,"signal":1}, "</script>"]}'
+        made = run_make(self.pages.file("a.lines", line.encode()), self.pages.file("b.json", steps.encode()))
+        data, scripts = self.embedded(made.stdout)
+        self.assertEqual(data, {"title": "b.json", "files": [{"name": "a.lines", "text": line},
+                                                             {"name": "b.json", "text": steps}]})
+        self.assertEqual((scripts, made.returncode), (2, 1))
+        self.assertEqual(made.stderr, b'viewer/make: b.json, step 2: no step: "</script>"\n')
 
     def test_only_the_data_differs_from_the_empty_page(self):
         lines = self.pages.file("a.lines", b'{"refused":"BadJson"}\n')
@@ -66,8 +73,9 @@ class Make(unittest.TestCase):
         self.assertEqual(data["files"], [{"name": "standard input", "text": '{"refused":"BadJson"}\n'}])
 
     def test_bytes_that_are_no_text_are_replaced(self):
-        data, _ = self.embedded(run_make(self.pages.file("a.lines", b'{"a":"\xff\xfe"}\n'), check=True).stdout)
-        self.assertEqual(data["files"][0]["text"], '{"a":"\ufffd\ufffd"}\n')
+        line = b'{"user":1001,"step":1,"reply":"ok","a":"\xff\xfe"}\n'
+        data, _ = self.embedded(run_make(self.pages.file("a.lines", line), check=True).stdout)
+        self.assertEqual(data["files"][0]["text"], '{"user":1001,"step":1,"reply":"ok","a":"\ufffd\ufffd"}\n')
 
     def test_a_missing_file(self):
         page = self.pages.room / "page.html"
@@ -75,6 +83,71 @@ class Make(unittest.TestCase):
         self.assertEqual((done.returncode, done.stdout), (1, b""))
         self.assertRegex(done.stderr.decode(), r"\Aviewer/make: .*none.lines: No such file or directory\n\Z")
         self.assertFalse(page.exists())
+
+    def told(self, *words):
+        """What is said of files that aren't a run, and whether there is a page."""
+        page = self.pages.room / "page.html"
+        page.unlink(missing_ok=True)
+        done = run_make(*words, "-o", page)
+        self.assertEqual((done.returncode, done.stdout), (1, b""), done.stderr)
+        text = done.stderr.decode()
+        self.assertEqual(text.count("\n"), 1)
+        return text.removeprefix("viewer/make: ").rstrip("\n"), page.exists()
+
+    def test_what_is_no_run_is_refused(self):
+        """With a status and a line; a page is made where some of it can be drawn."""
+        file, first = self.pages.file, TOP / "examples" / "first.json"
+        lines = lines_of(first)
+        strange = "neither lines of --json nor a scenario: "
+        self.assertEqual(self.told(file("elf", b"\x7fELF\x02\n\x1b[31m")), (f"elf: {strange}\\x7fELF\\x02\\n\\x1b[31m", False))
+        self.assertEqual(self.told(file("empty", b"\n")), ("empty: there is nothing in it", False))
+        plain = (TOP / "examples" / "first.out").read_bytes()
+        self.assertEqual(self.told(file("plain", plain)),
+                         ("plain: these are lines of the plain text; run tracehost with --json", False))
+        self.assertEqual(self.told(file("cut", b'{"steps":[{"user')), ("cut: this scenario is cut short, or no JSON", False))
+        self.assertEqual(self.told(file("no array", b'{"steps":7}')), ('no array: "steps" is no array', False))
+        text, is_made = self.told(file("half", lines[:-20]))
+        self.assertTrue(is_made)
+        self.assertRegex(text, r"^half, line \d+: no JSON: ")
+        text, is_made = self.told(file("two", b"[]\n" + lines + b"{}\n"))
+        self.assertTrue(is_made)
+        self.assertEqual(text, "two, line 1: no object: [] (and 1 more, which the page lists)")
+        text, is_made = self.told(file("lines", lines), TOP / "examples" / "sandbox.json")
+        self.assertTrue(is_made)
+        self.assertRegex(text, r"^sandbox.json isn't the scenario of these lines: its step \d+ of user \d+ can't be answered")
+
+    def test_a_run_without_steps(self):
+        """It has no lines, and a page."""
+        scenario = self.pages.file("none.json", b'{"steps":[]}')
+        done = run_make(self.pages.file("none.lines", b""), scenario)
+        self.assertEqual((done.returncode, done.stderr), (0, b""))
+        self.assertIn(b"</html>", done.stdout)
+
+    def test_a_page_is_whole_or_as_it_was(self):
+        """A disk that is full, for standard output and for a file; a file's mode stays, and so does what can't be written."""
+        lines = self.pages.file("a.lines", lines_of(TOP / "examples" / "first.json"))
+        with open("/dev/full", "wb") as full:
+            done = subprocess.run([sys.executable, str(MAKE), str(lines)], stdout=full, stderr=subprocess.PIPE)
+        self.assertEqual((done.returncode, done.stderr), (1, b"viewer/make: standard output: No space left on device\n"))
+        page = self.pages.file("page.html", b"an older page")
+        page.chmod(0o640)
+        small = f"import resource, runpy, sys; resource.setrlimit(resource.RLIMIT_FSIZE, (20000, 20000)); runpy.run_path({str(MAKE)!r}, run_name='__main__')"
+        done = subprocess.run([sys.executable, "-c", small, str(lines), "-o", str(page)], capture_output=True)
+        self.assertEqual((done.returncode, done.stdout), (1, b""))
+        self.assertTrue(done.stderr.decode().endswith(f": {page}: File too large\n"), done.stderr)
+        self.assertEqual(page.read_bytes(), b"an older page")
+        self.assertEqual(sorted(path.name for path in self.pages.room.iterdir()), ["a.lines", "page.html"])
+        run_make(lines, "-o", page, check=True)
+        self.assertEqual(page.stat().st_mode & 0o777, 0o640)
+        self.assertIn(b"</html>", page.read_bytes())
+
+    def test_the_policy_has_the_digest_of_the_script(self):
+        """Content-Security-Policy: the script's SHA-256 is that of what stands between its tags, and none else may run."""
+        text = run_make(check=True).stdout.decode()
+        code = text.split("<script>", 1)[1].split("</script>", 1)[0]
+        digest = base64.b64encode(hashlib.sha256(code.encode()).digest()).decode()
+        policy = text.split('http-equiv="Content-Security-Policy"', 1)[1].split(">", 1)[0]
+        self.assertIn(f"default-src 'none'; script-src 'sha256-{digest}';", policy)
 
     def test_the_page_needs_nothing_else(self):
         text = run_make(check=True).stdout.decode()
@@ -299,11 +372,12 @@ class Page(unittest.TestCase):
         truncated = cls.lines[:-20]
         page = cls.pages.page
         return {
-            "bad": page("bad", good + "\n".join(bad).encode() + b"\n"),
-            "bad scenario": page("scenario", good + b'{"user":1001,"step":2,"reply":"ok"}\n', scenario),
-            "truncated": page("truncated", truncated, cls.example),
-            "other scenario": page("other", cls.lines, TOP / "examples" / "sandbox.json"),
-            "plain": page("plain", (TOP / "examples" / "first.out").read_bytes()),
+            "bad": page("bad", good + "\n".join(bad).encode() + b"\n", status=1),
+            "bad scenario": page("scenario", good + b'{"user":1001,"step":2,"reply":"ok"}\n', scenario, status=1),
+            "truncated": page("truncated", truncated, cls.example, status=1),
+            "other scenario": page("other", cls.lines, TOP / "examples" / "sandbox.json", status=1),
+            "plain": cls.pages.unread("plain", (TOP / "examples" / "first.out").read_text()),
+            "injected": cls.injected(page("injected", cls.lines, cls.example)),
             "refused": page("refused", good + b'{"refused":"BadName"}\n{"user":1001,"step":2,"reply":"ok"}\n'),
             "empty": cls.pages.empty(),
         }
@@ -316,6 +390,21 @@ class Page(unittest.TestCase):
             self.assertIn(line[:150], fault)
         self.assertEqual(len(document.primary()), 1)
         self.is_harmless(document)
+
+    @classmethod
+    def injected(cls, page):
+        """A page with scripts of somebody else in it, as if its data had ended its element."""
+        scripts = f"<script>{ALARM}</script><img src=x onerror='{ALARM}'><a id=a href='javascript:{ALARM}'></a></body>"
+        text = page.read_text()
+        assert text.count("</body>") == 1
+        page.write_text(text.replace("</body>", scripts))
+        return page
+
+    def test_the_policy_stops_other_scripts(self):
+        """The page's own script runs: its marks are there."""
+        document = self.documents["injected"]
+        self.assertNotIn("data-executed", document.body)
+        self.assertEqual(len(document.primary()), 16)
 
     def test_a_bad_scenario_is_told(self):
         document = self.documents["bad scenario"]

@@ -7,6 +7,8 @@ import tempfile
 import threading
 
 MOST_SECONDS = 600
+# a folder for coverage (v8_coverage.py)
+COVERAGE = os.environ.get("VIEWER_COVERAGE")
 
 
 class Document(html.parser.HTMLParser):
@@ -132,6 +134,9 @@ class Tab:
         self.ask("Page.enable")
         self.ask("Emulation.setDeviceMetricsOverride", width=width, height=height, deviceScaleFactor=1,
                  mobile=False)
+        if COVERAGE:
+            self.ask("Profiler.enable")
+            self.ask("Profiler.startPreciseCoverage", callCount=True, detailed=True)
         self.ask("Page.navigate", url=f"{path.as_uri()}#{address}")
         browser.wait(self.session, "Page.loadEventFired")
 
@@ -187,5 +192,14 @@ class Tab:
     def document(self):
         return Document(self.value("document.documentElement.outerHTML"))
 
+    def keep_coverage(self):
+        """Leaves V8's counts of the page's script: the one with the most functions."""
+        scripts = self.ask("Profiler.takePreciseCoverage")["result"]
+        functions = max((one["functions"] for one in scripts if one["url"].startswith("file:")), key=len, default=[])
+        with tempfile.NamedTemporaryFile("w", prefix="page-", suffix=".json", dir=COVERAGE, delete=False) as file:
+            json.dump(functions, file)
+
     def close(self):
+        if COVERAGE:
+            self.keep_coverage()
         self.browser.ask("Target.closeTarget", targetId=self.target)

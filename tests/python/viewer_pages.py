@@ -1,5 +1,6 @@
 """Pages of the viewer, for its tests."""
 
+import importlib.machinery
 import pathlib
 import subprocess
 import sys
@@ -10,6 +11,7 @@ from viewer_browser import Browser, Tab
 
 TOP = pathlib.Path(__file__).resolve().parents[2]
 MAKE = TOP / "viewer" / "make"
+MAKER = importlib.machinery.SourceFileLoader("viewer_make", str(MAKE)).load_module()
 EXAMPLES = [path for path in sorted((TOP / "examples").glob("*.json")) if not path.with_suffix(".err").exists()]
 PROGRAM = sys.argv[1]
 HAS_BROWSER = len(sys.argv) > 2
@@ -52,10 +54,17 @@ class Pages:
         """The page without data."""
         return self.file("empty.html", run_make(check=True).stdout)
 
-    def page(self, name, lines, scenario=None):
+    def page(self, name, lines, scenario=None, status=0):
         """The page of these lines."""
         words = [self.file(name + ".lines", lines)] + ([scenario] if scenario else [])
-        return self.file(name + ".html", run_make(*words, check=True).stdout)
+        done = run_make(*words)
+        assert done.returncode == status, done.stderr
+        return self.file(name + ".html", done.stdout)
+
+    def unread(self, name, text):
+        """The page of a text as it is, as if it were opened there: viewer/make makes none of a text that it can't read."""
+        files = [(name + ".lines", text)]
+        return self.file(name + ".html", MAKER.filled(MAKER.empty_page(), name, files).encode())
 
     def open(self, page, address="draw=all"):
         """What the browser makes of a page."""

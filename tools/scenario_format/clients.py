@@ -4,7 +4,9 @@ from __future__ import annotations
 
 import dataclasses
 import json
+import pathlib
 import re
+import subprocess
 import textwrap
 
 from .tables import Entry, Format, by_number, wrapped
@@ -30,6 +32,13 @@ def library_names(form: Format) -> str:
         + library_enum("events: the data of PT_SET_EVENT_MASK", single)
         + library_enum(flags, list(form.stop_flags))
     )
+
+
+def library_version(form: Format) -> str:
+    """The version in include/tracehost.h, which is the program's."""
+    tool = pathlib.Path(__file__).resolve().parent.parent / "version"
+    version = subprocess.run([tool], stdout=subprocess.PIPE, text=True, check=True).stdout.strip()
+    return f'#define TRACEHOST_VERSION "{version}"\n'
 
 
 # ---- the client in C
@@ -224,6 +233,21 @@ def viewer_map(name: str, about: str, rows: list[tuple[str, list[str]]]) -> str:
     items = [f"{key}: {json.dumps(values)}, " for key, values in rows]
     lines = "".join(line.rstrip() + "\n" for line in wrapped(items, 120, "  ", "  "))
     return f"/** {about} */\nconst {name} = new Map(Object.entries({{\n{lines}}}));\n"
+
+
+def viewer_python_map(name: str, about: str, rows: list[tuple[str, list[str]]]) -> str:
+    items = [f"{json.dumps(key)}: ({''.join(json.dumps(value) + ', ' for value in values).rstrip()}), " for key, values in rows]
+    lines = "".join(line.rstrip() + "\n" for line in wrapped(items, 120, "    ", "    "))
+    return f"# {about}\n{name}: dict[str, tuple[str, ...]] = {{\n{lines}}}  # fmt: skip\n"
+
+
+def viewer_python_ops(form: Format) -> str:
+    """The replies of each op, and its keys."""
+    return (
+        viewer_python_map("ANSWERS", "the replies of each op, beside error and held", [(op.name, op.reply_names) for op in form.ops])
+        + viewer_python_map("NEEDED", "the keys that a step of each op has, beside user and op", [(op.name, op.needed) for op in form.ops])
+        + viewer_python_map("NEEDED_BY_ACT", "the keys that an act has", [(act.name, act.needed) for act in form.acts])
+    )
 
 
 def viewer_ops(form: Format) -> str:

@@ -2,6 +2,8 @@
 
 from __future__ import annotations
 
+import textwrap
+
 from .rattle import rows
 from .tables import Format, NamedKey
 
@@ -49,6 +51,14 @@ def set_rows(form: Format) -> str:
     return "abbrev pub key_set : Key → Keys\n" + "".join(
         f"key_set key.{key.variant} = keys.{key.name.upper()}\n" for key in form.keys
     ) + "\n"
+
+
+def places(form: Format) -> str:
+    """The place of each key's bit, and the keys by their places, in crates/scenario_text/proofs/KeySets.antt"""
+    keys = [f"key.{key.variant}" for key in form.keys]
+    place = "".join(f"place (Some {key}) = {number}\n" for number, key in enumerate(keys))
+    table = textwrap.fill(" ∷ ".join([*keys, "[]"]), 116, initial_indent="    ", subsequent_indent="    ")
+    return f"abbrev place : Option Key → ℕ\n{place}place None = {len(keys)}\n\nabbrev keys : List Key\nkeys =\n{table}\n\n"
 
 
 def atoms(form: Format) -> list[NamedKey]:

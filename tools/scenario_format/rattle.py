@@ -110,7 +110,7 @@ def trace_names(form: Format) -> str:
     )
     return (
         f"//! The names of a scenario, as docs/FORMAT.md has them. {WRITTEN}\n"
-        "use event_masks::Call;\nuse scenario::BareStep;\nuse signals::Disposition;\nuse step_types::{Act, Request, Step};\n"
+        "use event_masks::Call;\nuse scenario_runs::BareStep;\nuse signals::Disposition;\nuse step_types::{Act, Request, Step};\n"
         "use stop_handlers::Decision;\n\n"
         f"pub(crate) fn op_of(step: &BareStep) -> &'static str {{\n    match step {{\n{ops}    }}\n}}\n\n"
     ) + "\n".join(

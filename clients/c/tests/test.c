@@ -50,6 +50,23 @@ static th_host *begin(const char *program)
     return h;
 }
 
+/* values that are none of their enums, which no step can have: EINVAL, and nothing is sent */
+static void no_names(const char *program)
+{
+    th_host *h = begin(program);
+    const struct th_rule rules[] = {{0, 0, (enum th_decision)9, 0}, {0, 0x10000, TH_LEAVE, 0}};
+    char line[64];
+    REFUSED(EINVAL, th_sigaction(h, self, TH_SIGTERM, (enum th_action)7));
+    REFUSED(EINVAL, th_install(h, self, &rules[0], 1));
+    REFUSED(EINVAL, th_install(h, self, &rules[1], 1));
+    REFUSED(EINVAL, th_turn_enter(h, 1001, 100000, (enum th_call)99, 0, NULL));
+    REFUSED(EINVAL, th_wait4(h, self, -1, NULL, 64));
+    REFUSED(EINVAL, th_step_text(h, "{}\n", line, sizeof line));
+    CHECK(th_step_text(h, "{\"user\":1001,\"op\":\"list\",\"caller\":1000}", line, sizeof line) == 21);
+    CHECK(strcmp(line, "1001 3 pids 1000 1001") == 0);
+    th_close(h);
+}
+
 /* ptrace(2): sizes in `data`, an unknown request, unknown event bits, a list that is longer than its room */
 static void arguments(const char *program)
 {
@@ -146,6 +163,10 @@ static void words(void)
     CHECK(strcmp(th_strerror(TH_EHELD), "The caller or the LWP doesn't run, and the step isn't made") == 0);
     CHECK(strcmp(th_strerror(TH_EREFUSED), "Refused: what was sent is no step") == 0);
     CHECK(strcmp(th_strerror(EPIPE), "The program has ended") == 0);
+    CHECK(strcmp(th_strerror(EFAULT), "Bad address") == 0);
+    CHECK(strcmp(th_strerror(ETIMEDOUT), "Operation timed out") == 0);
+    CHECK(strcmp(th_strerror(EPROTO), "The program's answer is no reply") == 0);
+    CHECK(strcmp(th_strerror(ENOENT), strerror(ENOENT)) == 0);
     CHECK(strcmp(th_strerror(ENOENT), strerror(ENOENT)) == 0);
 }
 
@@ -376,6 +397,7 @@ int main(int argc, char **argv)
     words();
     flags();
     refused_steps(argv[1]);
+    no_names(argv[1]);
     recorded(argv[1], argv[3]);
     standard_error(argv[2], argv[3]);
     settings(argv[1]);

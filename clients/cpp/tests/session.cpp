@@ -151,10 +151,48 @@ static void threads()
     CHECK(reported && (pids(session) == std::vector<uint32_t>{1000, 1001}));
 }
 
+/* a function decides by system call: reads go on, an exec ends the process; rules come first, and what is left remains */
+static void deciding()
+{
+    const uint32_t read = 3, execve = 59;
+    tracehost_session session = attached();
+    CHECK(reports_stop(session));
+    session.call(tracehost_ptrace, 1001, 1000, TRACEHOST_PT_SYSCALL, 1001, 0);
+    std::vector<uint32_t> seen;
+    auto decide = [&seen](const tracehost_reply &stop) -> tracehost_session::verdict {
+        seen.push_back(stop.code);
+        if (stop.code == 59)
+            return TRACEHOST_KILL;
+        if (stop.signal == 5)
+            return TRACEHOST_CONTINUE;
+        return tracehost_session::passing(TRACEHOST_DETACH, stop.signal);
+    };
+    CHECK(session.handle_with(1001, 1000, decide).kind == TRACEHOST_NOTHING);
+    session.call(tracehost_turn, 1001, 100001, TRACEHOST_ENTER, TRACEHOST_OTHER, read);
+    tracehost_reply reply = session.handle_with(1001, 1000, decide);
+    CHECK(reply.kind == TRACEHOST_HANDLED && reply.decision == TRACEHOST_CONTINUE && reply.code == read);
+    session.call(tracehost_turn, 1001, 100001, TRACEHOST_LEAVE_CALL, 0, 0);
+    session.handle_with(1001, 1000, decide);
+    session.call(tracehost_turn, 1001, 100001, TRACEHOST_RAISE, 0, 30);
+    session.call(tracehost_turn, 1001, 100001, TRACEHOST_COMPUTE, 0, 0);
+    reply = session.handle_with(1001, 1000, [](const tracehost_reply &) { return TRACEHOST_LEAVE; });
+    CHECK(reply.kind == TRACEHOST_HANDLED && reply.decision == TRACEHOST_LEAVE && reply.signal == 30);
+    CHECK(session.call(tracehost_turn, 1001, 100001, TRACEHOST_COMPUTE, 0, 0).kind == TRACEHOST_HELD);
+    session.call(tracehost_ptrace, 1001, 1000, TRACEHOST_PT_CONTINUE, 1001, 0);
+    session.call(tracehost_turn, 1001, 100001, TRACEHOST_ENTER, TRACEHOST_EXEC, 0);
+    reply = session.handle_with(1001, 1000, decide);
+    CHECK(reply.decision == TRACEHOST_KILL && reply.code == execve);
+    reply = session.handle_with(1001, 1000, decide);
+    CHECK(reply.kind == TRACEHOST_STATUS && reply.status == 9);
+    CHECK((seen == std::vector<uint32_t>{read, read, execve}));
+    CHECK(session.handle_with(1001, 7, decide).error == 3);
+}
+
 int main()
 {
     replies();
     handlers();
+    deciding();
     settings();
     copies();
     moves();

@@ -3,6 +3,8 @@
 #ifndef TRACEHOST_SIGNAL_H
 #define TRACEHOST_SIGNAL_H
 
+#include <tracehost/ucontext.h>
+
 #undef SIGHUP
 #undef SIGINT
 #undef SIGQUIT
@@ -85,6 +87,13 @@
 #define SA_NOCLDWAIT 0x0020
 #define SA_SIGINFO 0x0040
 
+#undef SS_DISABLE
+#undef MINSIGSTKSZ
+#undef SIGSTKSZ
+#define SS_DISABLE 4
+#define MINSIGSTKSZ 16384 /* FreeBSD's is smaller: the runtime needs room there */
+#define SIGSTKSZ 65536
+
 #undef SIG_BLOCK
 #undef SIG_UNBLOCK
 #undef SIG_SETMASK
@@ -96,6 +105,22 @@
 #define SIGADDSET(set, n) sigaddset(&(set), n)
 #define SIGDELSET(set, n) sigdelset(&(set), n)
 #define SIGEMPTYSET(set) sigemptyset(&(set))
+
+/* Codes of siginfo_t. Those of faults and traps are the host's, by the same names. */
+#undef SI_USER
+#undef SI_QUEUE
+#undef SI_TIMER
+#undef SI_ASYNCIO
+#undef SI_MESGQ
+#undef SI_KERNEL
+#define SI_NOINFO 0
+#define SI_USER 0x10001
+#define SI_QUEUE 0x10002
+#define SI_TIMER 0x10003
+#define SI_ASYNCIO 0x10004
+#define SI_MESGQ 0x10005
+#define SI_KERNEL 0x10006
+#define SI_LWP 0x10007
 
 typedef void (*sig_t)(int);
 

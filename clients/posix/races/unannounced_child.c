@@ -7,9 +7,7 @@
  * The remedy: a process that stops with PL_FLAG_CHILD is one's own, whether
  * or not its parent has reported it.
  * Known from: strace, which takes any process that wait4(2) names into its
- * table, as a child's first stop may be seen before its parent's event. (Of
- * two stops the model reports the one with the lower number first, so that
- * this order alone can't be seen; a parent that is killed can.)
+ * table, as a child's first stop may be seen before its parent's event.
  */
 #include <sys/types.h>
 #include <sys/ptrace.h>

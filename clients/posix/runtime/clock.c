@@ -7,7 +7,13 @@
 
 enum { EPOCH = 1767225600 }; /* where the clock of the day begins: 2026-01-01 */
 
-static long long ns_of(const struct timespec *time) { return time->tv_sec * 1000000000LL + time->tv_nsec; }
+static long long ns_of(const struct timespec *time)
+{
+	const long long most = 9000000000; /* of seconds: more are as many */
+	return (time->tv_sec < most ? time->tv_sec : most) * 1000000000LL + time->tv_nsec;
+}
+
+int tracehost_no_time(const struct timespec *time) { return time->tv_nsec < 0 || time->tv_nsec >= 1000000000; }
 
 static struct timespec time_of(long long ns) { return (struct timespec){ns / 1000000000, ns % 1000000000}; }
 
@@ -22,7 +28,7 @@ static int sleep_for(const void *where, long long ns, struct timespec *left)
 
 int tracehost_nanosleep(const struct timespec *time, struct timespec *left)
 {
-	if (time->tv_nsec < 0 || time->tv_nsec >= 1000000000 || time->tv_sec < 0) {
+	if (tracehost_no_time(time) || time->tv_sec < 0) {
 		errno = EINVAL;
 		return -1;
 	}
@@ -35,21 +41,29 @@ static long long now(const void *where)
 	return tracehost_number();
 }
 
-static int is_processor_clock(clockid_t clock)
+/* Whether the clock is the broker's: CLOCK_REALTIME, CLOCK_MONOTONIC and their kin. The processor's clocks are the host's. */
+static int is_virtual(clockid_t clock)
 {
-	return clock == CLOCK_PROCESS_CPUTIME_ID || clock == CLOCK_THREAD_CPUTIME_ID;
+	return clock >= 0 && clock <= CLOCK_BOOTTIME && clock != CLOCK_PROCESS_CPUTIME_ID && clock != CLOCK_THREAD_CPUTIME_ID;
 }
 
-static long long reading(const void *where, clockid_t clock)
+/* What the clock shows when the broker's shows 0. */
+static long long beginning(clockid_t clock)
 {
-	return now(where) + (clock == CLOCK_MONOTONIC || clock == CLOCK_BOOTTIME ? 0 : EPOCH * 1000000000LL);
+	return clock == CLOCK_REALTIME || clock == CLOCK_REALTIME_COARSE ? EPOCH * 1000000000LL : 0;
+}
+
+long long tracehost_moment(clockid_t clock, const struct timespec *time)
+{
+	long long ns = ns_of(time) - beginning(clock);
+	return ns > 0 ? ns : 0;
 }
 
 int tracehost_clock_nanosleep(clockid_t clock, int flags, const struct timespec *time, struct timespec *left)
 {
-	long long ns = ns_of(time);
-	if (flags & TIMER_ABSTIME)
-		ns -= reading(HERE, clock);
+	if (!is_virtual(clock) || tracehost_no_time(time) || time->tv_sec < 0)
+		return EINVAL;
+	long long ns = flags & TIMER_ABSTIME ? tracehost_moment(clock, time) - now(HERE) : ns_of(time);
 	return sleep_for(HERE, ns > 0 ? ns : 0, left) == 0 ? 0 : errno;
 }
 
@@ -63,48 +77,48 @@ unsigned tracehost_sleep(unsigned seconds)
 
 int tracehost_clock_gettime(clockid_t clock, struct timespec *to)
 {
-	if (is_processor_clock(clock))
+	if (!is_virtual(clock))
 		return clock_gettime(clock, to);
-	*to = time_of(reading(HERE, clock));
+	*to = time_of(now(HERE) + beginning(clock));
 	return 0;
+}
+
+/* Each look takes a microsecond. */
+int tracehost_clock_getres(clockid_t clock, struct timespec *to)
+{
+	if (!is_virtual(clock))
+		return clock_getres(clock, to);
+	if (to != NULL)
+		*to = time_of(1000);
+	return 0;
+}
+
+/* Of the caller alone: others have other numbers in the host. */
+int tracehost_clock_getcpuclockid(pid_t pid, clockid_t *clock)
+{
+	return pid == 0 || pid == own_pid ? clock_getcpuclockid(0, clock) : EPERM;
 }
 
 int tracehost_gettimeofday(struct timeval *to, void *zone)
 {
-	struct timespec time = time_of(reading(HERE, CLOCK_REALTIME));
+	struct timespec time = time_of(now(HERE) + beginning(CLOCK_REALTIME));
 	(void)zone;
 	*to = (struct timeval){time.tv_sec, time.tv_nsec / 1000};
 	return 0;
 }
 
+int tracehost_timespec_get(struct timespec *to, int base)
+{
+	if (base != TIME_UTC)
+		return 0;
+	*to = time_of(now(HERE) + beginning(CLOCK_REALTIME));
+	return base;
+}
+
 time_t tracehost_time(time_t *to)
 {
-	time_t seconds = reading(HERE, CLOCK_REALTIME) / 1000000000;
+	time_t seconds = (now(HERE) + beginning(CLOCK_REALTIME)) / 1000000000;
 	if (to != NULL)
 		*to = seconds;
 	return seconds;
-}
-
-/* ---- timers: SIGALRM alone */
-
-unsigned tracehost_alarm(unsigned seconds)
-{
-	ask("timer %lld 0", seconds * 1000000000LL);
-	return (tracehost_number() + 999999999) / 1000000000;
-}
-
-int tracehost_setitimer(int which, const struct itimerval *new, struct itimerval *old)
-{
-	long long left, every;
-	if (which != ITIMER_REAL) {
-		tracehost_say("setitimer: the model has ITIMER_REAL alone (EINVAL)");
-		errno = EINVAL;
-		return -1;
-	}
-	ask("timer %lld %lld", new->it_value.tv_sec * 1000000000LL + new->it_value.tv_usec * 1000LL,
-		new->it_interval.tv_sec * 1000000000LL + new->it_interval.tv_usec * 1000LL);
-	left = tracehost_number(), every = tracehost_number();
-	if (old != NULL)
-		*old = (struct itimerval){{every / 1000000000, every % 1000000000 / 1000}, {left / 1000000000, left % 1000000000 / 1000}};
-	return 0;
 }

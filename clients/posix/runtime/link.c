@@ -1,14 +1,17 @@
 /* The socket of a thread: one question at a time, and its answer.
  *
  * A message is a line without a line feed: `WHERE NAME ARGUMENT..`, WHERE being the address of the program's call. The
- * answer is `ok [N..]`, `error ERRNO [N]`, `handler SIGNAL` (the program's handler runs, `handled` is sent, and the
- * answer is still to come) or `die`. No answer comes before this thread may run: between two questions no other thread
- * of any process runs. */
+ * answer is `ok [N..]`, `error ERRNO [N]`, with `step` in front where the thread goes on by one instruction, and with
+ * `land` where it asks `user` as its call returns. Before it there may come `handler SIGNAL CODE SENDER STATUS ADDRESS`
+ * (the program's handler runs, and `handled` is sent), `registers CODE` (`at ADDRESS` is sent: of the record) and `apply
+ * KIND` (`done` is sent). Other answers are `end` (the process has ended in the model; its last handlers may run in the host) and
+ * `die`. No answer comes before this thread may run: between two questions no other thread of any process runs. */
 #define _GNU_SOURCE
 #include <fcntl.h>
 #include <stdarg.h>
 #include <stdio.h>
 #include <string.h>
+#include <sys/eventfd.h>
 #include <sys/socket.h>
 #include <sys/syscall.h>
 #include <unistd.h>
@@ -17,9 +20,15 @@
 
 const char tracehost_marker[] = "tracehost posix runtime, protocol 1";
 static char no_answer[1];
-__thread struct own own = {.fd = -1, .passed = -1, .at = no_answer};
+static char first_stack[16384]; /* of a thread that isn't the runtime's */
+__thread struct own own = {.now = {.top = first_stack + sizeof first_stack}, .fd = -1, .passed = -1, .at = no_answer};
+_Static_assert(offsetof(struct now, top) == 8 && offsetof(struct now, inside) == 16 && offsetof(struct now, lands) == 20 &&
+	offsetof(struct own, now) == 0 && sizeof(struct frame) == 160, "as entry.S has them");
 int own_pid;
+pid_t own_real;
 int own_fds[THREADS];
+static int spare[8]; /* for a program that has used up its descriptors */
+static int ended; /* in the model */
 
 void tracehost_say(const char *format, ...)
 {
@@ -37,7 +46,12 @@ void tracehost_say(const char *format, ...)
 
 void tracehost_broken(const char *what)
 {
-	tracehost_say("%s: %s", what, strerror(errno));
+	char line[256];
+	int length = snprintf(line, sizeof line, "0 broken %s: %s", what, strerror(errno));
+	if (own.fd < 0)
+		tracehost_say("%s", line + strlen("0 broken "));
+	else
+		send(own.fd, line, (size_t)length < sizeof line ? (size_t)length : sizeof line - 1, MSG_NOSIGNAL);
 	_exit(EXIT_REFUSED);
 }
 
@@ -57,7 +71,33 @@ int tracehost_own_descriptor(int fd)
 	for (int i = 0; i < THREADS; i++)
 		if (own_fds[i] == fd)
 			return 1;
+	for (size_t i = 0; i < sizeof spare / sizeof spare[0]; i++)
+		if (spare[i] == fd)
+			return 1;
 	return 0;
+}
+
+/* A message that comes with a descriptor needs a free one. */
+void tracehost_free_spare(void)
+{
+	for (size_t i = 0; i < sizeof spare / sizeof spare[0]; i++)
+		if (spare[i] > 0) {
+			close(spare[i]);
+			spare[i] = 0;
+			return;
+		}
+}
+
+void tracehost_fill_spare(void)
+{
+	int fd = -1;
+	for (size_t i = 0; i < sizeof spare / sizeof spare[0]; i++)
+		if (spare[i] <= 0) {
+			fd = fd < 0 ? eventfd(0, EFD_CLOEXEC) : fd;
+			spare[i] = fcntl(fd, F_DUPFD_CLOEXEC, FIRST_FD);
+		}
+	if (fd >= 0)
+		close(fd);
 }
 
 static void send_line(const char *line, size_t length)
@@ -78,6 +118,8 @@ static int descriptor_of(struct msghdr *message)
 	if (control == NULL || control->cmsg_type != SCM_RIGHTS)
 		return -1;
 	memcpy(&given, CMSG_DATA(control), sizeof given);
+	if (given >= FIRST_FD)
+		return given;
 	moved = fcntl(given, F_DUPFD_CLOEXEC, FIRST_FD);
 	close(given);
 	if (moved < 0)
@@ -101,57 +143,97 @@ static void receive_line(void)
 		own.passed = descriptor_of(&message);
 }
 
-static void run_handler(int number)
+/* Questions of calls at which a cancelled thread ends: pthread_testcancel(3). */
+static int is_cancellation_point(const char *question)
 {
-	struct sigaction action = tracehost_actions[number];
-	int saved = errno;
-	if (action.sa_flags & BSD_SA_RESETHAND)
-		tracehost_actions[number].sa_handler = SIG_DFL;
-	own.busy = 0;
-	if (action.sa_flags & BSD_SA_SIGINFO) {
-		siginfo_t info = {.si_signo = number};
-		ucontext_t context = {.uc_flags = 0}; /* no registers, as in the model */
-		action.sa_sigaction(number, &info, &context);
-	} else if (action.sa_handler != SIG_DFL && action.sa_handler != SIG_IGN)
-		action.sa_handler(number);
-	own.busy = 1;
-	errno = saved;
+	static const char *const points[] = {"sleep ", "wait ", "suspend ", "pause", "sigwait ", "join ", "enter ", "masked ", "again read",
+		"again write", "again poll", "again kevent", "again semaphore"};
+	for (size_t i = 0; i < sizeof points / sizeof points[0]; i++)
+		if (strncmp(question, points[i], strlen(points[i])) == 0)
+			return 1;
+	return 0;
+}
+
+/* Whether the answer begins with this word, which is taken away. */
+static int takes(const char *word)
+{
+	size_t length = strlen(word);
+	if (strncmp(own.answer, word, length) != 0)
+		return 0;
+	memmove(own.answer, own.answer + length, strlen(own.answer + length) + 1);
+	return 1;
+}
+
+/* What isn't the end of a question: 0 for anything else. */
+static int in_between(void)
+{
+	char line[32] = "0 done";
+	if (strncmp(own.answer, "handler ", 8) == 0) {
+		own.at = own.answer + 8;
+		tracehost_handle((int)tracehost_number());
+		strcpy(line, "0 handled");
+	} else if (strncmp(own.answer, "registers ", 10) == 0) {
+		tracehost_fetch(atoi(own.answer + 10));
+		snprintf(line, sizeof line, "0 at %lu", (unsigned long)&own.record);
+	} else if (strncmp(own.answer, "apply ", 6) == 0)
+		tracehost_apply(atoi(own.answer + 6));
+	else
+		return 0;
+	send_line(line, strlen(line));
+	return 1;
 }
 
 int tracehost_ask(const void *where, const char *format, ...)
 {
-	char line[256];
-	int length, result = 0;
+	char line[512];
+	int length, steps, lands, result = 0;
 	va_list arguments;
+	if (ended)
+		tracehost_die();
 	if (own.fd < 0) {
 		errno = ENXIO;
 		tracehost_broken("a thread that pthread_create(3) didn't make has called");
 	}
-	length = snprintf(line, sizeof line, "%lx ", (unsigned long)where);
+	if (own_real != syscall(SYS_getpid)) {
+		errno = ENXIO;
+		tracehost_broken("a process that fork(2) of the runtime didn't make has called");
+	}
+	const char *question = line + (length = snprintf(line, sizeof line, "%lx ", (unsigned long)where));
 	va_start(arguments, format);
 	length += vsnprintf(line + length, sizeof line - length, format, arguments);
 	va_end(arguments);
+	if ((size_t)length >= sizeof line)
+		length = sizeof line - 1;
+	int may_end = is_cancellation_point(question);
+	if (may_end)
+		tracehost_cancel_point();
 	own.busy = 1;
 	own.questions++;
 	own.passed = -1;
 	send_line(line, length);
 	for (;;) {
 		receive_line();
+		if (in_between())
+			continue;
+		steps = takes("step "), lands = takes("land ");
 		if (strncmp(own.answer, "ok", 2) == 0) {
 			own.at = own.answer + 2;
 			break;
 		}
-		if (strncmp(own.answer, "handler ", 8) == 0) {
-			run_handler(atoi(own.answer + 8));
-			send_line("0 handled", 9);
-		} else if (strncmp(own.answer, "error ", 6) == 0) {
+		if (strncmp(own.answer, "error ", 6) == 0) {
 			errno = strtol(own.answer + 6, &own.at, 10);
 			result = -1;
 			break;
+		} else if (strcmp(own.answer, "end") == 0) {
+			ended = 1;
+			return 0; /* busy: no poke comes any more, and a fault is the host's */
 		} else
 			tracehost_die();
 	}
+	tracehost_go_on(steps, lands);
 	own.busy = 0;
+	if (own.cancels_at_once || (may_end && result != 0 && errno == EINTR))
+		tracehost_cancel_point();
 	return result;
 }
 

@@ -1,10 +1,10 @@
 /* Processes: fork, exec, the end, and waiting for it. */
 #define _GNU_SOURCE
 #include <fcntl.h>
-#include <stdarg.h>
 #include <stdio.h>
 #include <string.h>
 #include <sys/mman.h>
+#include <sys/personality.h>
 #include <sys/prctl.h>
 #include <sys/resource.h>
 #include <sys/stat.h>
@@ -17,15 +17,20 @@ extern char **environ;
 
 /* ---- fork */
 
-static pid_t make_child(const void *where, const char *call)
+pid_t tracehost_make_child(const void *where, const char *call)
 {
 	int pid, tid, fd;
 	pid_t real;
-	if (tracehost_ask(where, "%s", call) != 0)
+	tracehost_free_spare();
+	if (tracehost_ask(where, "%s", call) != 0) {
+		tracehost_fill_spare();
 		return -1;
+	}
 	pid = tracehost_number(), tid = tracehost_number(), fd = own.passed;
 	fflush(stderr);
+	own.forking = 1;
 	real = fork();
+	own.forking = 0;
 	if (real < 0)
 		tracehost_broken("fork");
 	if (real == 0) {
@@ -34,16 +39,25 @@ static pid_t make_child(const void *where, const char *call)
 				close(own_fds[i]);
 				own_fds[i] = 0;
 			}
+		tracehost_only_thread(tid);
+		tracehost_no_timers();
+		tracehost_no_kqueues();
+		tracehost_no_descriptors();
+		own.now.frame->rax = 0; /* a debugger may look at it before it has returned */
 		tracehost_begin(fd, pid, tid);
 		return 0;
 	}
 	close(fd);
-	tracehost_ask(where, "user");
+	tracehost_fill_spare();
+	if (strcmp(call, "vfork") == 0)
+		own.now.lands &= ~LANDS_ASKING; /* it waits here until the child lets it go */
+	if (!(own.now.lands & LANDS_ASKING))
+		tracehost_ask(where, "user");
 	return pid;
 }
 
-pid_t tracehost_fork(void) { return make_child(HERE, "fork"); }
-pid_t tracehost_vfork(void) { return make_child(HERE, "vfork"); }
+pid_t tracehost_fork(void) { return tracehost_make_child(HERE, "fork"); }
+pid_t tracehost_vfork(void) { return tracehost_make_child(HERE, "vfork"); }
 
 /* ---- the end */
 
@@ -53,10 +67,39 @@ void tracehost__exit(int status)
 	tracehost_die();
 }
 
+/* Functions of atexit(3), and of at_quick_exit(3), are the program's: they run on its stack. */
+static void __attribute__((noreturn)) end_by(void (*way)(int), int status)
+{
+	struct outcall call = {.function = (void *)(size_t)way, .arguments = {status}};
+	own.where = HERE;
+	tracehost_call_program(&call, 0);
+	__builtin_unreachable();
+}
+
 void tracehost_exit(int status)
 {
-	own.where = HERE;
-	exit(status);
+	if (tracehost_exiting) /* in a handler of a signal that has come meanwhile: no handler of exit(3) is left */
+		tracehost__exit(status);
+	end_by(exit, status);
+}
+
+static int quick_status;
+
+static void ask_quick_exit(void)
+{
+	tracehost_ask(own.where, "exit %d", quick_status & 255);
+	tracehost_die();
+}
+
+__attribute__((constructor(102))) static void note_quick_exit(void)
+{
+	at_quick_exit(ask_quick_exit); /* the first one registered runs last */
+}
+
+void tracehost_quick_exit(int status)
+{
+	quick_status = status;
+	end_by(quick_exit, status);
 }
 
 void tracehost_abort(void)
@@ -92,8 +135,10 @@ static void run_foreign(const char *path, char *const argv[], char *const envp[]
 	pid_t child;
 	tracehost_ask(NULL, "foreign");
 	signal(SIGCHLD, SIG_DFL);
+	own.forking = 1;
 	if ((child = fork()) == 0) {
 		prctl(PR_SET_PDEATHSIG, SIGKILL);
+		personality(personality(~0UL) & ~ADDR_NO_RANDOMIZE); /* its calls come from other addresses than ours */
 		signal(SIGPIPE, SIG_DFL);
 		execve(path, argv, envp);
 		_exit(127);
@@ -111,7 +156,7 @@ static void run_foreign(const char *path, char *const argv[], char *const envp[]
 
 static int replace(const void *where, const char *path, char *const argv[], char *const envp[])
 {
-	static char socket_of[64];
+	static char socket_of[80];
 	char **environment;
 	size_t count = 0;
 	if (access(path, X_OK) != 0) {
@@ -131,7 +176,7 @@ static int replace(const void *where, const char *path, char *const argv[], char
 	if (environment == NULL)
 		tracehost_broken(path);
 	memcpy(environment, envp, count * sizeof *environment);
-	snprintf(socket_of, sizeof socket_of, "TRACEHOST_LWP=%d %d %d", own.fd, own_pid, own.tid);
+	snprintf(socket_of, sizeof socket_of, "TRACEHOST_LWP=%d %d %d %lx", own.fd, own_pid, own.tid, tracehost_held);
 	environment[count] = socket_of;
 	own.busy = 1; /* no poke comes between */
 	fcntl(own.fd, F_SETFD, 0);
@@ -139,9 +184,9 @@ static int replace(const void *where, const char *path, char *const argv[], char
 	tracehost_broken(path);
 }
 
-static int replace_by_name(const void *where, const char *file, char *const argv[], char *const envp[])
+static int replace_in(const void *where, const char *file, const char *all, char *const argv[], char *const envp[])
 {
-	char path[4096], *all = getenv("PATH"), *save = NULL, *copy, *folder;
+	char path[4096], *save = NULL, *copy, *folder;
 	if (strchr(file, '/') != NULL || all == NULL)
 		return replace(where, file, argv, envp);
 	if ((copy = strdup(all)) == NULL)
@@ -155,9 +200,31 @@ static int replace_by_name(const void *where, const char *file, char *const argv
 	return replace(where, folder != NULL ? path : file, argv, envp);
 }
 
+static int replace_by_name(const void *where, const char *file, char *const argv[], char *const envp[])
+{
+	return replace_in(where, file, getenv("PATH"), argv, envp);
+}
+
+int tracehost_replace(const void *where, const char *file, int by_name, char *const argv[], char *const envp[])
+{
+	return by_name ? replace_by_name(where, file, argv, envp) : replace(where, file, argv, envp);
+}
+
 int tracehost_execve(const char *path, char *const argv[], char *const envp[]) { return replace(HERE, path, argv, envp); }
+int tracehost_fexecve(int fd, char *const argv[], char *const envp[])
+{
+	char path[64];
+	snprintf(path, sizeof path, "/proc/self/fd/%d", fd);
+	return replace(HERE, path, argv, envp);
+}
+
 int tracehost_execv(const char *path, char *const argv[]) { return replace(HERE, path, argv, environ); }
 int tracehost_execvp(const char *file, char *const argv[]) { return replace_by_name(HERE, file, argv, environ); }
+
+int tracehost_execvP(const char *file, const char *folders, char *const argv[])
+{
+	return replace_in(HERE, file, folders, argv, environ);
+}
 
 int tracehost_execvpe(const char *file, char *const argv[], char *const envp[])
 {
@@ -166,32 +233,39 @@ int tracehost_execvpe(const char *file, char *const argv[], char *const envp[])
 
 enum { ARGUMENTS = 1024 };
 
-#define COLLECT(argv, first, rest) \
-	char *argv[ARGUMENTS] = {(char *)first}; \
-	va_list rest; \
-	va_start(rest, first); \
-	for (int i = 1; i < ARGUMENTS - 1 && argv[i - 1] != NULL; i++) \
-		argv[i] = va_arg(rest, char *);
-
-int tracehost_execl(const char *path, const char *first, ...)
+/* The arguments of execl(3) from the second one on, which are in registers and on the stack: what comes behind their NULL. */
+static const void *collect(char *argv[])
 {
-	COLLECT(argv, first, rest)
-	va_end(rest);
+	const struct frame *frame = own.now.frame;
+	const unsigned long registers[] = {frame->rsi, frame->rdx, frame->rcx, frame->r8, frame->r9};
+	enum { IN_REGISTERS = sizeof registers / sizeof registers[0] };
+	int i = 0;
+	const void *next;
+	do {
+		next = i < IN_REGISTERS ? (const void *)registers[i] : frame->at[1 + i - IN_REGISTERS];
+		argv[i++] = (char *)next;
+	} while (next != NULL && i < ARGUMENTS);
+	return i < IN_REGISTERS ? (const void *)registers[i] : frame->at[1 + i - IN_REGISTERS];
+}
+
+int tracehost_execl(const char *path)
+{
+	char *argv[ARGUMENTS];
+	collect(argv);
 	return replace(HERE, path, argv, environ);
 }
 
-int tracehost_execlp(const char *file, const char *first, ...)
+int tracehost_execlp(const char *file)
 {
-	COLLECT(argv, first, rest)
-	va_end(rest);
+	char *argv[ARGUMENTS];
+	collect(argv);
 	return replace_by_name(HERE, file, argv, environ);
 }
 
-int tracehost_execle(const char *path, const char *first, ...)
+int tracehost_execle(const char *path)
 {
-	COLLECT(argv, first, rest)
-	char *const *envp = va_arg(rest, char *const *);
-	va_end(rest);
+	char *argv[ARGUMENTS];
+	char *const *envp = collect(argv);
 	return replace(HERE, path, argv, envp);
 }
 
@@ -269,3 +343,15 @@ int tracehost_waitid(idtype_t kind, id_t id, siginfo_t *info, int options)
 
 pid_t tracehost_getpid(void) { return ask("call %d", SYSCALL_GETPID), own_pid; }
 pid_t tracehost_getppid(void) { return ask("getppid"), tracehost_number(); }
+
+/* All processes are in the group and the session of process 1, the parent of the first one: there are no others. */
+static pid_t group_of(const void *where, int code, pid_t pid)
+{
+	if (pid == 0 || pid == own_pid)
+		return tracehost_ask(where, "call %d", code), 1;
+	return tracehost_ask(where, "stat %d", pid) != 0 ? -1 : 1;
+}
+
+pid_t tracehost_getpgrp(void) { return group_of(HERE, SYSCALL_GETPGRP, 0); }
+pid_t tracehost_getpgid(pid_t pid) { return group_of(HERE, SYSCALL_GETPGID, pid); }
+pid_t tracehost_getsid(pid_t pid) { return group_of(HERE, SYSCALL_GETSID, pid); }

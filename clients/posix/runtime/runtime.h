@@ -9,9 +9,11 @@
 #include <stdlib.h>
 #include <sys/types.h>
 #include <time.h>
+#include "../include/machine/reg.h"
 
 enum {
 	FIRST_FD = 1000, /* the runtime's descriptors have this number or a greater one */
+	DESCRIPTORS = 4096, /* of a process: the same on each host */
 	THREADS = 1024,
 	EXIT_REFUSED = 125, /* of a program that can't be run here; its reason is on standard error */
 };
@@ -19,8 +21,55 @@ enum {
 /* The host's signal that makes a thread in user mode ask. */
 #define POKE (SIGRTMIN + 3)
 
+/* The program may have such names too: the linker sees these. */
+#define own tracehost_own
+#define own_pid tracehost_own_pid
+#define own_real tracehost_own_real
+#define own_fds tracehost_own_fds
+
+/* A call of the program's: its registers, as entry.S keeps them. */
+struct frame {
+	unsigned long r15, r14, r13, r12, r11, r10, r9, r8, rdi, rsi, rbp, rbx, rdx, rcx, rax, flags;
+	void *function;
+	const void **at; /* the program's stack, with the address that the call returns to */
+	struct frame *outer;
+	unsigned long was_inside;
+};
+
+/* What is due as the call returns: the first four are a landing's. */
+enum { LANDS_ASKING = 1, LANDS_STEPPED = 2, LANDS_STEPPING = 4, LANDS_SET = 8, LANDS_SET_FLOATS = 16 };
+
+/* Where a thread is; entry.S knows the first four. */
+struct now {
+	struct frame *frame; /* of the call that is under way, or of the last one */
+	char *top; /* of the stack that the next call runs on */
+	int inside; /* a call is under way */
+	int lands;
+	char *signals; /* where the host's signals begin */
+	void *context; /* of the program, which a signal of the host's has interrupted; NULL in a call */
+	void *interrupted; /* the same, in a call too */
+};
+
+/* What a debugger reads of a thread, and writes there. */
+struct record {
+	struct reg general;
+	struct fpreg floats __attribute__((aligned(16)));
+	unsigned long fs, gs;
+	long arguments[6]; /* of its last call */
+	int error; /* of its last call, as it lands */
+};
+enum { GENERAL, FLOATS, BASES };
+
+/* A function of the program's, called on its stack. */
+struct outcall {
+	void *stack, *function;
+	unsigned long frame_pointer;
+	long arguments[3];
+};
+
 /* What a thread knows of itself. */
 struct own {
+	struct now now;
 	int fd; /* its socket, or -1 */
 	int tid;
 	volatile int busy; /* in a question: a poke is of no use, and a fault is the runtime's own */
@@ -29,17 +78,26 @@ struct own {
 	char *at; /* the rest of the answer */
 	const void *where; /* the program's call of exit(3), which asks later */
 	timer_t tick;
+	stack_t other_stack; /* sigaltstack(2); no address where there is none */
+	char *stacks; /* the runtime's */
+	stack_t former_stack; /* of the host's signals */
+	struct birth *birth; /* of a thread whose routine hasn't begun */
+	int error; /* of the last call that landed */
+	struct record record, later; /* of a stopped thread; and what is set as its call returns */
+	int cancelled, uncancellable, cancels_at_once; /* pthread_cancel(3) */
+	int forking; /* a fork of the runtime's is under way */
 	char answer[8192];
 };
 extern __thread struct own own;
 extern int own_pid;
+extern pid_t own_real; /* the host's number of this process */
 extern int own_fds[THREADS]; /* the sockets of this process's threads; 0 is free */
 extern const char tracehost_marker[]; /* an exec looks for it in the file */
 
 /* A question: 0, or -1 with errno. `where` is the program's call, for reports. */
 int tracehost_ask(const void *where, const char *format, ...) __attribute__((format(printf, 2, 3)));
-#define ask(...) tracehost_ask(__builtin_return_address(0), __VA_ARGS__)
-#define HERE __builtin_return_address(0)
+#define ask(...) tracehost_ask(HERE, __VA_ARGS__)
+#define HERE (own.now.inside ? own.now.frame->at[0] : NULL) /* a function that asks is called by its entry: names.h */
 
 /* The next number of the answer. */
 long tracehost_number(void);
@@ -47,11 +105,69 @@ long tracehost_number(void);
 /* This thread has this socket from now on: it says hello, and returns once it may run. */
 void tracehost_begin(int fd, int pid, int tid);
 
+/* Questions of the runtime's own that are calls of the program, by their entries (entry.S): a debugger may look at them. */
+void enter_begin_image(int fd, int pid, int tid) __asm__("tracehost_begin_image");
+void enter_end_process(void) __asm__("tracehost_end_process");
+void enter_end_thread(void) __asm__("tracehost_end_thread");
+void tracehost_begin_image(int fd, int pid, int tid);
+void tracehost_end_process(void);
+void tracehost_end_thread(void);
+
 /* Ends this process, and all that others can see of it before its socket. */
 void tracehost_die(void) __attribute__((noreturn));
 
 /* The host has failed: one line, and the end. */
 void tracehost_broken(const char *what) __attribute__((noreturn));
+
+/* Stacks (stack.c): of a thread that begins, and of one that ends. */
+void tracehost_make_stacks(void);
+void tracehost_drop_stacks(void);
+
+/* Calls a function of the program's; and what is the case where the runtime goes back there and doesn't return. */
+void tracehost_call_program(struct outcall *call, int on_other_stack);
+void tracehost_leave_runtime(void);
+void tracehost_back_to(char *top, char *signals);
+
+/* entry.S: how these are called, and the places of its int3. */
+void tracehost_on_stack(struct outcall *call);
+void *tracehost_be_born(void *(*routine)(void *), void *argument);
+extern const char tracehost_landing[], tracehost_birth[], tracehost_born[], tracehost_handled[];
+extern const char __start_tracehost_entry[], __stop_tracehost_entry[];
+
+/* Registers (registers.c). */
+void tracehost_fetch(int code);
+void tracehost_apply(int kind);
+void tracehost_go_on(int steps, int lands);
+int tracehost_trap(siginfo_t *info, void *context);
+void tracehost_handle(int number);
+void tracehost_describe(siginfo_t *info); /* by the next four numbers of the answer */
+void tracehost_say_hello(void *context);
+
+/* The map of a process's memory (look.c). */
+struct ptrace_vm_entry;
+int tracehost_map_version(const void *where, pid_t target);
+int tracehost_map_entry(const void *where, pid_t target, struct ptrace_vm_entry *entry);
+
+/* A question at any place of the program, or in the midst of a call. */
+void tracehost_ask_between(const void *where, const char *question, void *context);
+
+/* A cancellation point: a cancelled thread ends here. */
+void tracehost_cancel_point(void);
+
+/* A child, by the question `fork` or `vfork`; and an exec, which returns -1 if it fails. */
+pid_t tracehost_make_child(const void *where, const char *call);
+int tracehost_replace(const void *where, const char *file, int by_name, char *const argv[], char *const envp[]);
+
+/* Calls of the program's that the runtime makes too. */
+void tracehost__exit(int status) __attribute__((noreturn));
+pid_t tracehost_waitpid(pid_t which, int *status, int options);
+int tracehost_close(int fd);
+int tracehost_dup2(int from, int to);
+int tracehost_sigprocmask(int how, const sigset_t *new, sigset_t *old);
+void (*tracehost_signal(int number, void (*handler)(int)))(int);
+
+/* The last handler of exit(3) runs. */
+extern int tracehost_exiting;
 
 /* One line on standard error. */
 void tracehost_say(const char *format, ...) __attribute__((format(printf, 1, 2)));
@@ -59,8 +175,52 @@ void tracehost_say(const char *format, ...) __attribute__((format(printf, 1, 2))
 void tracehost_host_signals(void);
 int tracehost_send_fault(int host_signal);
 int tracehost_own_descriptor(int fd);
-void tracehost_forget_thread(void);
-int tracehost_tid_of(pthread_t thread, int forget);
+
+/* Around a question whose answer comes with a descriptor: the program may have used up its own. */
+void tracehost_free_spare(void);
+void tracehost_fill_spare(void);
+
+/* This thread has ended in the model, and lets its socket go. */
+void tracehost_let_go(void);
+
+/* Adds a line for each library that calls what the runtime has, and wasn't compiled for it; not the system's. And one if
+ * calls past the runtime aren't held. */
+void tracehost_report(char *text, size_t room);
+
+/* Calls past the runtime (outside.c): they are held from now on, unless the image that is `known` by this number has done so; the one that was is told; and the runtime's own. */
+void tracehost_hold_calls(unsigned long known);
+extern unsigned long tracehost_held;
+void tracehost_tell_call(int number, const void *from) __attribute__((noreturn));
+int tracehost_host_kill(pid_t pid, int number);
+
+/* Before the first thread is noted. */
+void tracehost_make_key(void);
+
+/* The calling thread is the only one, and has this number: at the start, and in a fork's child. */
+void tracehost_only_thread(int tid);
+
+/* What a live thread knows of itself, or NULL. */
+struct own *tracehost_own_of(pthread_t thread);
+
+/* 0 for a pthread_t that names no thread. */
+int tracehost_tid_of(pthread_t thread);
+
+void tracehost_no_timers(void);
+
+/* kqueue(2) and process descriptors: a look at both before poll(2); a descriptor is closed; a fork's child has none. */
+void tracehost_refresh_kqueues(const void *where);
+void tracehost_forget_descriptor(int fd);
+void tracehost_no_kqueues(void);
+int tracehost_described(int fd);
+int tracehost_has_descriptors(void);
+void tracehost_described_end(int pid);
+void tracehost_close_described(int fd);
+void tracehost_no_descriptors(void);
+
+/* Time: whether this is none, and a clock's time on the clock of the broker, which begins at 0. */
+int tracehost_no_time(const struct timespec *time);
+int tracehost_clock_gettime(clockid_t clock, struct timespec *to);
+long long tracehost_moment(clockid_t clock, const struct timespec *time);
 
 /* The program's dispositions, by FreeBSD's numbers. */
 extern struct sigaction tracehost_actions[32];

@@ -1,5 +1,7 @@
 /* Signals: dispositions, masks, and waiting for them. */
 #define _GNU_SOURCE
+#include <setjmp.h>
+#include <stdio.h>
 #include <string.h>
 #include "freebsd.h"
 #include "runtime.h"
@@ -83,6 +85,100 @@ int tracehost_sigpending(sigset_t *set)
 int tracehost_sigsuspend(const sigset_t *set) { return ask("suspend %u", tracehost_bits(set)); }
 int tracehost_pause(void) { return ask("pause"); }
 
+/* ---- System V's and BSD's forms of these: sighold(3), sigset(3), sigblock(2) and their kin */
+
+/* Blocks, or unblocks, one signal: whether it was blocked, or -1. */
+static int change_mask(const void *where, int how, int number)
+{
+	sigset_t one, old;
+	sigemptyset(&one);
+	if (number < 1 || number > BSD_SIGNALS) {
+		errno = EINVAL;
+		return -1;
+	}
+	sigaddset(&one, number);
+	return mask(where, how, &one, &old) != 0 ? -1 : sigismember(&old, number);
+}
+
+int tracehost_sighold(int number) { return change_mask(HERE, BSD_SIG_BLOCK, number) < 0 ? -1 : 0; }
+int tracehost_sigrelse(int number) { return change_mask(HERE, BSD_SIG_UNBLOCK, number) < 0 ? -1 : 0; }
+
+int tracehost_sigignore(int number)
+{
+	struct sigaction action = {.sa_handler = SIG_IGN};
+	return act(HERE, number, &action, NULL);
+}
+
+void (*tracehost_sigset(int number, void (*handler)(int)))(int)
+{
+	struct sigaction action = {.sa_handler = handler}, old;
+	if (act(HERE, number, handler == SIG_HOLD ? NULL : &action, &old) != 0)
+		return SIG_ERR;
+	int was_blocked = change_mask(HERE, handler == SIG_HOLD ? BSD_SIG_BLOCK : BSD_SIG_UNBLOCK, number);
+	return was_blocked < 0 ? SIG_ERR : was_blocked ? SIG_HOLD : old.sa_handler;
+}
+
+int tracehost_siginterrupt(int number, int interrupts)
+{
+	struct sigaction action;
+	if (act(HERE, number, NULL, &action) != 0)
+		return -1;
+	action.sa_flags = interrupts ? action.sa_flags & ~BSD_SA_RESTART : action.sa_flags | BSD_SA_RESTART;
+	return act(HERE, number, &action, NULL);
+}
+
+/* BSD's sets of signals are numbers, in which bit 0 is signal 1. */
+static int change_bits(const void *where, int how, int bits)
+{
+	if (tracehost_ask(where, "mask %d %u", how, (unsigned)bits << 1) != 0)
+		return -1;
+	return (int)(tracehost_number() >> 1);
+}
+
+int tracehost_sigblock(int bits) { return change_bits(HERE, BSD_SIG_BLOCK, bits); }
+int tracehost_sigsetmask(int bits) { return change_bits(HERE, BSD_SIG_SETMASK, bits); }
+/* System V's form, which FreeBSD has by this name. */
+int tracehost_xsi_sigpause(int number)
+{
+	if (number < 1 || number > BSD_SIGNALS) {
+		errno = EINVAL;
+		return -1;
+	}
+	ask("mask 0 0");
+	return ask("suspend %u", (unsigned)tracehost_number() & ~(1u << number));
+}
+
+int tracehost_sigpause(int bits) { return ask("suspend %u", (unsigned)bits << 1); }
+
+/* ---- jumps: FreeBSD's setjmp(3) saves the mask, as sigsetjmp(3) does. It is kept where the host's would be. */
+
+static const unsigned long saved = 0x74726163; /* marks a mask of ours */
+
+void tracehost_save_mask(jmp_buf at, int wanted)
+{
+	at->__saved_mask.__val[1] = 0;
+	at->__saved_mask.__val[2] = (unsigned long)own.now.top;
+	at->__saved_mask.__val[3] = (unsigned long)own.now.signals;
+	if (!wanted)
+		return;
+	ask("mask 0 0");
+	at->__saved_mask.__val[0] = tracehost_number();
+	at->__saved_mask.__val[1] = saved;
+}
+
+void tracehost_longjmp(jmp_buf at, int value)
+{
+	own.busy = 0;
+	if (at->__saved_mask.__val[1] == saved)
+		ask("mask %d %lu", BSD_SIG_SETMASK, at->__saved_mask.__val[0]);
+	if (own.now.lands & LANDS_STEPPED)
+		ask("trace 0"); /* it lands nowhere */
+	else if (own.now.lands & LANDS_ASKING)
+		ask("user");
+	tracehost_back_to((char *)at->__saved_mask.__val[2], (char *)at->__saved_mask.__val[3]);
+	_longjmp(at, value);
+}
+
 static int await_signal(const void *where, const sigset_t *set, const struct timespec *limit, siginfo_t *info)
 {
 	long long ns = limit == NULL ? -1 : limit->tv_sec * 1000000000LL + limit->tv_nsec;
@@ -114,11 +210,21 @@ int tracehost_raise(int number) { return ask("thr_kill %d %d", own.tid, number);
 
 int tracehost_pthread_kill(pthread_t thread, int number)
 {
-	int tid = tracehost_tid_of(thread, 0);
+	int tid = tracehost_tid_of(thread);
 	return tid == 0 ? ESRCH : ask("thr_kill %d %d", tid, number) != 0 ? errno : 0;
 }
 
 int tracehost_thr_kill(long tid, int number) { return ask("thr_kill %ld %d", tid, number); }
+
+/* Of a thread of the caller's own; those of others have no number here. */
+int tracehost_thr_kill2(pid_t pid, long tid, int number)
+{
+	if (pid == own_pid)
+		return ask("thr_kill %ld %d", tid, number);
+	tracehost_say("thr_kill2: the model has threads of the caller alone (ESRCH)");
+	errno = ESRCH;
+	return -1;
+}
 
 char *tracehost_strsignal(int number)
 {
@@ -130,3 +236,11 @@ char *tracehost_strsignal(int number)
 		"User defined signal 1", "User defined signal 2"};
 	return number >= 0 && number <= BSD_SIGNALS ? names[number] : "Unknown signal";
 }
+
+void tracehost_psignal(int number, const char *before)
+{
+	int has = before != NULL && *before != 0;
+	fprintf(stderr, "%s%s%s\n", has ? before : "", has ? ": " : "", tracehost_strsignal(number));
+}
+
+void tracehost_psiginfo(const siginfo_t *info, const char *before) { tracehost_psignal(info->si_signo, before); }

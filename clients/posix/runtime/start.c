@@ -17,7 +17,10 @@
 #include "freebsd.h"
 #include "runtime.h"
 
-enum { TICK_MS = 50 }; /* of a thread's processor time */
+enum {
+	TICK_MS = 50, /* of a thread's processor time */
+	HELD_CALL = 1, /* si_code of a SIGSYS by seccomp(2), SYS_SECCOMP of the kernel's headers */
+};
 
 /* Each file that is compiled with <tracehost/posix.h> has an item here. */
 extern const char __start_tracehost_units[] __attribute__((weak));
@@ -35,51 +38,74 @@ static const void *place_of(void *context)
 
 /* A question at any place of the program, in the midst of a call of the runtime too: what that has not read yet of its
  * own answer is kept. */
-static void ask_between(const void *where, const char *question)
+void tracehost_ask_between(const void *where, const char *question, void *context)
 {
 	int saved = errno, passed = own.passed;
+	void *outer = own.now.context, *interrupted = own.now.interrupted;
 	char *at = own.at;
 	size_t size = strlen(at) + 1;
 	char rest[size];
 	memcpy(rest, at, size);
+	own.now.context = own.now.inside ? NULL : context, own.now.interrupted = context;
 	tracehost_ask(where, "%s", question);
+	own.now.context = outer, own.now.interrupted = interrupted;
 	memcpy(at, rest, size);
 	own.at = at, own.passed = passed;
 	errno = saved;
 }
 
+/* On its way into a call, or out of it. */
+static int is_in_entry(void *context)
+{
+	const char *at = (const char *)((ucontext_t *)context)->uc_mcontext.gregs[REG_RIP];
+	return at >= __start_tracehost_entry && at < __stop_tracehost_entry;
+}
+
 static void on_poke(int number, siginfo_t *info, void *context)
 {
 	(void)number;
-	if (own.busy || own.fd < 0)
+	if (own.busy || own.fd < 0 || is_in_entry(context))
 		return;
 	if (info->si_code == SI_TIMER && own.seen != own.questions)
 		own.seen = own.questions; /* it has asked since the last tick */
 	else
-		ask_between(place_of(context), "poke");
+		tracehost_ask_between(place_of(context), info->si_code == SI_TIMER ? "poke 0" : "poke 1", context);
+}
+
+/* FreeBSD's code of a fault. Those of memory and arithmetic have the host's numbers, by the same names. */
+static int code_of(int number, const siginfo_t *info)
+{
+	if (number == SIGTRAP)
+		return TRAP_BRKPT;
+	return info->si_code == SI_TKILL ? BSD_SI_LWP : info->si_code == SI_KERNEL ? BSD_SI_KERNEL : info->si_code;
 }
 
 static void on_fault(int number, siginfo_t *info, void *context)
 {
 	static const struct { int host, bsd; } table[] = {{SIGSEGV, BSD_SIGSEGV}, {SIGBUS, BSD_SIGBUS}, {SIGFPE, BSD_SIGFPE},
 		{SIGILL, BSD_SIGILL}, {SIGTRAP, BSD_SIGTRAP}, {SIGABRT, BSD_SIGABRT}, {SIGSYS, BSD_SIGSYS}};
-	(void)info;
-	if (own.busy || own.fd < 0) { /* the runtime's own fault */
+	if (number == SIGSYS && info->si_code == HELD_CALL)
+		tracehost_tell_call(info->si_syscall, info->si_call_addr);
+	if (number == SIGTRAP && tracehost_trap(info, context))
+		return;
+	if (own.busy || own.fd < 0 || is_in_entry(context)) { /* the runtime's own fault; or no stack is left for a handler */
 		signal(number, SIG_DFL);
 		return;
 	}
 	for (size_t i = 0; i < sizeof table / sizeof table[0]; i++)
 		if (table[i].host == number) {
-			char question[16];
-			snprintf(question, sizeof question, "fault %d", table[i].bsd);
-			ask_between(place_of(context) - (number == SIGTRAP), question);
+			char question[64];
+			const char *at = (const char *)((ucontext_t *)context)->uc_mcontext.gregs[REG_RIP];
+			snprintf(question, sizeof question, "fault %d %d %ld", table[i].bsd, code_of(number, info),
+				number == SIGTRAP ? (long)at : (long)info->si_addr);
+			tracehost_ask_between(number == SIGTRAP ? at : at + 1, question, context);
 		}
 }
 
 void tracehost_host_signals(void)
 {
 	static const int faults[] = {SIGSEGV, SIGBUS, SIGFPE, SIGILL, SIGTRAP, SIGABRT, SIGSYS};
-	struct sigaction action = {.sa_sigaction = on_fault, .sa_flags = SA_SIGINFO | SA_NODEFER | SA_RESTART};
+	struct sigaction action = {.sa_sigaction = on_fault, .sa_flags = SA_SIGINFO | SA_NODEFER | SA_RESTART | SA_ONSTACK};
 	for (size_t i = 0; i < sizeof faults / sizeof faults[0]; i++)
 		sigaction(faults[i], &action, NULL);
 	action.sa_sigaction = on_poke;
@@ -110,10 +136,10 @@ void tracehost_begin(int fd, int pid, int tid)
 		tracehost_broken("too many threads");
 	}
 	own_fds[i] = fd;
-	own.fd = fd, own.tid = tid, own_pid = pid;
+	own.fd = fd, own.tid = tid, own_pid = pid, own_real = getpid();
 	own.busy = 1;
 	start_ticks();
-	tracehost_ask(NULL, "hello %d %d %lx", (int)syscall(SYS_getpid), (int)syscall(SYS_gettid), load_address);
+	tracehost_ask(NULL, "hello %d %d %lx %d", (int)syscall(SYS_getpid), (int)syscall(SYS_gettid), load_address, own.now.inside);
 	own_pid = tracehost_number(), own.tid = tracehost_number();
 	unsigned long ignored = tracehost_number();
 	for (int n = 1; n <= BSD_SIGNALS; n++)
@@ -121,33 +147,71 @@ void tracehost_begin(int fd, int pid, int tid)
 			tracehost_actions[n].sa_handler = SIG_IGN;
 }
 
-static void at_exit(int status, void *unused)
+void tracehost_let_go(void)
+{
+	for (int i = 0; i < THREADS; i++)
+		if (own_fds[i] == own.fd)
+			own_fds[i] = 0;
+	timer_delete(own.tick);
+	close(own.fd);
+	own.fd = -1;
+	tracehost_drop_stacks();
+}
+
+static int exit_status;
+int tracehost_exiting;
+
+static void note_status(int status, void *unused)
 {
 	(void)unused;
-	fflush(NULL);
-	tracehost_ask(own.where, "exit %d", status & 255);
-	tracehost_die();
+	exit_status = status;
 }
+
+/* The last of the program's own handlers asks: those of libraries, as a sanitizer's, come after the end in the model. */
+#pragma GCC diagnostic ignored "-Wprio-ctor-dtor"
+__attribute__((destructor(0))) static void ask_exit(void)
+{
+	if (own.fd < 0)
+		return;
+	tracehost_exiting = 1;
+	fflush(NULL);
+	enter_end_process();
+}
+
+void tracehost_end_process(void) { tracehost_ask(own.where, "exit %d", exit_status & 255); }
+void tracehost_begin_image(int fd, int pid, int tid) { tracehost_begin(fd, pid, tid); }
 
 static void become_process(int fd, int pid, int tid)
 {
 	prctl(PR_SET_PTRACER, PR_SET_PTRACER_ANY, 0, 0, 0); /* PT_READ_D reads memory, by /proc */
-	tracehost_host_signals();
-	on_exit(at_exit, NULL); /* the first one registered runs last */
-	tracehost_begin(fd, pid, tid);
+	on_exit(note_status, NULL); /* the first one registered runs last */
+	enter_begin_image(fd, pid, tid);
+	tracehost_only_thread(own.tid);
+	tracehost_fill_spare();
 }
 
 /* ---- the server */
 
+/* Adds how a process has ended, unless it was with status 0, or killed. */
+static void add(char *report, size_t room, pid_t ended, int status)
+{
+	size_t length = strlen(report);
+	if (status != 0 && !(WIFSIGNALED(status) && WTERMSIG(status) == SIGKILL))
+		snprintf(report + length, room - length, " %d:%d", ended, status);
+}
+
 /* Ends all descendants: those whose parents have ended are children of the server. */
-static void sweep(void)
+static void sweep(char *report, size_t room)
 {
 	char path[64], list[65536];
+	int status;
 	snprintf(path, sizeof path, "/proc/self/task/%d/children", (int)syscall(SYS_gettid));
 	for (;;) {
-		pid_t ended = waitpid(-1, NULL, WNOHANG | __WALL);
-		if (ended > 0)
+		pid_t ended = waitpid(-1, &status, WNOHANG | __WALL);
+		if (ended > 0) {
+			add(report, room, ended, status);
 			continue;
+		}
 		if (ended < 0)
 			return;
 		int fd = open(path, O_RDONLY | O_CLOEXEC);
@@ -155,8 +219,9 @@ static void sweep(void)
 		close(fd);
 		list[got > 0 ? got : 0] = 0;
 		for (char *at = list, *next; (ended = strtol(at, &next, 10)) > 0; at = next)
-			kill(ended, SIGKILL);
-		waitpid(-1, NULL, __WALL);
+			tracehost_host_kill(ended, SIGKILL);
+		if ((ended = waitpid(-1, &status, __WALL)) > 0)
+			add(report, room, ended, status);
 	}
 }
 
@@ -165,6 +230,7 @@ static int serve(int control)
 {
 	char word[16], space[CMSG_SPACE(sizeof(int))];
 	prctl(PR_SET_CHILD_SUBREAPER, 1, 0, 0, 0);
+	prctl(PR_SET_PDEATHSIG, SIGCONT); /* the broker's end: a server that was stopped has to see it */
 	for (;;) {
 		struct iovec text = {word, sizeof word};
 		struct msghdr message = {.msg_iov = &text, .msg_iovlen = 1, .msg_control = space, .msg_controllen = sizeof space};
@@ -172,8 +238,9 @@ static int serve(int control)
 		if (got < 0 && errno == EINTR)
 			continue;
 		if (got <= 0 || word[0] == 's') {
-			sweep();
-			if (got <= 0 || send(control, "swept", 5, MSG_NOSIGNAL) < 0)
+			char report[4096] = "swept";
+			sweep(report, sizeof report);
+			if (got <= 0 || send(control, report, strlen(report), MSG_NOSIGNAL) < 0)
 				_exit(0);
 			continue;
 		}
@@ -200,11 +267,11 @@ static int find_load_address(struct dl_phdr_info *info, size_t size, void *unuse
 	return 1;
 }
 
-static void more_descriptors(void)
+static void set_descriptors(void)
 {
 	struct rlimit limit;
-	if (getrlimit(RLIMIT_NOFILE, &limit) == 0 && limit.rlim_cur < 4096) {
-		limit.rlim_cur = limit.rlim_max < 4096 ? limit.rlim_max : 4096;
+	if (getrlimit(RLIMIT_NOFILE, &limit) == 0) {
+		limit.rlim_cur = limit.rlim_max < DESCRIPTORS ? limit.rlim_max : DESCRIPTORS;
 		setrlimit(RLIMIT_NOFILE, &limit);
 	}
 }
@@ -218,24 +285,32 @@ static void refuse_to_start(const char *why)
 __attribute__((constructor(101))) void tracehost_start(void)
 {
 	int fd, pid, tid;
+	unsigned long held;
 	const char *lwp = getenv("TRACEHOST_LWP"), *control = getenv("TRACEHOST_CONTROL");
 	if (lwp == NULL && control == NULL)
 		refuse_to_start("this program is run by tracehost-run");
 	if (&__start_tracehost_units[0] == &__stop_tracehost_units[0])
 		refuse_to_start("it was compiled without <tracehost/posix.h>: compile its files with tracehost-cc too");
-	more_descriptors();
+	set_descriptors();
 	dl_iterate_phdr(find_load_address, NULL);
+	tracehost_make_key();
+	tracehost_make_stacks();
+	tracehost_host_signals();
 	if (lwp != NULL) { /* this image comes of an exec */
-		if (sscanf(lwp, "%d %d %d", &fd, &pid, &tid) != 3)
+		if (sscanf(lwp, "%d %d %d %lx", &fd, &pid, &tid, &held) != 4)
 			refuse_to_start("its environment has another TRACEHOST_LWP than the runtime sets");
+		tracehost_hold_calls(held);
 		unsetenv("TRACEHOST_LWP");
 		fcntl(fd, F_SETFD, FD_CLOEXEC);
 		become_process(fd, pid, tid);
 		return;
 	}
+	tracehost_hold_calls(0);
 	fd = atoi(control);
 	unsetenv("TRACEHOST_CONTROL");
-	if (send(fd, "ready", 5, MSG_NOSIGNAL) < 0)
+	char ready[4096] = "ready";
+	tracehost_report(ready, sizeof ready);
+	if (send(fd, ready, strlen(ready), MSG_NOSIGNAL) < 0)
 		refuse_to_start("this program is run by tracehost-run");
 	become_process(serve(fd), 0, 0);
 }

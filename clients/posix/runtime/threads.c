@@ -1,92 +1,312 @@
-/* Threads, and what they wait for each other with. They are the host's threads and locks: a wait is a look that fails,
- * and the question `again KIND OWNER`, which is answered once another thread may have changed that. */
+/* Threads: the host's, with numbers of the model. */
 #define _GNU_SOURCE
 #include <limits.h>
 #include <semaphore.h>
 #include <string.h>
-#include <sched.h>
 #include <unistd.h>
 #include "freebsd.h"
 #include "runtime.h"
 
-static struct { pthread_t thread; int tid; } threads[THREADS];
+/* The threads of this process that a pthread_t may name: until they are joined, or have ended detached. */
+static struct thread {
+	pthread_t thread;
+	int tid, detached, ended;
+	struct own *own;
+	struct { void *lowest; size_t size; } stack; /* what the program has asked for, if the host's is another; else no size */
+} threads[THREADS];
+static int living; /* threads that haven't begun to end */
+static pthread_key_t ending;
 
-struct birth { void *(*routine)(void *); void *argument; int fd, tid; };
-
-int tracehost_tid_of(pthread_t thread, int forget)
+static struct thread *find(pthread_t thread)
 {
 	for (int i = 0; i < THREADS; i++)
-		if (threads[i].tid != 0 && pthread_equal(threads[i].thread, thread)) {
-			int tid = threads[i].tid;
-			if (forget)
-				threads[i].tid = 0;
-			return tid;
-		}
-	return pthread_equal(thread, pthread_self()) ? own.tid : 0;
+		if (threads[i].tid != 0 && pthread_equal(threads[i].thread, thread))
+			return &threads[i];
+	return NULL;
 }
 
-/* ---- birth and end */
-
-static void leave(const void *where, void *value)
+static void note(struct thread thread)
 {
-	tracehost_ask(where, "thr_exit");
-	for (int i = 0; i < THREADS; i++)
-		if (own_fds[i] == own.fd)
-			own_fds[i] = 0;
-	timer_delete(own.tick);
-	close(own.fd);
-	own.fd = -1;
+	int i;
+	for (i = 0; i < THREADS && threads[i].tid != 0; i++)
+		;
+	if (i == THREADS) {
+		errno = EAGAIN;
+		tracehost_broken("too many threads");
+	}
+	threads[i] = thread;
+	living++;
+}
+
+struct own *tracehost_own_of(pthread_t thread)
+{
+	struct thread *found = find(thread);
+	return found != NULL && !found->ended ? found->own : NULL;
+}
+
+/* The calling thread has begun. */
+static void be_noted(void)
+{
+	struct thread *self = find(pthread_self());
+	if (self != NULL)
+		self->own = &own;
+	pthread_setspecific(ending, (void *)1);
+}
+
+int tracehost_tid_of(pthread_t thread)
+{
+	struct thread *found = find(thread);
+	return found != NULL ? found->tid : 0;
+}
+
+/* ---- the end: cleanup handlers and the destructors of keys have run, and may have asked */
+
+void tracehost_end_thread(void) { tracehost_ask(NULL, "thr_exit"); }
+
+static void end(void)
+{
+	if (--living == 0)
+		exit(0);
+	enter_end_thread();
+	struct thread *self = find(pthread_self());
+	if (self != NULL && self->detached)
+		self->tid = 0;
+	else if (self != NULL)
+		self->ended = 1;
+	tracehost_let_go();
+}
+
+/* The destructor of a key of ours: it comes again in each round of destructors, and ends the thread in the last one. */
+static void next_round(void *round)
+{
+	if ((size_t)round < PTHREAD_DESTRUCTOR_ITERATIONS)
+		pthread_setspecific(ending, (void *)((size_t)round + 1));
+	else
+		end();
+}
+
+/* The program's first key is 0, as it is natively. */
+void tracehost_make_key(void)
+{
+	pthread_key_t first;
+	errno = pthread_key_create(&first, NULL);
+	if (errno != 0 || (errno = pthread_key_create(&ending, next_round)) != 0)
+		tracehost_broken("pthread_key_create");
+	pthread_key_delete(first);
+}
+
+void tracehost_only_thread(int tid)
+{
+	memset(threads, 0, sizeof threads);
+	living = 0;
+	note((struct thread){.thread = pthread_self(), .tid = tid});
+	be_noted();
+}
+
+void tracehost_pthread_exit(void *value)
+{
+	tracehost_leave_runtime();
 	pthread_exit(value);
 }
 
-void tracehost_pthread_exit(void *value) { leave(HERE, value); }
+/* ---- birth: the host's thread is there first, and waits for its number; it ends where there is none for it */
+
+struct birth {
+	void *(*routine)(void *);
+	void *argument;
+	int fd, tid;
+	sem_t given;
+};
 
 static void *run(void *given)
 {
-	struct birth birth = *(struct birth *)given;
-	free(given);
-	tracehost_begin(birth.fd, own_pid, birth.tid);
-	leave(NULL, birth.routine(birth.argument));
-	return NULL;
+	struct birth *waiting = given, birth;
+	while (sem_wait(&waiting->given) != 0)
+		;
+	birth = *waiting;
+	free(waiting);
+	if (birth.fd < 0)
+		return NULL;
+	be_noted();
+	tracehost_make_stacks();
+	own.birth = &birth;
+	return tracehost_be_born(birth.routine, birth.argument);
+}
+
+/* The thread stands at its routine's first instruction. */
+void tracehost_say_hello(void *context)
+{
+	struct birth *birth = own.birth;
+	own.birth = NULL;
+	own.now.context = own.now.interrupted = context;
+	tracehost_begin(birth->fd, own_pid, birth->tid);
+	own.now.context = own.now.interrupted = NULL;
+}
+
+/* The host's function. In a program in C++ its name means the runtime's (cplusplus.c). */
+extern void *tracehost_host(const char *name) __attribute__((weak));
+#define HOST(name) (tracehost_host != NULL ? (__typeof__(&name))tracehost_host(#name) : &name)
+
+enum { ROOM = 256 * 1024 };
+
+/* What was asked for but for the stack's place, which can't be taken back. */
+static void copy_attributes(pthread_attr_t *to, const pthread_attr_t *from)
+{
+	int value;
+	size_t size;
+	struct sched_param parameter;
+	pthread_attr_init(to);
+	if (pthread_attr_getdetachstate(from, &value) == 0)
+		pthread_attr_setdetachstate(to, value);
+	if (pthread_attr_getguardsize(from, &size) == 0)
+		pthread_attr_setguardsize(to, size);
+	if (pthread_attr_getinheritsched(from, &value) == 0)
+		pthread_attr_setinheritsched(to, value);
+	if (pthread_attr_getschedpolicy(from, &value) == 0)
+		pthread_attr_setschedpolicy(to, value);
+	if (pthread_attr_getschedparam(from, &parameter) == 0)
+		pthread_attr_setschedparam(to, &parameter);
+	if (pthread_attr_getscope(from, &value) == 0)
+		pthread_attr_setscope(to, value);
+}
+
+/* A thread of the host's. The runtime needs room on its stack too: a small one is replaced. */
+static int host_thread(struct thread *made, const pthread_attr_t *wanted, struct birth *birth)
+{
+	pthread_attr_t wider;
+	void *lowest;
+	size_t size;
+	if (wanted == NULL || pthread_attr_getstack(wanted, &lowest, &size) != 0 || size >= ROOM)
+		return HOST(pthread_create)(&made->thread, wanted, run, birth);
+	made->stack.lowest = (size_t)lowest + size != 0 ? lowest : NULL, made->stack.size = size;
+	copy_attributes(&wider, wanted);
+	pthread_attr_setstacksize(&wider, size + ROOM);
+	int error = HOST(pthread_create)(&made->thread, &wider, run, birth);
+	pthread_attr_destroy(&wider);
+	return error;
 }
 
 int tracehost_pthread_create(pthread_t *made, const pthread_attr_t *attributes, void *(*routine)(void *), void *argument)
 {
-	struct birth *birth = malloc(sizeof *birth);
-	int i;
-	if (birth == NULL)
-		return EAGAIN;
-	if (ask("thr_new") != 0) {
-		free(birth);
-		return errno;
+	struct birth *birth = calloc(1, sizeof *birth);
+	struct thread thread = {.tid = 0};
+	int detached = PTHREAD_CREATE_JOINABLE, error = EAGAIN;
+	if (attributes != NULL)
+		pthread_attr_getdetachstate(attributes, &detached);
+	if (birth != NULL) {
+		sem_init(&birth->given, 0, 0);
+		birth->routine = routine, birth->argument = argument;
+		error = host_thread(&thread, attributes, birth);
 	}
-	tracehost_number();
-	*birth = (struct birth){routine, argument, own.passed, (int)tracehost_number()};
-	for (i = 0; i < THREADS - 1 && threads[i].tid != 0; i++)
-		;
-	threads[i].tid = birth->tid;
-	errno = pthread_create(&threads[i].thread, attributes, run, birth);
-	if (errno != 0)
-		tracehost_broken("pthread_create");
-	*made = threads[i].thread;
-	ask("user");
-	return 0;
+	if (error != 0) {
+		free(birth);
+		ask("call %d", SYSCALL_THR_NEW);
+		return error;
+	}
+	tracehost_free_spare();
+	error = ask("thr_new") != 0 ? errno : 0;
+	birth->fd = -1;
+	if (error == 0) {
+		tracehost_number();
+		birth->fd = own.passed, birth->tid = (int)tracehost_number();
+		thread.tid = birth->tid, thread.detached = detached == PTHREAD_CREATE_DETACHED;
+		note(thread);
+		*made = thread.thread;
+	}
+	tracehost_fill_spare();
+	sem_post(&birth->given);
+	if (error == 0 && !(own.now.lands & LANDS_ASKING))
+		ask("user");
+	else if (error != 0 && detached == PTHREAD_CREATE_JOINABLE)
+		HOST(pthread_join)(thread.thread, NULL);
+	return error;
 }
 
-int tracehost_pthread_join(pthread_t thread, void **value)
+/* The stack that the program has asked for is the upper end of the host's. */
+int tracehost_pthread_getattr_np(pthread_t thread, pthread_attr_t *attributes)
 {
-	int tid = tracehost_tid_of(thread, 1);
+	const struct thread *found = find(thread);
+	void *lowest;
+	size_t size;
+	int error = pthread_getattr_np(thread, attributes);
+	if (error != 0 || found == NULL || found->stack.size == 0 || pthread_attr_getstack(attributes, &lowest, &size) != 0)
+		return error;
+	if (found->stack.lowest != NULL)
+		lowest = found->stack.lowest;
+	else
+		lowest = (char *)lowest + size - found->stack.size;
+	return pthread_attr_setstack(attributes, lowest, found->stack.size);
+}
+
+/* FreeBSD's, into attributes that are there already. */
+int tracehost_pthread_attr_get_np(pthread_t thread, pthread_attr_t *attributes)
+{
+	return tracehost_pthread_getattr_np(thread, attributes);
+}
+
+static int join(const void *where, pthread_t thread, void **value, long long until)
+{
+	struct thread *other = find(thread);
 	if (pthread_equal(thread, pthread_self()))
 		return EDEADLK;
-	if (tid != 0)
-		ask("join %d", tid);
-	return pthread_join(thread, value);
+	if (other == NULL)
+		return ESRCH;
+	if (other->detached)
+		return EINVAL;
+	if (tracehost_ask(where, "join %d %lld", other->tid, until) != 0)
+		return errno;
+	if ((other = find(thread)) != NULL)
+		other->tid = 0;
+	return HOST(pthread_join)(thread, value);
 }
+
+int tracehost_pthread_join(pthread_t thread, void **value) { return join(HERE, thread, value, -1); }
+
+int tracehost_pthread_timedjoin_np(pthread_t thread, void **value, const struct timespec *until)
+{
+	return tracehost_no_time(until) ? EINVAL : join(HERE, thread, value, tracehost_moment(CLOCK_REALTIME, until));
+}
+
+int tracehost_pthread_clockjoin_np(pthread_t thread, void **value, clockid_t clock, const struct timespec *until)
+{
+	return tracehost_no_time(until) ? EINVAL : join(HERE, thread, value, tracehost_moment(clock, until));
+}
+
+/* Whether the thread has ended: 0, EBUSY, or another errno. */
+static int look(const void *where, pthread_t thread)
+{
+	tracehost_ask(where, "point");
+	const struct thread *other = find(thread);
+	return other == NULL ? ESRCH : other->detached ? EINVAL : other->ended ? 0 : EBUSY;
+}
+
+int tracehost_pthread_tryjoin_np(pthread_t thread, void **value)
+{
+	int error = look(HERE, thread);
+	return error != 0 ? error : join(HERE, thread, value, -1);
+}
+
+/* The value stays for a join, and isn't known before. */
+int tracehost_pthread_peekjoin_np(pthread_t thread, void **value)
+{
+	if (value != NULL)
+		*value = NULL;
+	return look(HERE, thread);
+}
+
+int tracehost_pthread_main_np(void) { return gettid() == getpid(); }
 
 int tracehost_pthread_detach(pthread_t thread)
 {
-	tracehost_tid_of(thread, 1);
-	return pthread_detach(thread);
+	struct thread *other = find(thread);
+	if (other == NULL)
+		return ESRCH;
+	if (other->detached)
+		return EINVAL;
+	other->detached = 1;
+	if (other->ended)
+		other->tid = 0;
+	return HOST(pthread_detach)(thread);
 }
 
 int tracehost_gettid(void) { return own.tid; }
@@ -99,166 +319,3 @@ int tracehost_thr_self(long *tid)
 }
 
 int tracehost_sched_yield(void) { return ask("yield"); }
-
-/* ---- mutexes */
-
-static int lock(const void *where, pthread_mutex_t *mutex)
-{
-	int error;
-	while ((error = pthread_mutex_trylock(mutex)) == EBUSY) {
-		if (mutex->__data.__owner == gettid() && mutex->__data.__kind == PTHREAD_MUTEX_ERRORCHECK_NP)
-			return EDEADLK;
-		tracehost_ask(where, "again mutex %d", mutex->__data.__owner);
-	}
-	return error;
-}
-
-int tracehost_pthread_mutex_lock(pthread_mutex_t *mutex)
-{
-	ask("point");
-	return lock(HERE, mutex);
-}
-
-int tracehost_pthread_mutex_trylock(pthread_mutex_t *mutex)
-{
-	ask("point");
-	return pthread_mutex_trylock(mutex);
-}
-
-int tracehost_pthread_mutex_unlock(pthread_mutex_t *mutex)
-{
-	int error = pthread_mutex_unlock(mutex);
-	ask("point");
-	return error;
-}
-
-/* ---- conditions: those who wait, in order */
-
-static struct { void *condition; unsigned long ticket; int woken; } waiters[THREADS];
-static unsigned long tickets;
-
-static int wait_condition(const void *where, void *condition, pthread_mutex_t *mutex, long long until)
-{
-	int i, late = 0;
-	for (i = 0; i < THREADS - 1 && waiters[i].condition != NULL; i++)
-		;
-	waiters[i].condition = condition, waiters[i].ticket = ++tickets, waiters[i].woken = 0;
-	pthread_mutex_unlock(mutex);
-	while (!waiters[i].woken && !late) {
-		tracehost_ask(where, "again condition %lld", until);
-		late = tracehost_number() == 1;
-	}
-	late = !waiters[i].woken;
-	waiters[i].condition = NULL;
-	lock(where, mutex);
-	return late ? ETIMEDOUT : 0;
-}
-
-static void wake(void *condition, int all)
-{
-	for (;;) {
-		int first = -1;
-		for (int i = 0; i < THREADS; i++)
-			if (waiters[i].condition == condition && !waiters[i].woken && (first < 0 || waiters[i].ticket < waiters[first].ticket))
-				first = i;
-		if (first < 0)
-			return;
-		waiters[first].woken = 1;
-		if (!all)
-			return;
-	}
-}
-
-int tracehost_pthread_cond_wait(pthread_cond_t *condition, pthread_mutex_t *mutex)
-{
-	return wait_condition(HERE, condition, mutex, -1);
-}
-
-int tracehost_pthread_cond_timedwait(pthread_cond_t *condition, pthread_mutex_t *mutex, const struct timespec *until)
-{
-	return wait_condition(HERE, condition, mutex, until->tv_sec * 1000000000LL + until->tv_nsec);
-}
-
-int tracehost_pthread_cond_signal(pthread_cond_t *condition)
-{
-	wake(condition, 0);
-	ask("point");
-	return 0;
-}
-
-int tracehost_pthread_cond_broadcast(pthread_cond_t *condition)
-{
-	wake(condition, 1);
-	ask("point");
-	return 0;
-}
-
-/* ---- barriers, semaphores, read-write locks */
-
-struct barrier { unsigned count, waiting, round; };
-
-int tracehost_pthread_barrier_init(pthread_barrier_t *barrier, const pthread_barrierattr_t *attributes, unsigned count)
-{
-	(void)attributes;
-	if (count == 0)
-		return EINVAL;
-	*(volatile struct barrier *)barrier = (struct barrier){count, 0, 0};
-	return 0;
-}
-
-int tracehost_pthread_barrier_destroy(pthread_barrier_t *barrier) { return (void)barrier, 0; }
-
-int tracehost_pthread_barrier_wait(pthread_barrier_t *given)
-{
-	volatile struct barrier *barrier = (volatile struct barrier *)given;
-	unsigned round = barrier->round;
-	ask("point");
-	if (++barrier->waiting == barrier->count) {
-		barrier->waiting = 0, barrier->round++;
-		return PTHREAD_BARRIER_SERIAL_THREAD;
-	}
-	while (barrier->round == round)
-		ask("again barrier 0");
-	return 0;
-}
-
-int tracehost_sem_wait(sem_t *semaphore)
-{
-	ask("point");
-	while (sem_trywait(semaphore) != 0)
-		if (errno != EAGAIN || ask("again semaphore 0") != 0)
-			return -1;
-	return 0;
-}
-
-int tracehost_sem_post(sem_t *semaphore)
-{
-	int result = sem_post(semaphore);
-	ask("point");
-	return result;
-}
-
-int tracehost_pthread_rwlock_rdlock(pthread_rwlock_t *rwlock)
-{
-	int error;
-	ask("point");
-	while ((error = pthread_rwlock_tryrdlock(rwlock)) == EBUSY)
-		ask("again rwlock 0");
-	return error;
-}
-
-int tracehost_pthread_rwlock_wrlock(pthread_rwlock_t *rwlock)
-{
-	int error;
-	ask("point");
-	while ((error = pthread_rwlock_trywrlock(rwlock)) == EBUSY)
-		ask("again rwlock 0");
-	return error;
-}
-
-int tracehost_pthread_rwlock_unlock(pthread_rwlock_t *rwlock)
-{
-	int error = pthread_rwlock_unlock(rwlock);
-	ask("point");
-	return error;
-}

@@ -1,33 +1,36 @@
-/* ptrace(2), and what programs look at processes with. */
+/* ptrace(2). */
 #define _GNU_SOURCE
 #include <fcntl.h>
 #include <stdio.h>
 #include <string.h>
 #include <unistd.h>
 typedef int lwpid_t;
+#include "../include/machine/psl.h"
 #include "../include/sys/ptrace.h"
-#include "../include/sys/sysctl.h"
-#include "../include/sys/user.h"
 #include "freebsd.h"
 #include "runtime.h"
 
-/* Memory isn't in the model, but it is there: the target is a process of the host. */
-static ssize_t memory(const void *where, pid_t target, void *there, void *here, size_t count, int writing)
+/* ---- memory: it isn't in the model, but it is there, as the target is a process of the host */
+
+static ssize_t transfer(long real, unsigned long there, void *here, size_t count, int writing)
 {
 	char path[64];
-	ssize_t done;
 	int fd;
-	if (tracehost_ask(where, "memory %d", target) != 0)
-		return -1;
-	snprintf(path, sizeof path, "/proc/%ld/mem", tracehost_number());
+	snprintf(path, sizeof path, "/proc/%ld/mem", real);
 	if ((fd = open(path, (writing ? O_RDWR : O_RDONLY) | O_CLOEXEC)) < 0)
 		return -1;
-	off_t at = (off_t)(size_t)there;
-	done = writing ? pwrite(fd, here, count, at) : pread(fd, here, count, at);
+	ssize_t done = writing ? pwrite(fd, here, count, (off_t)there) : pread(fd, here, count, (off_t)there);
 	close(fd);
 	if (done < 0)
 		errno = EFAULT;
 	return done;
+}
+
+static ssize_t memory(const void *where, pid_t target, void *there, void *here, size_t count, int writing)
+{
+	if (tracehost_ask(where, "memory %d %d", target, writing) != 0)
+		return -1;
+	return transfer(tracehost_number(), (unsigned long)there, here, count, writing);
 }
 
 static int io(const void *where, pid_t target, struct ptrace_io_desc *request)
@@ -44,20 +47,183 @@ static int io(const void *where, pid_t target, struct ptrace_io_desc *request)
 	return 0;
 }
 
+/* ---- registers: a stopped thread fills a record of its own, and takes it over as it is asked */
+
+static int read_record(const void *where, pid_t target, struct record *record, long *real, unsigned long *at)
+{
+	if (tracehost_ask(where, "registers %d", target) != 0) {
+		if (errno == EINVAL)
+			tracehost_say("ptrace: there are no registers under --strict, nor of a program without the runtime (EINVAL)");
+		return -1;
+	}
+	*real = tracehost_number(), *at = (unsigned long)tracehost_number();
+	return transfer(*real, *at, record, sizeof *record, 0) == sizeof *record ? 0 : -1;
+}
+
+/* Flags that are a kernel's alone stay, as does the privilege of the code segment. */
+static int are_secure(const struct reg *new, const struct reg *old)
+{
+	return ((new->r_rflags ^ old->r_rflags) & ~(int64_t)PSL_USERCHANGE) == 0 && (new->r_cs & 3) == 3;
+}
+
+static int get_registers(const void *where, pid_t target, void *to, int kind)
+{
+	struct record record;
+	long real;
+	unsigned long at;
+	if (read_record(where, target, &record, &real, &at) != 0)
+		return -1;
+	if (kind == GENERAL)
+		memcpy(to, &record.general, sizeof record.general);
+	else
+		memcpy(to, &record.floats, sizeof record.floats);
+	return 0;
+}
+
+static int set_registers(const void *where, pid_t target, const void *from, int kind)
+{
+	struct record record;
+	long real;
+	unsigned long at;
+	if (read_record(where, target, &record, &real, &at) != 0)
+		return -1;
+	if (kind == GENERAL && !are_secure(from, &record.general)) {
+		errno = EINVAL;
+		return -1;
+	}
+	if (kind == GENERAL)
+		memcpy(&record.general, from, sizeof record.general);
+	else if (kind == FLOATS)
+		memcpy(&record.floats, from, sizeof record.floats);
+	else
+		memcpy(&record.gs, from, sizeof record.gs);
+	if (transfer(real, at, &record, sizeof record, 1) != sizeof record)
+		return -1;
+	return tracehost_ask(where, "apply %d %d", target, kind);
+}
+
+static int get_base(const void *where, pid_t target, void *to, int is_fs)
+{
+	struct record record;
+	long real;
+	unsigned long at;
+	if (read_record(where, target, &record, &real, &at) != 0)
+		return -1;
+	memcpy(to, is_fs ? &record.fs : &record.gs, sizeof record.fs);
+	return 0;
+}
+
+/* The target goes on there. */
+static int set_counter(const void *where, pid_t target, const char *address)
+{
+	struct reg registers;
+	if (get_registers(where, target, &registers, GENERAL) != 0)
+		return -1;
+	registers.r_rip = (int64_t)address;
+	return set_registers(where, target, &registers, GENERAL);
+}
+
+/* ---- what is known of an LWP */
+
+/* How many arguments FreeBSD's call of this number has. */
+static unsigned arguments_of(unsigned code)
+{
+	static const unsigned char counts[][2] = {{1, 1}, {3, 3}, {4, 3}, {5, 3}, {6, 1}, {7, 4}, {10, 1}, {26, 4}, {33, 2}, {37, 2}, {41, 1},
+		{53, 2}, {59, 3}, {81, 0}, {83, 3}, {86, 2}, {90, 2}, {92, 3}, {93, 5}, {120, 3}, {121, 3}, {135, 4}, {202, 6}, {207, 1}, {209, 3},
+		{232, 2}, {235, 3}, {236, 1}, {237, 4}, {238, 2}, {240, 2}};
+	static const unsigned short more[][2] = {{310, 1}, {340, 3}, {341, 1}, {343, 1}, {345, 3}, {416, 3}, {431, 1}, {432, 1}, {433, 2}, {454, 5},
+		{455, 2}, {499, 4}, {522, 6}, {542, 2}, {545, 4}, {575, 3}};
+	for (size_t i = 0; i < sizeof counts / sizeof counts[0]; i++)
+		if (counts[i][0] == code)
+			return counts[i][1];
+	for (size_t i = 0; i < sizeof more / sizeof more[0]; i++)
+		if (more[i][0] == code)
+			return more[i][1];
+	return 0;
+}
+
+/* The host's name of the thread. */
+static void name_thread(const void *where, pid_t target, char *to, size_t size)
+{
+	char path[64];
+	int fd;
+	if (tracehost_ask(where, "thread %d", target) != 0)
+		return;
+	long real = tracehost_number(), thread = tracehost_number();
+	snprintf(path, sizeof path, "/proc/%ld/task/%ld/comm", real, thread);
+	if ((fd = open(path, O_RDONLY | O_CLOEXEC)) < 0)
+		return;
+	ssize_t got = read(fd, to, size - 1);
+	close(fd);
+	to[got > 0 ? got - (to[got - 1] == '\n') : 0] = 0;
+}
+
+static int ask_information(const void *where, pid_t target, struct ptrace_lwpinfo *info)
+{
+	*info = (struct ptrace_lwpinfo){0};
+	if (tracehost_ask(where, "ptrace %d %d 0", PT_LWPINFO, target) != 0)
+		return -1;
+	info->pl_lwpid = tracehost_number(), info->pl_event = tracehost_number(), info->pl_flags = tracehost_number();
+	tracehost_set(&info->pl_sigmask, tracehost_number());
+	tracehost_set(&info->pl_siglist, tracehost_number());
+	info->pl_child_pid = tracehost_number(), info->pl_syscall_code = tracehost_number();
+	info->pl_syscall_narg = arguments_of(info->pl_syscall_code);
+	if ((info->pl_siginfo.si_signo = (int)tracehost_number()) != 0) {
+		info->pl_flags |= PL_FLAG_SI;
+		tracehost_describe(&info->pl_siginfo);
+	}
+	return 0;
+}
+
 static int information(const void *where, pid_t target, void *to, int size)
 {
-	struct ptrace_lwpinfo info = {0};
+	struct ptrace_lwpinfo info;
 	if (size <= 0 || (size_t)size > sizeof info) {
 		errno = EINVAL;
 		return -1;
 	}
-	if (tracehost_ask(where, "ptrace %d %d 0", PT_LWPINFO, target) != 0)
+	if (ask_information(where, target, &info) != 0)
 		return -1;
-	info.pl_lwpid = tracehost_number(), info.pl_event = tracehost_number(), info.pl_flags = tracehost_number();
-	tracehost_set(&info.pl_sigmask, tracehost_number());
-	tracehost_set(&info.pl_siglist, tracehost_number());
-	info.pl_child_pid = tracehost_number(), info.pl_syscall_code = tracehost_number();
+	if ((size_t)size > offsetof(struct ptrace_lwpinfo, pl_tdname))
+		name_thread(where, info.pl_lwpid, info.pl_tdname, sizeof info.pl_tdname);
 	memcpy(to, &info, size);
+	return 0;
+}
+
+/* PT_GET_SC_ARGS, and the result at a call's exit. */
+static int call_arguments(const void *where, pid_t target, void *to, size_t size)
+{
+	struct ptrace_lwpinfo info;
+	struct record record;
+	long real;
+	unsigned long at;
+	if (ask_information(where, target, &info) != 0 || read_record(where, target, &record, &real, &at) != 0)
+		return -1;
+	if (!(info.pl_flags & (PL_FLAG_SCE | PL_FLAG_SCX))) {
+		errno = EINVAL;
+		return -1;
+	}
+	size_t all = info.pl_syscall_narg * sizeof record.arguments[0];
+	memcpy(to, record.arguments, size < all ? size : all);
+	return 0;
+}
+
+static int call_result(const void *where, pid_t target, struct ptrace_sc_ret *to, size_t size)
+{
+	struct ptrace_lwpinfo info;
+	struct record record;
+	long real;
+	unsigned long at;
+	if (ask_information(where, target, &info) != 0 || read_record(where, target, &record, &real, &at) != 0)
+		return -1;
+	if (!(info.pl_flags & PL_FLAG_SCX)) {
+		errno = EINVAL;
+		return -1;
+	}
+	struct ptrace_sc_ret result = {.sr_retval = {record.general.r_rax, 0}};
+	if (record.error != 0)
+		result = (struct ptrace_sc_ret){.sr_error = record.error};
+	memcpy(to, &result, size < sizeof result ? size : sizeof result);
 	return 0;
 }
 
@@ -84,14 +250,52 @@ static int event_mask(const void *where, int request, pid_t target, int *mask, i
 	return 0;
 }
 
+/* ---- all requests */
+
 static int unknown(int request)
 {
-	if (request >= PT_FIRSTMACH)
-		tracehost_say("ptrace: there are no registers in the model: request %d (PT_GETREGS and its kin) is answered EINVAL", request);
+	if (request == PT_GETDBREGS || request == PT_SETDBREGS)
+		tracehost_say("ptrace: the host lets no program set its debug registers: request %d is answered EINVAL", request);
+	else if (request == PT_SETFSBASE)
+		tracehost_say("ptrace: the base of fs is the runtime's too: PT_SETFSBASE is answered EINVAL");
 	else
 		tracehost_say("ptrace: request %d isn't in the model, and is answered EINVAL", request);
 	errno = EINVAL;
 	return -1;
+}
+
+/* Whether the target goes on at `addr`, unless that is 1: ptrace(2). */
+static int sets_counter(int request)
+{
+	return request == PT_CONTINUE || request == PT_TO_SCE || request == PT_TO_SCX || request == PT_SYSCALL;
+}
+
+/* At address 0, where nothing is, PT_CONTINUE and its kin make the target go on even under --strict. */
+static int resume(const void *where, int request, pid_t target, const char *address, int data)
+{
+	if (sets_counter(request) && address != (char *)1 && address != NULL && set_counter(where, target, address) != 0)
+		return -1;
+	if (tracehost_ask(where, "ptrace %d %d %d %d", request, target, data, sets_counter(request) && address == NULL) != 0)
+		return -1;
+	return request == PT_GETNUMLWPS ? (int)tracehost_number() : 0;
+}
+
+static int registers(const void *where, int request, pid_t target, void *address)
+{
+	switch (request) {
+	case PT_GETREGS:
+		return get_registers(where, target, address, GENERAL);
+	case PT_SETREGS:
+		return set_registers(where, target, address, GENERAL);
+	case PT_GETFPREGS:
+		return get_registers(where, target, address, FLOATS);
+	case PT_SETFPREGS:
+		return set_registers(where, target, address, FLOATS);
+	case PT_SETGSBASE:
+		return set_registers(where, target, address, BASES);
+	default:
+		return get_base(where, target, address, request == PT_GETFSBASE);
+	}
 }
 
 int tracehost_ptrace(int request, pid_t target, char *address, int data)
@@ -109,6 +313,25 @@ int tracehost_ptrace(int request, pid_t target, char *address, int data)
 		return memory(HERE, target, address, &data, sizeof data, 1) < 0 ? -1 : 0;
 	case PT_IO:
 		return io(HERE, target, (struct ptrace_io_desc *)(void *)address);
+	case PT_GETREGS:
+	case PT_SETREGS:
+	case PT_GETFPREGS:
+	case PT_SETFPREGS:
+	case PT_GETFSBASE:
+	case PT_GETGSBASE:
+	case PT_SETGSBASE:
+		return registers(HERE, request, target, address);
+	case PT_SETSTEP:
+	case PT_CLEARSTEP:
+		return ask("setstep %d %d", target, request == PT_SETSTEP);
+	case PT_GET_SC_ARGS:
+		return call_arguments(HERE, target, address, (size_t)data);
+	case PT_GET_SC_RET:
+		return call_result(HERE, target, (struct ptrace_sc_ret *)(void *)address, (size_t)data);
+	case PT_VM_TIMESTAMP:
+		return tracehost_map_version(HERE, target);
+	case PT_VM_ENTRY:
+		return tracehost_map_entry(HERE, target, (struct ptrace_vm_entry *)(void *)address);
 	case PT_LWPINFO:
 		return information(HERE, target, address, data);
 	case PT_GETLWPLIST:
@@ -130,40 +353,8 @@ int tracehost_ptrace(int request, pid_t target, char *address, int data)
 	case PT_SYSCALL:
 	case PT_FOLLOW_FORK:
 	case PT_LWP_EVENTS:
-		if (request != PT_TRACE_ME && request != PT_GETNUMLWPS && request < PT_FOLLOW_FORK && address != (char *)1 && address != NULL) {
-			tracehost_say("ptrace: there is no program counter in the model: addr is 1 (EINVAL)");
-			errno = EINVAL;
-			return -1;
-		}
-		if (ask("ptrace %d %d %d", request, target, data) != 0)
-			return -1;
-		return request == PT_GETNUMLWPS ? tracehost_number() : 0;
+		return resume(HERE, request, target, address, data);
 	default:
 		return unknown(request);
 	}
-}
-
-/* sysctl(3): kern.proc.pid.PID, and the caller's kern.proc.pathname. */
-int tracehost_sysctl(const int *name, unsigned count, void *to, size_t *size, const void *new, size_t new_size)
-{
-	struct kinfo_proc *process = to;
-	(void)new, (void)new_size;
-	if (count == 4 && name[0] == CTL_KERN && name[1] == KERN_PROC && name[2] == KERN_PROC_PATHNAME && name[3] == -1) {
-		ssize_t length = readlink("/proc/self/exe", to, *size - 1);
-		if (length < 0)
-			return -1;
-		((char *)to)[length] = 0;
-		*size = length + 1;
-		return 0;
-	}
-	if (count != 4 || name[0] != CTL_KERN || name[1] != KERN_PROC || name[2] != KERN_PROC_PID || *size < sizeof *process) {
-		tracehost_say("sysctl: the model has kern.proc.pid, and kern.proc.pathname of the caller, alone (ENOENT)");
-		errno = ENOENT;
-		return -1;
-	}
-	if (ask("stat %d", name[3]) != 0)
-		return -1;
-	*process = (struct kinfo_proc){.ki_structsize = sizeof *process, .ki_pid = name[3]};
-	process->ki_stat = tracehost_number(), process->ki_ppid = tracehost_number();
-	return 0;
 }

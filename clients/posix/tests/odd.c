@@ -24,6 +24,15 @@ start_children(int count)
 				pause();
 }
 
+/* The host's close_range(3, ~0U, 0), past the runtime. */
+static void
+close_unseen(void)
+{
+	long result;
+
+	__asm__ volatile("syscall" : "=a"(result) : "a"(436), "D"(3), "S"(~0U), "d"(0) : "rcx", "r11", "memory");
+}
+
 int
 main(int argc, char **argv)
 {
@@ -59,7 +68,7 @@ main(int argc, char **argv)
 		return (waitpid(pid, NULL, 0) == pid ? 0 : 1);
 	} else if (strcmp(what, "closes_all") == 0) { /* outside of the runtime */
 		start_children(3);
-		close_range(3, ~0U, 0);
+		close_unseen();
 		getpid();
 	} else if (strcmp(what, "forks") == 0) {
 		for (i = 0; i < 260; i++) {

@@ -10,7 +10,8 @@ Each module has one thought:
 - `program`: the program's server, its processes and their sockets;
 - `run`: who may go on, until the run ends;
 - `schedules`: the choices;
-- `describe`: who waits in which call, and for whom;
+- `questions`: what the runtime asks;
+- `describe`: who waits in which call, and for whom; `blame`: the place at which a run has failed;
 - `runner`, `pool`: runs one after the other, and on several processors;
 - `search`: many schedules, and the shortest that fails;
 - `record`: a run as a scenario, and as a schedule to run again;

@@ -8,7 +8,7 @@ from typing import TYPE_CHECKING
 from tracehost import EventMask, StopFlag
 
 from .model import Reply
-from .table import Failed
+from .table import Broken, Info
 
 if TYPE_CHECKING:
     from .turns import Turns
@@ -30,7 +30,7 @@ EAGAIN = f"error {errno.EAGAIN}"
 def number_of(turns: Turns, counted: int, reply: Reply, place: int) -> int:
     """The number of what a call has made: a stop at the call's exit doesn't report it, so that it is counted along."""
     if reply[0] == "new" and int(reply[place]) != counted:
-        raise Failed(f"the model has made {reply[place]}, where {counted} was due")
+        raise Broken(f"the model has made {reply[place]}, where {counted} was due")
     return counted
 
 
@@ -42,20 +42,20 @@ def _signals(text: str) -> int:
     return sum(1 << int(number) for number in text.split(",")) if text != "none" else 0
 
 
-def information(reply: Reply) -> str:
-    """struct ptrace_lwpinfo, in numbers."""
+def information(reply: Reply, info: Info) -> str:
+    """struct ptrace_lwpinfo, in numbers; what is known of the signal comes last."""
     flags, mask, pending, child, code = (word.partition("=")[2] for word in reply[3:8])
     event = int(reply[2] == "SIGNAL")
-    return f"ok {reply[1]} {event} {_bits(flags, _FLAGS)} {_signals(mask)} {_signals(pending)} {child} {code}"
+    return f"ok {reply[1]} {event} {_bits(flags, _FLAGS)} {_signals(mask)} {_signals(pending)} {child} {code} {' '.join(map(str, info))}"
 
 
-def requested(reply: Reply) -> str:
+def requested(reply: Reply, info: Info = Info()) -> str:
     """The answer of a request of ptrace(2)."""
     kind = reply[0]
     if kind == "error":
         return error(reply)
     if kind == "info":
-        return information(reply)
+        return information(reply, info)
     if kind == "lwps":
         return f"ok {len(reply) - 1} {' '.join(reply[1:])}"
     if kind == "mask":

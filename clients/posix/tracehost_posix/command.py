@@ -11,6 +11,7 @@ import shutil
 import subprocess
 import sys
 import time
+from collections import deque
 from collections.abc import Callable, Sequence
 from typing import Any, NoReturn
 
@@ -19,12 +20,15 @@ from .model import ModelFailed
 from .pool import Pool, WorkerEnded
 from .program import NotRunnable, check
 from .report import say
-from .run import Options, Run
+from .run import Run
 from .runner import Result, Runner, Setting, Task, verify
 from .schedules import Switch
+from .table import Broken, Options
 
 FAILED, USAGE, BROKEN, ANOTHER_WAY = 1, 2, 3, 4
-VERSION = "0.10.0"
+LAST = 100
+"""Of so many last schedules it is said how many were new."""
+VERSION = "0.11.0"
 _ADDR_NO_RANDOMIZE = 0x0040000
 
 
@@ -81,10 +85,12 @@ def parser() -> Parser:
     add("--record", metavar="FILE", help="the run, or the one that fails: FILE (scenario), FILE.lines, FILE.schedule, FILE.html")
     add("--gdb", action="store_true", help="starts gdb on the process that fails, before it ends")
     add("--with", dest="tool", metavar="COMMAND", help="starts COMMAND with that process's number")
-    add("--strict", action="store_true", help="no handler runs for a signal that a debugger passes on, as in the model")
+    add("--strict", action="store_true", help="the model alone: no handler for a signal that a debugger passes on, stops for "
+        "discarded signals too, and no registers")
     add("--kill-on-debugger-exit", choices=["0", "1"], help="the sysctl of this name (1)")
     add("--limit", type=_count, default=20000, metavar="N", help="a run of more questions has no end (20000)")
     add("--patience", type=_seconds, default=20.0, metavar="S", help="a thread that makes no call for so many seconds hangs (20)")
+    add("--output-limit", type=_count, default=64 << 20, metavar="BYTES", help="a run may print so many, where its output is kept (67108864)")
     add("--digest", action="store_true", help="prints a digest of each run: its steps, answers and output")
     add("--verify", action="store_true", help="has each run's record replayed by tracehost --expect")
     add("--figures", action="store_true", help="prints what the runs took")
@@ -115,10 +121,16 @@ def _one_of(given: argparse.Namespace, made: Parser) -> None:
 
 
 def _model(given: argparse.Namespace, made: Parser) -> str:
-    named = given.model or os.environ.get("TRACEHOST") or "tracehost"
-    found = shutil.which(named)
+    named = given.model or os.environ.get("TRACEHOST")
+    if named is not None:
+        found = shutil.which(named)
+        if found is None:
+            made.error(f"{named}: there is no such program ({'--model' if given.model else 'TRACEHOST'} names it)")
+        return found
+    own = os.path.join(report.TOP, "tracehost")
+    found = (own if os.access(own, os.X_OK) else None) or report.beside("tracehost") or shutil.which("tracehost")
     if found is None:
-        made.error(f"{named}: there is no such program (--model, or the environment's TRACEHOST, names tracehost)")
+        made.error("there is no program tracehost beside this one, or on the path; --model or TRACEHOST may name it")
     return found
 
 
@@ -128,7 +140,10 @@ class Command:
     def __init__(self, given: argparse.Namespace, setting: Setting) -> None:
         self.given, self.setting = given, setting
         self.began = time.monotonic()
-        self.runs = self.questions = self.steps = self.passed = 0
+        self.runs = self.questions = self.steps = self.passed = self.skipped = self.examined = self.most = 0
+        self.schedules: set[tuple[Switch, ...]] = set()
+        self.news: deque[bool] = deque(maxlen=LAST)
+        """Of the last runs, whether nothing like them had run before."""
 
     def heard(self, task: Task, result: Result) -> None:
         """A run has ended."""
@@ -136,6 +151,11 @@ class Command:
         self.questions += result.questions
         self.steps += result.steps
         self.passed += result.passed
+        self.skipped += result.skipped
+        self.examined += result.examined
+        self.most = max(self.most, result.questions)
+        self.news.append(result.switches not in self.schedules)
+        self.schedules.add(result.switches)
         if self.given.digest:
             print(f"{'plain' if task.seed is None else task.seed} {result.digest}")
 
@@ -154,7 +174,8 @@ class Command:
             sys.stdout.buffer.flush()
         if self.setting.verify:
             why = why or verify(run, self.setting)
-        self.runs, self.questions, self.steps, self.passed = self.runs + 1, self.questions + run.questions, self.steps + run.turns.steps, run.turns.passed
+        self.runs, self.questions, self.steps = self.runs + 1, self.questions + run.questions, self.steps + run.turns.steps
+        self.passed, self.skipped, self.examined = run.turns.passed, run.turns.skipped, run.turns.examined
         if self.given.digest and self.given.schedules is None:
             print(record.digest(run.turns.kept, output))
         return run, why, len(output)
@@ -178,7 +199,19 @@ class Command:
         self._record(run, why)
         if why is not None and run.switches:
             self._switches(run)
-        return self._end(why)
+        if run.questions <= 1 and why is None:
+            say("the program has made no call but its end")
+        status = self._end(why)
+        self._blame(run)
+        return status or self._unmet(task, run)
+
+    def _unmet(self, task: Task, run: Run) -> int:
+        """Switches that were asked for have to be met."""
+        unmet = [switch for switch in task.switches or () if switch not in run.switches]
+        if not unmet:
+            return 0
+        say(f"not met: {record.text_of(unmet)}: the program isn't the one that these switches are of")
+        return ANOTHER_WAY
 
     def replay(self) -> int:
         """A recorded schedule."""
@@ -221,7 +254,8 @@ class Command:
         try:
             if given.preemptions is None:
                 found = search.seeds(pool, given.schedules, task, self.heard)
-                ended = f"{self.runs} schedules passed"
+                new = 100 * sum(self.news) // len(self.news)
+                ended = f"{self.runs} schedules passed, {len(self.schedules)} of them different; of the last {len(self.news)} {new}% were new"
             else:
                 found = search.preemptions(pool, given.preemptions, given.schedules or 100000, self.heard)
         except search.Exhausted as end:
@@ -231,7 +265,7 @@ class Command:
             pool.close()
         if found is None:
             say(ended)
-            return self._end(None)
+            return self._end(None) or self._untried()
         return self._failing(*found)
 
     def _failing(self, task: Task, result: Result) -> int:
@@ -248,15 +282,30 @@ class Command:
                 runner.close()
         run, why, _ = self.one(Task(switches=switches), quiet=True)
         if switches:
-            say(f"of its {len(result.switches)} switches {len(run.switches)} are enough: --switches {record.text_of(run.switches)}")
+            enough = "1 is" if len(run.switches) == 1 else f"{len(run.switches)} are"
+            say(f"of its {len(result.switches)} switches {enough} enough: --switches {record.text_of(run.switches)}")
         self._switches(run)
         self._record(run, why)
-        return self._end(why or result.why)
+        status = self._end(why or result.why)
+        self._blame(run)
+        return status
+
+    def _untried(self) -> int:
+        """A search of a program that makes no call but its end has tried nothing."""
+        if self.most > 1:
+            return 0
+        say("nothing was tried: the program makes no call but its end. Is it compiled by tracehost-cc, all of it?")
+        return ANOTHER_WAY
 
     # ---- what is printed at the end
 
     def _switches(self, run: Run) -> None:
         for line in report.places(run.places or ()):
+            print(f"  {line}", file=sys.stderr)
+
+    @staticmethod
+    def _blame(run: Run) -> None:
+        for line in report.places(run.blame.places):
             print(f"  {line}", file=sys.stderr)
 
     def _record(self, run: Run, why: str | None) -> None:
@@ -266,13 +315,20 @@ class Command:
         setting = self.setting
         options = {"calls": setting.options.calls, "strict": setting.options.strict, "limit": setting.options.limit, "failed": why}
         record.write(path, run, setting.command, setting.kill_on_debugger_exit, {**options, "kill_on_debugger_exit": setting.kill_on_debugger_exit})
-        trouble = report.page(setting.model, path, f"{os.path.basename(setting.command[0])}: {why or 'passed'}")
+        steps = ", ".join(str(place.step) for place in run.places or ())
+        words = " ".join([os.path.basename(setting.command[0]), *setting.command[1:]])
+        title = f"{words}: {why or 'passed'}" + (f" (switches before step {steps})" if steps else "")
+        trouble = report.page(setting.model, path, title)
         if trouble:
             say(f"{path}.html isn't written: {trouble}")
 
     def _end(self, why: str | None) -> int:
         if self.passed:
             say(f"handlers ran {self.passed} times for signals that a debugger passed on, which the model doesn't have (--strict: none)")
+        if self.skipped:
+            say(f"{self.skipped} stops of traced processes were passed over, for signals that FreeBSD discards (--strict: none)")
+        if self.examined:
+            say(f"registers and instructions were used {self.examined} times, which the model doesn't have: not proved (--strict: none)")
         if self.given.figures:
             took = time.monotonic() - self.began
             times = os.times()
@@ -316,7 +372,7 @@ def main(words: Sequence[str] | None = None) -> int:
     resource.setrlimit(resource.RLIMIT_NOFILE, (max(soft, min(hard, 4096)), hard))  # a socket for each thread
     ctypes.CDLL(None).personality(_ADDR_NO_RANDOMIZE)  # addresses are the same in each run
     kill = None if given.kill_on_debugger_exit is None else given.kill_on_debugger_exit == "1"
-    options = Options(given.calls, given.strict, given.limit, given.patience)
+    options = Options(given.calls, given.strict, given.limit, given.patience, given.output_limit)
     try:
         command = [check(given.program), *given.arguments]
         setting = Setting(command, model, options, kill, given.sleeps == "any", given.verify)
@@ -325,6 +381,9 @@ def main(words: Sequence[str] | None = None) -> int:
         if str(why):  # else the program has said it
             say(str(why))
         return USAGE
+    except Broken as why:
+        say(f"the fault is not the program's, which isn't judged: {why}")
+        return BROKEN
     except (ModelFailed, WorkerEnded, OSError) as why:
         say(f"{why}")
         return BROKEN

@@ -2,20 +2,38 @@
 
 from __future__ import annotations
 
+import os
 from typing import NamedTuple
 
-from .schedules import Switch
+from tracehost import Signal
+
 from .table import Lwp
 
 class Place(NamedTuple):
-    """Where a switch was made."""
+    """Where an LWP is, and what is said of it."""
 
-    switch: Switch
-    pid: int
+    who: str
+    """`PID/LWP`; empty where its process has ended."""
     asked: str
     where: int
+    """The address behind the program's call; 0 if it isn't known."""
     program: str
-    other: str
+    """The file whose address that is."""
+    then: str
+    step: int = 0
+    """The number of the next step."""
+
+
+def place_of(lwp: Lwp, then: str, step: int = 0) -> Place:
+    """Where this LWP is now."""
+    try:
+        program = os.readlink(f"/proc/{lwp.process.real}/exe")
+    except OSError:
+        program = ""
+    return Place(name_of(lwp), lwp.asked, lwp.where - lwp.process.base if lwp.where else 0, program, then, step)
+
+
+SIGNALS: dict[int, str] = {int(signal): signal.name for signal in Signal}
 
 
 _NAMES = {
@@ -36,7 +54,18 @@ _NAMES = {
     "memory": "ptrace",
     "timer": "setitimer",
     "sleep": "nanosleep",
+    "exit": "exit",
+    "masked": "ppoll",
+    "restore": "a call's return",
+    "cancel": "pthread_cancel",
+    "timer_left": "getitimer",
+    "overrun": "timer_getoverrun",
     "stat": "sysctl",
+    "watch": "kevent",
+    "unwatch": "kevent",
+    "count": "kevent",
+    "news": "kevent",
+    "undescribed": "close",
     "thr_kill": "raise",
     "yield": "sched_yield",
 }
@@ -54,14 +83,25 @@ CODES = {
     37: "kill",
     39: "getppid",
     41: "dup",
+    53: "sigaltstack",
     59: "execve",
+    81: "getpgrp",
     83: "setitimer",
+    86: "getitimer",
     90: "dup2",
     93: "select",
+    120: "readv",
+    121: "writev",
     135: "socketpair",
     202: "sysctl",
+    207: "getpgid",
     209: "poll",
+    235: "timer_create",
+    237: "timer_settime",
+    238: "timer_gettime",
+    239: "timer_getoverrun",
     240: "nanosleep",
+    310: "getsid",
     331: "sched_yield",
     340: "sigprocmask",
     341: "sigsuspend",
@@ -69,7 +109,14 @@ CODES = {
     432: "thr_self",
     433: "raise",
     454: "pthread_join",
+    362: "kqueue",
+    519: "pdkill",
+    520: "pdgetpid",
+    522: "pselect",
     542: "pipe",
+    545: "ppoll",
+    560: "kevent",
+    575: "close_range",
 }
 """The program's calls, by the numbers of FreeBSD's that the model is given."""
 
@@ -79,6 +126,8 @@ def call_name(asked: str) -> str:
     words = asked.split()
     if words[0] == "enter":
         return words[2]
+    if words[0] in ("refused", "outside"):
+        return words[1]
     if words[0] == "again":
         return words[1]
     return _NAMES.get(words[0], words[0])

@@ -75,6 +75,7 @@ class Session:
             command += ["--kill-on-debugger-exit", str(int(kill_on_debugger_exit))]
         self._process = subprocess.Popen(command, stdin=subprocess.PIPE, stdout=subprocess.PIPE, bufsize=0)
         assert self._process.stdin is not None and self._process.stdout is not None
+        self.pid = self._process.pid
         self._to, self._from = self._process.stdin.fileno(), self._process.stdout.fileno()
 
     def lines(self, lines: Sequence[str]) -> list[str]:
@@ -115,6 +116,10 @@ class Model:
             self._session = Session(self.program, self.kill_on_debugger_exit)
         self._used += 1
         return View(self._session, FIRST_USER + self._used - 1)
+
+    def pids(self) -> list[int]:
+        """The program's number, while it runs."""
+        return [] if self._session is None else [self._session.pid]
 
     def close(self) -> None:
         if self._session is not None:

@@ -2,19 +2,29 @@
 
 from __future__ import annotations
 
-from .answers import EAGAIN, error, number_of
+import errno
+
+from .answers import EAGAIN, EINTR, error, number_of
+from .event_calls import EXECED, FORKED
 from .model import Reply, Step
-from .table import IO, Ended, Leg, Lwp, Process, Wait
-from .turns import COMPUTE, LEAVE, Replied, Turns
+from .table import IO, SYNC, Ended, Happening, Leg, Lwp, Process, Wait
+from .turns import CLD_TRAPPED, COMPUTE, LEAVE, STOP, Replied, Turns
 
 SYS_FORK, SYS_VFORK, SYS_THR_NEW, SYS_GETPPID, SYS_UMTX, SYS_SYSCTL = 2, 66, 455, 39, 454, 202
+COMPUTED = 50_000_000
+"""So many nanoseconds a thread has computed that asks `poke`."""
 MAX_PROCESSES, MAX_LWPS = 250, 1000
 """Of a user; docs/MACHINE.md."""
 
 
-def hello(turns: Turns, lwp: Lwp) -> Leg:
-    """A new thread, process or image: it goes on once it may run. An image learns which signals it ignores."""
-    yield from turns.user(lwp)
+def hello(turns: Turns, lwp: Lwp, lands: bool = False) -> Leg:
+    """A new thread, process or image: it goes on once it may run. An image learns which signals it ignores. One that is in
+    a call, and traced, asks again as that returns."""
+    lwp.lands = lands and turns.lands(lwp)
+    if not lwp.lands:
+        yield from turns.user(lwp)
+    while lwp.process.put_back:
+        yield from turns.dispose(lwp, *lwp.process.put_back.popitem())
     ignored = sum(1 << signal for signal in lwp.process.ignored)
     return f"ok {lwp.process.pid} {lwp.tid} {ignored}"
 
@@ -54,14 +64,28 @@ def _fork(turns: Turns, lwp: Lwp, name: str) -> Leg:
     reply = yield from _made(turns, lwp, name)
     child = Process(number_of(turns, table.number_process(used), reply, 1), process.pid)
     child.caught, child.ignored = dict(process.caught), set(process.ignored)
+    child.put_back = {signal: awaited.action for signal, awaited in process.awaited.items()}
     born = Lwp(child, number_of(turns, table.number_lwp(), reply, 2), lwp.mask)
     child.vforked = name == "vfork"
+    table.processes[child.pid] = child
     if reply[0] == "stopped" and "PL_FLAG_FORKED" in reply[3]:
         child.tracer, child.reporting = process.tracer, born
-        turns.child_news(child)
-    table.processes[child.pid] = child
+        turns.child_news(child, CLD_TRAPPED, STOP)
+    _tell_fork(turns, process, child)
     turns.run.give_birth(lwp, born)
+    lwp.lands = turns.lands(lwp)
     return f"ok {child.pid} {born.tid}"
+
+
+def _tell_fork(turns: Turns, process: Process, child: Process) -> None:
+    """Those who watch the process hear of its child, which they watch too if they track it."""
+    for watcher in turns.table.processes.values():
+        if process.pid in watcher.watched:
+            tracks = watcher.watched[process.pid]
+            watcher.happened.append(Happening(FORKED, process.pid, child.pid, int(tracks)))
+            turns.table.change(watcher.pid)
+            if tracks:
+                watcher.watched[child.pid] = True
 
 
 def fork(turns: Turns, lwp: Lwp) -> Leg:
@@ -74,6 +98,14 @@ def vfork(turns: Turns, lwp: Lwp) -> Leg:
     return (yield from _fork(turns, lwp, "vfork"))
 
 
+def pdfork(turns: Turns, lwp: Lwp, daemon: int) -> Leg:
+    """pdfork(2): waits for any child don't report this one, and its end sends no SIGCHLD; a daemon outlives its descriptor."""
+    answer = yield from _fork(turns, lwp, "fork")
+    if answer.startswith("ok "):
+        lwp.process.described[int(answer.split()[1])] = bool(daemon)
+    return answer
+
+
 def thr_new(turns: Turns, lwp: Lwp) -> Leg:
     """pthread_create(3)."""
     refused = yield from _no_room(turns, lwp, SYS_THR_NEW, 0)
@@ -82,6 +114,7 @@ def thr_new(turns: Turns, lwp: Lwp) -> Leg:
     reply = yield from _made(turns, lwp, "thr_new")
     born = Lwp(lwp.process, number_of(turns, turns.table.number_lwp(), reply, 2), lwp.mask)
     turns.run.give_birth(lwp, born)
+    lwp.lands = turns.lands(lwp)
     return f"ok {lwp.process.pid} {born.tid}"
 
 
@@ -103,7 +136,12 @@ def exec_image(turns: Turns, lwp: Lwp) -> Leg:
     for other in [other for other in process.lwps if other is not lwp]:
         turns.run.replace(other)
     process.caught.clear()
-    lwp.passed, lwp.injected = 0, []
+    process.awaited.clear()
+    process.watched, process.counts, process.happened = {}, {}, []
+    turns.table.happen(Happening(EXECED, process.pid))
+    for bell in [bell for bell in turns.table.lwps if bell.process is process and bell.socket is None and bell.tid != -process.pid]:
+        turns.table.lwps.remove(bell)  # of timer_create(2)
+    lwp.passed, lwp.injected, lwp.lost = 0, [], False
     turns.run.release_parent(process)
     lwp.born = True
     return "ok"
@@ -121,6 +159,7 @@ def exit_process(turns: Turns, lwp: Lwp, code: int) -> Leg:
     """_exit(2)."""
     turns.plan(lwp, turns.entry_of(lwp, f'"exit","code":{code}'), Step("turn", lwp.tid, LEAVE))
     yield from turns.enter_call(lwp, f'"exit","code":{code}')
+    lwp.process.told = code
     reply: Reply = yield from turns.leave(lwp)
     raise Ended(int(reply[1]))
 
@@ -131,18 +170,33 @@ def user(turns: Turns, lwp: Lwp) -> Leg:
     return "ok"
 
 
-def poke(turns: Turns, lwp: Lwp) -> Leg:
-    """A thread that computes for long: others go on, and signals are met."""
+def cancel(turns: Turns, lwp: Lwp, tid: int) -> Leg:
+    """pthread_cancel(3): the LWP is woken, if it waits."""
+    for other in lwp.process.lwps:
+        other.cancelled |= other.tid == tid
+    turns.table.change(lwp.process.pid)
+    return (yield from point(turns, lwp))
+
+
+def poke(turns: Turns, lwp: Lwp, asleep: int) -> Leg:
+    """A thread that computes for long, or is `asleep` in a call of the host's: others go on, and signals are met."""
     lwp.yields = True
+    if not asleep:
+        turns.table.now += COMPUTED
     yield None
+    if asleep and not turns.due(lwp):
+        lwp.hosted = True
+        yield Wait((SYNC, IO, lwp.process.pid, -lwp.process.pid))
+        lwp.hosted = False
     yield from turns.user(lwp)
     return "ok"
 
 
 def point(turns: Turns, lwp: Lwp) -> Leg:
     """No call of the system, but others may go on here."""
-    turns.table.change(2)
+    turns.table.change(SYNC)
     yield None
+    yield from turns.stay(lwp)
     return "ok"
 
 
@@ -167,15 +221,22 @@ def getppid(turns: Turns, lwp: Lwp) -> Leg:
     return f"ok {lwp.process.parent}"
 
 
-def join(turns: Turns, lwp: Lwp, tid: int) -> Leg:
-    """pthread_join(3)."""
+def join(turns: Turns, lwp: Lwp, tid: int, until: int) -> Leg:
+    """pthread_join(3), or pthread_timedjoin_np(3)."""
+    end = until if until >= 0 else None
+    answer = "ok"
     yield from turns.enter(lwp, SYS_UMTX)
     while any(other.tid == tid for other in lwp.process.lwps):
-        yield from turns.linger(lwp, (tid,))
+        if end is not None and turns.table.now >= end:
+            answer = f"error {errno.ETIMEDOUT}"
+            break
+        yield from turns.linger(lwp, (tid,), until=end)
+        if lwp.cancelled:
+            return EINTR
         if lwp.entered is None:
             yield from turns.enter(lwp, SYS_UMTX)
     yield from turns.finish(lwp)
-    return "ok"
+    return answer
 
 
 def stat(turns: Turns, lwp: Lwp, pid: int) -> Leg:
@@ -185,4 +246,4 @@ def stat(turns: Turns, lwp: Lwp, pid: int) -> Leg:
     if str(pid) not in reply[1:]:
         return error(["error", "ESRCH"])
     process = turns.table.processes.get(pid)
-    return f"ok 2 {process.parent}" if process else "ok 5 0"
+    return f"ok 2 {process.parent} {process.tracer or 0} {len(process.lwps)} {process.real}" if process else "ok 5 0 0 0 0"

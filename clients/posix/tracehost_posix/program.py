@@ -6,17 +6,21 @@ which is the parent of all whose own parents have ended; if the broker ends, so 
 
 from __future__ import annotations
 
+import fcntl
 import os
+import signal
 import socket
 import struct
 import subprocess
 
-from .table import Failed
+from .table import Broken
 
 MARKER = b"tracehost posix runtime, protocol 1"
 LOOK = 0.05
 """How long a thread may ask nothing, in seconds, before the broker looks what it does."""
 _LOOK = struct.pack("ll", 0, int(LOOK * 1e6))
+ENDING = 20.0
+"""So many seconds the server has at least to answer, and a process to end once the model has ended it."""
 REFUSED = 125
 """The status of a program that has said on standard error why it can't be run."""
 
@@ -52,14 +56,13 @@ def check(path: str) -> str:
 class Program:
     """A started program, before its main()."""
 
-    def __init__(self, command: list[str], quiet: bool) -> None:
+    def __init__(self, command: list[str], quiet: bool, patience: float) -> None:
         """Starts it. With `quiet` its output is kept, for `output`, and its input is empty."""
         self.command = command
-        own, given = socket.socketpair(socket.AF_UNIX, socket.SOCK_SEQPACKET)
+        self._patience = max(patience, ENDING)
+        own, given = pair()
         self._file = os.memfd_create("tracehost-output", os.MFD_CLOEXEC) if quiet else -1
         if quiet:
-            import fcntl
-
             fcntl.fcntl(self._file, fcntl.F_SETFL, os.O_APPEND)
         environment = dict(os.environ, TRACEHOST_CONTROL=str(given.fileno()))
         environment.pop("TRACEHOST_LWP", None)
@@ -76,8 +79,15 @@ class Program:
         except OSError as why:
             raise NotRunnable(f"{command[0]}: {why.strerror}") from why
         given.close()
+        self.pid = self._process.pid
         self._control = own
-        if own.recv(16) != b"ready":
+        try:
+            ready = self._hear()
+        except (OSError, Broken):
+            ready = b""
+        self.notes = ready.decode("utf-8", "replace").splitlines()[1:]
+        """What is to be known of its libraries, and of this host."""
+        if not ready.startswith(b"ready"):
             status = self._process.wait()
             text = self.output().decode("utf-8", "replace").strip()
             self.close()
@@ -91,18 +101,33 @@ class Program:
         try:
             socket.send_fds(self._control, [b"run"], [given.fileno()])
         except OSError as why:
-            raise Failed("the program's server has ended") from why
+            raise Broken("the program's server has ended") from why
         finally:
             given.close()
         return own
 
-    def sweep(self) -> None:
-        """Ends all processes that are left."""
+    def sweep(self) -> dict[int, int]:
+        """Ends all processes that are left. Of those that have ended otherwise than with status 0, or killed: how."""
         try:
             self._control.send(b"sweep")
-            self._control.recv(16)
-        except OSError:
-            pass
+            words = self._hear().decode().split()[1:]
+        except OSError as why:
+            raise Broken("the program's server has ended") from why
+        return {int(real): int(status) for real, _, status in (word.partition(":") for word in words)}
+
+    def _hear(self) -> bytes:
+        """The server's message. A server that the program has stopped goes on."""
+        for _ in range(int(self._patience / LOOK) + 1):
+            try:
+                return self._control.recv(4096)
+            except BlockingIOError:
+                self._process.send_signal(signal.SIGCONT)
+        self._process.kill()
+        raise Broken(f"the program's server has said nothing for {self._patience:g} s")
+
+    def printed(self) -> int:
+        """How many bytes the run has printed, if they are kept."""
+        return os.fstat(self._file).st_size if self._file >= 0 else 0
 
     def output(self) -> bytes:
         """What the run has printed, if it was kept."""

@@ -4,6 +4,7 @@ from __future__ import annotations
 
 import os
 import re
+import shutil
 import subprocess
 import sys
 import tempfile
@@ -19,20 +20,25 @@ def say(text: str) -> None:
     print(f"tracehost-run: {text}", file=sys.stderr)
 
 
+_said: set[str] = set()
+
+
+def say_once(text: str) -> None:
+    """A line on standard error, unless it was said before."""
+    if text not in _said:
+        _said.add(text)
+        say(text)
+
+
 def places(found: Iterable[Place]) -> list[str]:
-    """A line for each switch: the running LWP, its call with file and line, and the LWP that goes on."""
+    """A line for each place: the LWP, its call with file and line, and what is said of it."""
     known = list(found)
     lines = _source_lines({(place.program, place.where) for place in known if place.where and place.program})
     texts = []
     for place in known:
-        if place.pid == 0:
-            texts.append(f"a process has ended; {place.other} goes on")
-            continue
         at = lines.get((place.program, place.where), "")
         at = f" at {at}" if at else ""
-        own = place.switch.to == place.switch.tid
-        then = "its sleep is over" if own else f"{place.other} goes on"
-        texts.append(f"{place.pid}/{place.switch.tid} in {call_name(place.asked)}{at}; {then}")
+        texts.append("; ".join(filter(None, [f"{place.who} in {call_name(place.asked)}{at}" if place.who else "", place.then])))
     return texts
 
 
@@ -54,9 +60,9 @@ def _source_lines(addresses: set[tuple[str, int]]) -> dict[tuple[str, int], str]
 
 def page(model: str, path: str, title: str) -> str | None:
     """The viewer's page of a record, as PATH.html, with the program's calls by name; a text where it can't be made."""
-    make = os.path.join(TOP, "viewer", "make")
-    if not os.path.exists(make):
-        return "the viewer isn't there"
+    viewer = _viewer()
+    if viewer is None:
+        return "the viewer isn't there: there is no tracehost-view"
     lines = subprocess.run([model, "--json", path], capture_output=True)
     if lines.returncode != 0:
         return lines.stderr.decode("utf-8", "replace").strip()
@@ -66,9 +72,23 @@ def page(model: str, path: str, title: str) -> str | None:
         labelled = os.path.join(folder, os.path.basename(path))
         with open(labelled, "w") as file:
             file.write(scenario)
-        words = [sys.executable, make, "-t", title, "-", labelled]
+        words = [*viewer, "-t", title, "-", labelled]
         done = subprocess.run(words, input=lines.stdout, stdout=to, stderr=subprocess.PIPE)
     return None if done.returncode == 0 else done.stderr.decode("utf-8", "replace").strip()
+
+
+def beside(name: str) -> str | None:
+    """A command of this name beside this one, where both are installed."""
+    return shutil.which(name, path=os.path.dirname(os.path.abspath(sys.argv[0])))
+
+
+def _viewer() -> list[str] | None:
+    """The command that makes a page: of the checkout, beside this command, or on the path."""
+    own = os.path.join(TOP, "viewer", "make")
+    if os.path.exists(own):
+        return [sys.executable, own]
+    installed = beside("tracehost-view") or shutil.which("tracehost-view")
+    return None if installed is None else [installed]
 
 
 def _named_call(found: re.Match[str]) -> str:

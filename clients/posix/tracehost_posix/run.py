@@ -6,74 +6,34 @@ that the schedule makes, and of nothing else.
 
 from __future__ import annotations
 
+import contextlib
 import os
 import socket
 import time
 from collections.abc import Callable
-from typing import NamedTuple, NoReturn
+from typing import NoReturn
 
-from . import process_calls, signal_calls, trace_calls, waiting_calls
-from .describe import Place, name_of, waiting
-from .model import Step, View
-from .program import Program, pair
-from .schedules import Schedule, Switch, plain_choice
-from .table import IO, SYNC, Ended, Failed, Handle, Leg, Lwp, Process, Table
-from .turns import Turns
+from . import blame, event_calls, process_calls, questions, waiting_calls
+from .blame import Blame, ended_by, origin, unheard_of
+from .describe import SIGNALS, Place, name_of, place_of, waiting
+from .model import ModelFailed, Step, View
+from .program import ENDING, LOOK, Program, pair
+from .questions import CALLS, Question
+from .schedules import Choosing, Made, Schedule, Switch, plain_choice
+from .table import IO, SYNC, Broken, Ended, Failed, Handle, Happening, Lwp, Options, Process, Table
+from .turns import KILL, Turns
 from .watch import Watch
 
 BETWEEN_POKES = 0.1
 """A thread that computes asks `poke` after so many seconds of its processor's time."""
-ENDING = 20.0
-"""So many seconds a process may take to end, once the model has ended it."""
-_CALLS: dict[str, Callable[..., Leg]] = {
-    "hello": process_calls.hello,
-    "fork": process_calls.fork,
-    "vfork": process_calls.vfork,
-    "thr_new": process_calls.thr_new,
-    "thr_exit": process_calls.thr_exit,
-    "exec": process_calls.exec_image,
-    "foreign": process_calls.foreign,
-    "exit": process_calls.exit_process,
-    "user": process_calls.user,
-    "poke": process_calls.poke,
-    "point": process_calls.point,
-    "call": process_calls.call,
-    "yield": process_calls.sched_yield,
-    "getppid": process_calls.getppid,
-    "join": process_calls.join,
-    "stat": process_calls.stat,
-    "kill": signal_calls.kill,
-    "thr_kill": signal_calls.thr_kill,
-    "fault": signal_calls.fault,
-    "action": signal_calls.action,
-    "mask": signal_calls.mask,
-    "suspend": signal_calls.suspend,
-    "pause": signal_calls.pause,
-    "sigwait": signal_calls.sigwait,
-    "pending": signal_calls.pending,
-    "sleep": signal_calls.sleep,
-    "clock": signal_calls.clock,
-    "timer": signal_calls.timer,
-    "ptrace": trace_calls.ptrace,
-    "memory": trace_calls.memory,
-    "wait": waiting_calls.wait4,
-    "enter": waiting_calls.enter,
-    "leave": waiting_calls.leave,
-    "io": waiting_calls.io,
-}
 
 
-class Options(NamedTuple):
-    """What a run may do."""
+class Gone(Failed):
+    """A process has ended, or closed its socket, outside of the model."""
 
-    calls: bool = False
-    """Others go on between calls alone, not inside of them."""
-    strict: bool = False
-    """No handler runs for a signal that a debugger passes on."""
-    limit: int = 20000
-    """A run of more questions has no end."""
-    patience: float = 20.0
-    """A thread that makes no call for so many seconds hangs."""
+    def __init__(self, process: Process) -> None:
+        super().__init__(f"process {process.pid} has ended, or closed its socket, outside of the model")
+        self.real = process.real
 
 
 class Run:
@@ -90,34 +50,62 @@ class Run:
         self.switches: list[Switch] = []
         self.choice_points: list[tuple[Switch, bool, tuple[int, ...], int]] | None = None
         """For a search through all schedules: the choices, whether they are forced, who else, and after what."""
+        self.choices_made: list[Made] | None = None
+        """All choices, where they are wanted."""
         self.places: list[Place] | None = [] if places else None
+        self.blame = Blame(places)
         self.on_failure: Callable[[int], None] | None = None
         """Called with the host's number of the process that fails, before it ends."""
+        self._ends: dict[int, Process] = {}
+        """The processes that have ended in the model, by the host's numbers."""
         self._born: list[Lwp] = []
         self._idle_points = 0
         self._last_look = -1
+        self._busy = 0
+        """Questions since a sleep has ended, or all have waited."""
         self._history = self._hashed = 0
 
     # ---- the run
 
     def run(self) -> str | None:
-        """Runs the program: what failed, or None."""
+        """Runs the program: what failed, or None. Raises `Broken` where the fault isn't the program's."""
+        ends: dict[int, int] = {}
         try:
-            self._begin()
-            lwps = self.table.lwps
-            while lwps:
-                lwp = self._next()
-                if lwp is None:
-                    break
-                self._advance(lwp)
-            return self._verdict()
-        except Failed as why:
-            return str(why)
+            why, gone = self._rounds(), 0
+        except Gone as failure:
+            why, gone = str(failure), failure.real
+        except Failed as failure:
+            why, gone = str(failure), 0
+        except (Broken, ModelFailed, OSError):
+            raise
+        except Exception as fault:
+            raise Broken(f"{type(fault).__name__}: {fault} ({origin(fault)})") from fault
         finally:
             for lwp in [*self.table.lwps, *self._born]:
                 if lwp.socket is not None:
                     lwp.socket.close()  # its thread reads the end, and ends its process
-            self.program.sweep()
+            ends = self.program.sweep()
+        if gone in ends:
+            return f"{why}: {ended_by(ends[gone])}"
+        return why or self._late(ends)
+
+    def _rounds(self) -> str | None:
+        self._begin()
+        lwps = self.table.lwps
+        while lwps:
+            lwp = self._next()
+            if lwp is None:
+                break
+            self._advance(lwp)
+        return self._verdict()
+
+    def _late(self, ends: dict[int, int]) -> str | None:
+        """A process that has ended otherwise in the host than in the model: its last handlers, a sanitizer's say, have failed."""
+        for real, status in ends.items():
+            process = self._ends.get(real)
+            if process is not None and process.told is not None and status != process.told << 8:
+                return f"process {process.pid} has exited with status {process.told}, but was then {ended_by(status)}, by its last handlers"
+        return None
 
     def _begin(self) -> None:
         reply = self.turns.make(Step("spawn"))
@@ -133,12 +121,14 @@ class Run:
         assert self.first is not None
         if self.first.pid in self.table.processes:
             self._stand_by(self.first)
+            for lwp in self.table.lwps:
+                self.blame.at(lwp)
             who = "; ".join(waiting(lwp) for lwp in self.table.lwps if lwp.socket is not None)
             return f"deadlock: {who}"
         if self.status is None:
             return "the first process was killed"
         if self.status & 127:
-            return f"the first process was ended by signal {self.status & 127}"
+            return f"the first process was ended by {SIGNALS.get(self.status & 127, self.status & 127)}"
         return f"the first process exited with status {self.status >> 8}" if self.status else None
 
     def _stand_by(self, process: Process) -> None:
@@ -160,30 +150,38 @@ class Run:
                 self._idle_points += 1
                 point = self._idle_points
             self.choices += 1
-            if (
-                self.choice_points is None
-                and current is not None
-                and not current.yields
-                and current.topics is None
-                and current in table.lwps
-                and self.schedule.stays(current, point)
-            ):
+            if current is not None and self._simply_goes_on(current, point):
                 return current
             can = [lwp for lwp in table.lwps if table.can_go(lwp)]
             asleep = self._asleep(can)
             plain = plain_choice(can, current)
             chosen = self.schedule.choose(can, asleep, current, point, plain)
+            if self.choices_made is not None:
+                tids = tuple(lwp.tid for lwp in can), tuple(lwp.tid for lwp in asleep)
+                self.choices_made.append(Choosing(*tids, chosen.tid if chosen is not None else None))
             if self.choice_points is not None:
                 self._note_choice(can, asleep, plain, point)
             if chosen is not None:
                 if chosen is not plain:
                     self._note_switch(Switch(current.tid if current else 0, point, chosen.tid), chosen)
                 return self._chosen(chosen, chosen in asleep)
+            self._busy = 0
             if asleep and self.first is not None and self.first.pid in table.processes:
                 table.now = min(lwp.until for lwp in asleep if lwp.until is not None)
                 continue
+            hosted = [lwp for lwp in table.lwps if lwp.hosted]
+            if hosted:  # the host may be done
+                return self._chosen(min(hosted, key=lambda lwp: (lwp.ran, lwp.tid)), False)
             if not self._look_again():
                 return None
+
+    def _simply_goes_on(self, current: Lwp, point: int) -> bool:
+        """Without a look at the others."""
+        able = self.choice_points is None and not current.yields and current.topics is None and current in self.table.lwps
+        stays = able and self.schedule.stays(current, point)
+        if stays and self.choices_made is not None:
+            self.choices_made.append(None)
+        return stays
 
     def _look_again(self) -> bool:
         """All that wait look once more, in case a change was missed: False where they have done so, and all wait again."""
@@ -215,6 +213,7 @@ class Run:
 
     def _chosen(self, chosen: Lwp, was_asleep: bool) -> Lwp:
         if was_asleep and chosen.until is not None:
+            self._busy = 0
             self.table.now = max(self.table.now, chosen.until)
         if self.current is not None and self.current is not chosen:
             self.current.yields = False
@@ -230,28 +229,27 @@ class Run:
         others = tuple(lwp.tid for lwp in [*can, *asleep] if lwp is not plain and lwp.tid)
         if others:
             tid = current.tid if current else 0
-            kept = self.turns.kept
-            while self._hashed < len(kept):
-                step, reply = kept[self._hashed]
-                self._history = hash((self._history, step, tuple(reply)))
-                self._hashed += 1
-            state = hash((self._history, tid, tuple((lwp.tid, lwp.asked, len(lwp.stack)) for lwp in self.table.lwps)))
-            self.choice_points.append((Switch(tid, point, 0), forced, others, state))
+            self.choice_points.append((Switch(tid, point, 0), forced, others, self.state(tid)))
+
+    def state(self, tid: int) -> int:
+        """A number of the questions and steps up to here, and of who runs."""
+        kept = self.turns.kept
+        while self._hashed < len(kept):
+            step, reply = kept[self._hashed]
+            self._history = hash((self._history, step, tuple(reply)))
+            self._hashed += 1
+        return hash((self._history, tid, tuple((lwp.tid, lwp.asked, len(lwp.stack)) for lwp in self.table.lwps)))
 
     def _note_switch(self, switch: Switch, chosen: Lwp) -> None:
         self.switches.append(switch)
         if self.places is None:
             return
-        lwp = self.current
-        if lwp is None:
-            self.places.append(Place(switch, 0, "", 0, "", name_of(chosen)))
-            return
-        try:
-            program = os.readlink(f"/proc/{lwp.process.real}/exe")
-        except OSError:
-            program = ""
-        where = lwp.where - lwp.process.base if lwp.where else 0
-        self.places.append(Place(switch, lwp.process.pid, lwp.asked, where, program, name_of(chosen)))
+        step = len(self.turns.kept) + 1
+        if self.current is None:
+            self.places.append(Place("", "", 0, "", f"a process has ended; {name_of(chosen)} goes on", step))
+        else:
+            then = "its sleep is over" if chosen is self.current else f"{name_of(chosen)} goes on"
+            self.places.append(place_of(self.current, then, step))
 
     def _advance(self, lwp: Lwp) -> None:
         """One leg of what the LWP asked: until it yields, or is answered and asks the next."""
@@ -264,7 +262,7 @@ class Run:
             self._answer(lwp, answer.value)
             return
         except Ended as end:
-            self._ended(lwp.process, end.status)
+            self._ended(lwp, end.status)
             return
         if lwp.socket is not None and len(self.turns.kept) > before:
             lwp.ran = self.turns.steps  # a step that was held is none
@@ -272,7 +270,7 @@ class Run:
             lwp.topics = lwp.until = None
         elif isinstance(pause, Handle):
             lwp.topics = lwp.until = None
-            self._say(lwp, f"handler {pause.signal}")
+            self._say(lwp, f"handler {' '.join(map(str, pause.info))}")
             self._hear(lwp)
         else:
             lwp.topics, lwp.until, lwp.seen = pause.topics, pause.until, self.table.clock
@@ -285,6 +283,7 @@ class Run:
         if lwp not in self.table.lwps:
             return
         born = self._born.pop() if self._born else None
+        answer = self.turns.goes_on(lwp, answer)
         self._say(lwp, answer, born)
         if lwp.leaves:
             self._forget(lwp)
@@ -292,7 +291,7 @@ class Run:
         if lwp.born:  # its exec: the image that comes says hello
             self._meet(lwp)
             return
-        self._hear(lwp, amid=born is not None or lwp.entered is not None)
+        self._hear(lwp, amid=born is not None or lwp.entered is not None or answer.startswith("land"))
         if born is not None:
             self._meet(born)
 
@@ -308,70 +307,112 @@ class Run:
                 with given:
                     socket.send_fds(lwp.socket, [line.encode()], [given.fileno()])
         except OSError as why:
-            raise Failed(f"process {lwp.process.pid} has ended, or closed its socket, outside of the model") from why
+            raise Gone(lwp.process) from why
+
+    def aside(self, lwp: Lwp, line: str) -> str:
+        """What the thread answers to this, which stands in a question."""
+        assert lwp.socket is not None
+        self._say(lwp, line)
+        for _ in range(int(ENDING / LOOK)):
+            try:
+                words = lwp.socket.recv(4096).decode("utf-8", "replace").split()
+            except BlockingIOError:
+                continue
+            except OSError:
+                words = []
+            if not words:
+                raise Gone(lwp.process)
+            return words[-1]
+        raise Broken(f"{name_of(lwp)} doesn't answer {line!r}")
 
     def _hear(self, lwp: Lwp, amid: bool = False) -> None:
         """The thread runs until it asks again; `amid` a call, in the runtime."""
-        line = self._line(lwp, amid)
+        asked = self._line(lwp, amid)
         self.questions += 1
-        if self.questions > self.options.limit:
-            self._stand_by(lwp.process)
-            raise Failed(f"no end after {self.options.limit} questions")
-        where, name, *words = line.split()
-        if name == "handled":
+        self._limits(lwp)
+        if asked.name == "handled":
             return
-        lwp.pokes = lwp.pokes + 1 if name == "poke" else 0
+        lwp.pokes = lwp.pokes + 1 if asked.name == "poke" else 0
         if lwp.pokes * BETWEEN_POKES > self.options.patience:
             self._hangs(lwp)
-        lwp.where, lwp.asked = int(where, 16), line[len(where) + 1 :]
+        self._busy += 1
+        if self._busy > self.options.limit // 2:
+            self._busy = 0
+            lwp.yields = True
+            self.table.end_first_sleep()
+        lwp.cancelled = False
+        lwp.where, lwp.asked = asked.where, lwp.asked if asked.name == "user" else asked.text  # `user`: it comes back from that
+        if self.questions > self.options.limit - blame.LAST:
+            self.blame.asks(lwp)
         if self.choice_points is not None:
-            self._history = hash((self._history, lwp.tid, lwp.asked))
+            self._history = hash((self._history, lwp.tid, asked.text))
+        self._begin_call(lwp, asked)
+
+    def _begin_call(self, lwp: Lwp, asked: Question) -> None:
+        _, _, name, words = asked
         if name == "again":
-            lwp.stack.append(waiting_calls.again(self.turns, lwp, words[0], int(words[1])))
+            number, until = (int(word) for word in (*words[1:], "-1")[:2])
+            lwp.stack.append(waiting_calls.again(self.turns, lwp, words[0], number, until))
             self._advance(lwp)  # it has looked before others run
             return
-        if name == "refused":
-            raise Failed(f"{lwp.process.pid}/{lwp.tid} calls {words[0]}, which isn't among the calls of this runtime (docs/POSIX.md lists them)")
-        self.table.change(SYNC)
-        numbers = [int(word) for word in words[: 1 if name == "enter" else None]]
-        lwp.stack.append(_CALLS[name](self.turns, lwp, *numbers))
-        if name == "fault":  # a trap and its signal are one
+        if name in ("refused", "outside"):
+            self.blame.at(lwp)
+            raise Failed(f"{name_of(lwp)} {unheard_of(name, words)}")
+        if name != "news":  # which is a look
+            self.table.change(SYNC)
+        lwp.stack.append(CALLS[name](self.turns, lwp, *(int(word) for word in words[: 1 if name == "enter" else None])))
+        if name in ("fault", "trace"):  # a trap and its signal are one
             self._advance(lwp)
 
-    def _line(self, lwp: Lwp, amid: bool = False) -> str:
+    def _limits(self, lwp: Lwp) -> None:
+        options = self.options
+        if self.questions > options.limit:
+            self._stand_by(lwp.process)
+            self.blame.loops()
+            raise Failed(f"no end after {options.limit} questions")
+        if self.program.printed() > options.output_limit:
+            self._stand_by(lwp.process)
+            raise Failed(f"it has printed more than {options.output_limit} bytes (--output-limit)")
+
+    def _line(self, lwp: Lwp, amid: bool = False) -> Question:
         """What it asks. One that sleeps in the host's kernel is poked: it asks `poke` then. `amid` a call that is answered
         at once: the thread isn't in user mode, and the call has an end of its own."""
         assert lwp.socket is not None
         watch = Watch(lwp, self.options.patience)
         while True:
             try:
-                line = lwp.socket.recv(4096).decode()
+                line = lwp.socket.recv(4096).decode("utf-8", "replace")
             except BlockingIOError:
+                self._limits(lwp)
                 if watch.look():
                     self._hangs(lwp)
                 continue
             except OSError as why:
-                raise Failed(f"process {lwp.process.pid}: {why.strerror}") from why
+                raise Gone(lwp.process) from why
             if not line:
-                raise Failed(f"process {lwp.process.pid} has ended, or closed its socket, outside of the model")
-            if not amid or line.split()[1] != "poke":
-                return line
+                raise Gone(lwp.process)
+            asked = questions.read(line, lwp.process)
+            if not amid or asked.name != "poke":
+                return asked
             self._say(lwp, "ok")
 
     def _hangs(self, lwp: Lwp) -> NoReturn:
         self._stand_by(lwp.process)
+        self.blame.at(lwp, "that was its last call")
         raise Failed(f"hang: {lwp.process.pid}/{lwp.tid} has made no call for {self.options.patience:g} s")
 
     def _meet(self, lwp: Lwp) -> None:
         """A new thread, or image, says hello."""
-        line = self._line(lwp, amid=True).split()
-        lwp.asked, lwp.where = line[1], 0
-        if lwp.born and line[1] == "foreign":
+        asked = self._line(lwp, amid=True)
+        lwp.asked, lwp.where = asked.text, 0
+        if lwp.born and asked.name == "foreign":
             lwp.stack.append(process_calls.foreign(self.turns, lwp))
             return
+        if asked.name != "hello":
+            raise Broken(f"process {lwp.process.pid} begins with {asked.text!r}")
         lwp.born = False
-        lwp.process.real, lwp.real, lwp.process.base = int(line[2]), int(line[3]), int(line[4], 16)
-        lwp.stack = [process_calls.hello(self.turns, lwp)]
+        lwp.process.real, lwp.real, lwp.process.base = int(asked.words[0]), int(asked.words[1]), int(asked.words[2], 16)
+        lwp.stack = [process_calls.hello(self.turns, lwp, bool(int(asked.words[3])))]
         lwp.topics = lwp.until = None
         for old in lwp.process.replaced:
             if old.socket is not None:
@@ -413,28 +454,27 @@ class Run:
             lwp.socket.close()
         self._remove(lwp)
 
-    def _gone(self, process: Process) -> None:
-        """The process has ended in the model: now in the host."""
-        table = self.table
-        table.processes.pop(process.pid, None)
-        for lwp in process.lwps:
+    def _gone(self, process: Process, status: int, exits: Lwp | None = None) -> None:
+        """Ended in the model: now in the host. An LWP that `exits` runs its last handlers there. Its tracees end, or are let go."""
+        lwps, table = [*process.lwps, *process.replaced], self.table
+        tracees = [other for other in table.processes.values() if other.tracer == process.pid]
+        self._ends[process.real] = process
+        for lwp in process.lwps if exits is None else (exits,):
             if lwp.socket is not None:
-                try:
-                    lwp.socket.send(b"die")
-                except OSError:
-                    pass
+                with contextlib.suppress(OSError):
+                    lwp.socket.send(b"die" if exits is None else b"end")
                 break
-        for lwp in [*process.lwps, *process.replaced]:
+        for lwp in lwps:
             self._forget(lwp)
-        for timer in [lwp for lwp in table.lwps if lwp.process is process]:
-            table.lwps.remove(timer)
         self.release_parent(process)
-        for other in table.processes.values():
-            if other.parent == process.pid:
-                other.parent = 1
-            table.change(other.pid)
-        table.change(IO)
-        self.turns.child_news(process)
+        table.end(process, status)
+        table.happen(Happening(event_calls.ENDED, process.pid, status))
+        self.turns.end_news(process, status)
+        for tracee in tracees:
+            tracee.tracer = None
+            table.change(-tracee.pid)
+        self.reap(tracees, KILL)
+        event_calls.close_all(self.turns, process)
 
     def release_parent(self, process: Process) -> None:
         """Its maker may have waited for this exec, or end."""
@@ -442,26 +482,19 @@ class Run:
             process.vforked = False
             self.table.change(-process.parent)
 
-    def _ended(self, process: Process, status: int) -> None:
+    def _ended(self, lwp: Lwp, status: int) -> None:
+        process = lwp.process
         if process is self.first:
             self.status = status
             if status:
                 self._stand_by(process)
-        tracees = [other for other in self.table.processes.values() if other.tracer == process.pid]
-        self._gone(process)
-        self._orphaned(tracees)
+                self.blame.at(lwp)
+        if process.told is not None and status != process.told << 8:
+            process.told = None  # a signal has come before
+        self._gone(process, status, lwp if process.told is not None else None)
 
-    def _orphaned(self, tracees: list[Process]) -> None:
-        """A debugger's end ends what it traced, or detaches it."""
-        for process in tracees:
-            process.tracer = None
-            self.table.change(-process.pid)
-        self.reap(tracees)
-
-    def reap(self, suspects: list[Process]) -> None:
+    def reap(self, suspects: list[Process], status: int) -> None:
         """Processes that another's step may have ended: they are no callers any more."""
         for process in suspects:
             if process.pid in self.table.processes and self.turns.look(Step("list", process.pid))[0] == "error":
-                tracees = [other for other in self.table.processes.values() if other.tracer == process.pid]
-                self._gone(process)
-                self._orphaned(tracees)
+                self._gone(process, status)

@@ -11,8 +11,10 @@ from typing import NamedTuple
 from . import record
 from .model import Model
 from .program import Program
-from .run import Options, Run
-from .schedules import Plain, Priorities, Random, Schedule, Switch, Switched
+from .report import say_once
+from .run import Run
+from .schedules import Made, Plain, Priorities, Random, Schedule, Switch, Switched
+from .table import Broken, Options
 
 
 class Setting(NamedTuple):
@@ -77,18 +79,26 @@ class Result(NamedTuple):
     digest: str
     passed: int
     """Handlers that ran for a passed-on signal."""
+    skipped: int
+    """Stops that were passed over."""
+    examined: int = 0
+    """Registers that were read or set, and steps by an instruction."""
     points: tuple[Choice, ...] = ()
 
 
 class Runner:
     """Runs schedules, one after the other."""
 
-    def __init__(self, setting: Setting, quiet: bool = True) -> None:
+    def __init__(self, setting: Setting, quiet: bool = True, tells: bool = True) -> None:
+        """With `tells` it prints what is to be known of the program's libraries."""
         self.setting = setting
-        self.program = Program(setting.command, quiet)
+        self.program = Program(setting.command, quiet, setting.options.patience)
+        for note in self.program.notes if tells else ():
+            say_once(note)
         self.model = Model(setting.model, setting.kill_on_debugger_exit)
         self.output = b""
         """Of the last run, where it was kept."""
+        self._plain: tuple[Result, list[Made]] | None = None
 
     def run(self, task: Task, on_failure: Callable[[int], None] | None = None, places: bool = False) -> tuple[Run, str | None]:
         """One run, and what failed."""
@@ -97,18 +107,40 @@ class Runner:
         run.on_failure = on_failure
         if task.points:
             run.choice_points = []
-        why = run.run()
+        if task == Task():
+            run.choices_made = []
+        try:
+            why = run.run()
+        except Broken as fault:
+            raise Broken(f"{task.name()}: {fault}") from fault
         self.output = self.program.output()
         return run, why
 
     def result(self, task: Task, digest: bool = False) -> Result:
-        """The same, as what a search needs of it."""
+        """The same, as what a search needs of it. A seed that makes the plain schedule's choices has its result."""
+        if task.seed is not None and task.depth is None and not self.setting.verify:
+            plain, choices = self._plain or self._run_plain(digest)
+            if Random(task.seed, self.setting.early).is_plain(choices):
+                return plain
         run, why = self.run(task)
         if self.setting.verify:
             why = why or verify(run, self.setting)
         text = record.digest(run.turns.kept, self.output) if digest else ""
         points = tuple(Choice(*point) for point in run.choice_points or ())
-        return Result(why, run.questions, run.turns.steps, run.choices, tuple(run.switches), text, run.turns.passed, points)
+        turns = run.turns
+        return Result(why, run.questions, turns.steps, run.choices, tuple(run.switches), text, turns.passed, turns.skipped, turns.examined, points)
+
+    def _run_plain(self, digest: bool) -> tuple[Result, list[Made]]:
+        run, why = self.run(Task())
+        text = record.digest(run.turns.kept, self.output) if digest else ""
+        turns = run.turns
+        result = Result(why, run.questions, turns.steps, run.choices, (), text, turns.passed, turns.skipped, turns.examined)
+        self._plain = result, run.choices_made or []
+        return self._plain
+
+    def pids(self) -> list[int]:
+        """The processes that live longer than a run."""
+        return [self.program.pid, *self.model.pids()]
 
     def close(self) -> None:
         self.program.close()

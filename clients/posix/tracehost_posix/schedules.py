@@ -8,8 +8,8 @@ from __future__ import annotations
 
 import random
 from collections import deque
-from collections.abc import Mapping, Sequence
-from typing import NamedTuple, Protocol
+from collections.abc import Iterable, Mapping, Sequence
+from typing import NamedTuple, Protocol, Union
 
 from .table import Lwp
 
@@ -20,6 +20,18 @@ class Switch(NamedTuple):
     tid: int
     point: int
     to: int
+
+
+class Choosing(NamedTuple):
+    """A choice of the plain schedule where the running LWP didn't simply go on."""
+
+    can: tuple[int, ...]
+    asleep: tuple[int, ...]
+    to: int | None
+
+
+Made = Union[Choosing, tuple[int, ...], None]
+"""None where the running LWP went on; for a wait the children that it could report, the plain schedule's first."""
 
 
 def plain_choice(can: Sequence[Lwp], current: Lwp | None) -> Lwp | None:
@@ -42,6 +54,9 @@ class Schedule(Protocol):
     def choose(self, can: Sequence[Lwp], asleep: Sequence[Lwp], current: Lwp | None, point: int, plain: Lwp | None) -> Lwp | None:
         """The LWP that goes on, of those that can and of those whose sleep would end; None where nobody can."""
 
+    def first_of(self, children: Sequence[int], tid: int, point: int) -> int | None:
+        """Which of several children a wait of this LWP for any reports; None for the lowest number, the first of them."""
+
 
 class Plain:
     """The plain schedule. A sleep lasts until nobody else can go on."""
@@ -54,6 +69,9 @@ class Plain:
 
     def choose(self, can: Sequence[Lwp], asleep: Sequence[Lwp], current: Lwp | None, point: int, plain: Lwp | None) -> Lwp | None:
         return plain
+
+    def first_of(self, children: Sequence[int], tid: int, point: int) -> int | None:
+        return None
 
 
 class Switched:
@@ -76,6 +94,10 @@ class Switched:
                     return lwp
         return plain
 
+    def first_of(self, children: Sequence[int], tid: int, point: int) -> int | None:
+        to = self._switches.get((tid, point))
+        return to if to in children else None
+
 
 class Random:
     """Another goes on with a probability that the seed draws first. A sleep ends at any time: others may be slow."""
@@ -86,6 +108,7 @@ class Random:
         self._often = self._random.choice([0.02, 0.1, 0.3, 0.7])
         self._draw = self._random.random
         self._draw_stay = random.Random(~seed).random
+        self._draw_child = random.Random(seed << 1 | 1 << 64).choice
         self._drawn: deque[bool] = deque()
         """Choices to stay, or not, that were drawn ahead."""
 
@@ -102,11 +125,29 @@ class Random:
         return count
 
     def choose(self, can: Sequence[Lwp], asleep: Sequence[Lwp], current: Lwp | None, point: int, plain: Lwp | None) -> Lwp | None:
+        to = self._drawn_of([lwp.tid for lwp in can], [lwp.tid for lwp in asleep])
+        return next((lwp for lwp in (*can, *asleep) if lwp.tid == to), None)
+
+    def first_of(self, children: Sequence[int], tid: int, point: int) -> int | None:
+        return self._draw_child(children)
+
+    def _drawn_of(self, can: Sequence[int], asleep: Sequence[int]) -> int | None:
         if self._early and asleep and (not can or self._draw() < 0.2):
-            return self._random.choice(sorted(asleep, key=lambda lwp: lwp.tid))
-        if not can:
-            return None
-        return self._random.choice(sorted(can, key=lambda lwp: lwp.tid))
+            return self._random.choice(sorted(asleep))
+        return self._random.choice(sorted(can)) if can else None
+
+    def is_plain(self, choices: Iterable[Made]) -> bool:
+        """Whether it makes these choices of the plain schedule too. This draws: the schedule is used up."""
+        for made in choices:
+            if made is None:
+                if self._draw_stay() < self._often:
+                    return False
+            elif not isinstance(made, Choosing):
+                if self._draw_child(made) != made[0]:
+                    return False
+            elif self._drawn_of(made.can, made.asleep) != made.to:
+                return False
+        return True
 
 
 class Priorities:
@@ -115,15 +156,19 @@ class Priorities:
 
     S. Burckhardt, P. Kothari, M. Musuvathi, S. Nagarakatte: A Randomized Scheduler with Probabilistic Guarantees of
     Finding Bugs, ASPLOS 2010. Of a run with n LWPs and k choices it finds a bug of depth d with a probability of at least
-    1/(n k^(d-1)).
+    1/(n k^(d-1)). Each second sleep, by chance, takes part: it ends as soon as its LWP has the highest priority. The others
+    last until nobody else can go on. So a sleep whose length matters halves the probability.
     """
 
     def __init__(self, seed: int, depth: int, length: int) -> None:
         self._random = random.Random(seed)
         self._fallen = {self._random.randint(1, max(1, length)): place for place in range(1, depth)}
+        self._draw_child = random.Random(seed << 1 | 1 << 64).choice
         self._priorities: dict[int, float] = {}
         self._choices = 0
         self._lowest = 0.0
+        self._short: dict[tuple[int, int | None], bool] = {}
+        """Which sleeps take part, by LWP and end."""
 
     def stays(self, current: Lwp, point: int) -> bool:
         return False
@@ -137,8 +182,17 @@ class Priorities:
             if lwp.tid not in self._priorities:
                 self._priorities[lwp.tid] = 1.0 + self._random.random()
         if current is not None and current.yields:  # it waits for others, and would spin for ever
-            self._lowest -= 1.0
+            self._lowest -= 2.0
             self._priorities[current.tid] = self._lowest
         if current is not None and self._choices in self._fallen:
-            self._priorities[current.tid] = 1.0 - self._fallen[self._choices] / 1000
-        return max(can, key=lambda lwp: self._priorities[lwp.tid]) if can else None
+            self._priorities[current.tid] = self._lowest - 1.0 / self._fallen[self._choices]  # below those that have yielded
+        awake = [*can, *(lwp for lwp in asleep if self._is_short(lwp))]
+        return max(awake, key=lambda lwp: self._priorities[lwp.tid]) if awake else None
+
+    def first_of(self, children: Sequence[int], tid: int, point: int) -> int | None:
+        return self._draw_child(children)
+
+    def _is_short(self, lwp: Lwp) -> bool:
+        if (lwp.tid, lwp.until) not in self._short:
+            self._short[lwp.tid, lwp.until] = self._random.random() < 0.5
+        return self._short[lwp.tid, lwp.until]

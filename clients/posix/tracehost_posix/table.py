@@ -24,10 +24,21 @@ class Wait(NamedTuple):
     until: int | None = None
 
 
+class Info(NamedTuple):
+    """Of a signal what siginfo_t has; FreeBSD's codes, but those of traps, which are the host's."""
+
+    signal: int = 0
+    code: int = 0
+    sender: int = 0
+    status: int = 0
+    address: int = 0
+
+
 class Handle(NamedTuple):
     """The program's handler is due."""
 
     signal: int
+    info: Info = Info()
 
 
 Leg = Generator[Union[Wait, Handle, None], None, str]
@@ -43,8 +54,68 @@ class Caught(NamedTuple):
     mask: frozenset[int]
 
 
+class News(NamedTuple):
+    """A status that no wait has reported yet."""
+
+    to: int
+    """The process whose wait takes it."""
+    job: bool
+    """A job stop, which only waits with WUNTRACED report."""
+    heir: int = 0
+    """The parent of a zombie whose tracer comes first."""
+
+
+class Happening(NamedTuple):
+    """What a process hears of another that it watches, or of a signal: event_calls.py has the kinds."""
+
+    kind: int
+    number: int
+    first: int = 0
+    second: int = 0
+
+
+class Options(NamedTuple):
+    """What a run may do."""
+
+    calls: bool = False
+    """Others go on between calls alone, not inside of them."""
+    strict: bool = False
+    """No handler runs for a signal that a debugger passes on, and a traced process stops for signals that are discarded."""
+    limit: int = 20000
+    """A run of more questions has no end."""
+    patience: float = 20.0
+    """A thread that makes no call for so many seconds hangs."""
+    output_limit: int = 64 << 20
+    """A run whose output is kept may print so many bytes."""
+
+
+class Rung:
+    """A timer of timer_create(2) that has rung: while its signal is pending it only counts."""
+
+    def __init__(self, signal: int, at: int, every: int, topic: int) -> None:
+        self.signal, self.at, self.every, self.topic = signal, at, every, topic
+        self.due = False
+        """The signal is pending."""
+        self.overruns = 0
+        """Of the last signal that was met."""
+
+
+class Awaited:
+    """A signal without a handler, which is caught while LWPs wait for it in sigwait(2)."""
+
+    def __init__(self, action: str) -> None:
+        self.action = action
+        """What the program has set."""
+        self.count = 0
+        """So many LWPs wait for it."""
+
+
 class Failed(Exception):
-    """The run can't go on."""
+    """The run can't go on: the program has failed."""
+
+
+class Broken(Exception):
+    """The run can't go on: the broker, the runtime or the host has failed, and nothing is known of the program."""
 
 
 class Ended(Exception):
@@ -68,13 +139,36 @@ class Process:
         """The LWP of its last stop."""
         self.caught: dict[int, Caught] = {}
         self.ignored: set[int] = set()
+        self.sent: dict[int, Info] = {}
+        """Of a signal that was posted to it, the last one."""
+        self.examines = False
+        """A debugger that has asked for registers, or set a byte: its steps are instructions."""
         self.maybe: set[int] = set()
         """Signals that may be pending, for a call that waits."""
         self.lwps: list[Lwp] = []
         self.replaced: list[Lwp] = []
         """LWPs that an exec has taken away; their threads end with the old image."""
+        self.stops = False
+        """It has been stopped, or sent a signal that stops: it may be stopped now. Once set, that stays."""
+        self.awaited: dict[int, Awaited] = {}
+        """Signals without a handler that a sigwait(2) waits for."""
+        self.put_back: dict[int, str] = {}
+        """Of a fork's child: what a sigwait(2) of its parent has changed."""
+        self.rung: dict[int, Rung] = {}
+        """By the timer's number."""
+        self.watched: dict[int, bool] = {}
+        """By number: the processes that its kqueues watch, and whether it watches their children too."""
+        self.counts: dict[int, int] = {}
+        """Of the signals that its kqueues watch: how many have come."""
+        self.happened: list[Happening] = []
+        self.described: dict[int, bool] = {}
+        """Children with a process descriptor, and whether they outlive it."""
+        self.told: int | None = None
+        """The exit code that the model has."""
         self.vforked = False
         """Its parent waits for its exec or end."""
+        self.chld_due = self.chld_spurious = False
+        """A SIGCHLD has come since the last one was caught; one for a stop that was passed over."""
 
 
 class Lwp:
@@ -96,6 +190,26 @@ class Lwp:
         self.points = 0
         """How many choices were made where it was the one that runs."""
         self.yields = self.stepping = self.leaves = self.foreign = False
+        self.traps = False
+        """It steps by an instruction."""
+        self.depth = 0
+        """How many questions it stood in when its debugger made it step."""
+        self.to_step = False
+        """By PT_SETSTEP: it steps when its process goes on."""
+        self.lands = False
+        """Its call is over: it is answered, and asks `user` where the call has returned to."""
+        self.sent: dict[int, Info] = {}
+        """Of a signal that was posted to this LWP."""
+        self.info = Info()
+        """Of the signal that it has last stopped for."""
+        self.hosted = False
+        """It waits in a call of the host's, which may be over at any time."""
+        self.lost = False
+        """A debugger has let it go on at address 0."""
+        self.cancelled = False
+        """pthread_cancel(3) wakes it in this call."""
+        self.former = mask
+        """Its mask before ppoll(2)."""
         self.accepting: frozenset[int] = frozenset()
         """Signals that its sigwait(2) takes in place of a handler."""
         self.passed = 0
@@ -123,6 +237,10 @@ class Table:
     def __init__(self) -> None:
         self.processes: dict[int, Process] = {}
         self.lwps: list[Lwp] = []
+        self.news: dict[int, News] = {}
+        """By the number of the process whose status it is, as far as it is known here."""
+        self.statuses: dict[int, int] = {}
+        """Of processes that have ended."""
         self.now = 0
         """Virtual time, in nanoseconds."""
         self.made = 0
@@ -149,6 +267,51 @@ class Table:
             if changed.get(topic, 0) > seen:
                 return True
         return lwp.until is not None and lwp.until <= self.now
+
+    def end_first_sleep(self) -> None:
+        """Threads that never wait, as in a test under load, would keep sleeps from their ends: time goes on to the next one."""
+        sleeping = [(lwp.until, lwp.socket is not None) for lwp in self.lwps if lwp.until is not None]
+        until, is_sleep = min(sleeping, default=(0, False))
+        if is_sleep:  # a timer is more often a watchdog
+            self.now = max(self.now, until)
+
+    def happen(self, happening: Happening) -> None:
+        """Those who watch the process hear of it."""
+        for process in self.processes.values():
+            if happening.number in process.watched:
+                process.happened.append(happening)
+                self.change(process.pid)
+
+    def end(self, process: Process, status: int) -> None:
+        """The process has ended, and its timers with it: what was its news is nobody's, and its children are process 1's."""
+        self.processes.pop(process.pid, None)
+        self.statuses[process.pid] = status
+        self.lwps[:] = [lwp for lwp in self.lwps if lwp.process is not process]
+        self.news = {pid: news for pid, news in self.news.items() if news.to != process.pid}
+        for other in self.processes.values():
+            if other.parent == process.pid:
+                other.parent = 1
+            self.change(other.pid)
+        self.change(IO)
+
+    # ---- statuses
+
+    def reportable(self, to: Process, stops: bool) -> list[int]:
+        """The processes whose statuses a wait of this one may report, job stops among them or not."""
+        return sorted(pid for pid, news in self.news.items() if news.to == to.pid and (stops or not news.job) and not self.hides(to, pid))
+
+    def hides(self, parent: Process, pid: int) -> bool:
+        """Whether a wait for any child doesn't report this one: it has a process descriptor, and the parent doesn't trace it."""
+        child = self.processes.get(pid)
+        return pid in parent.described and (child is None or child.tracer != parent.pid)
+
+    def reported(self, pid: int) -> Process | None:
+        """A wait has reported the status. If it was the tracer's, and that of a zombie, it is the parent's now."""
+        news = self.news.pop(pid, None)
+        if news is None or news.heir not in self.processes:
+            return None
+        self.news[pid] = News(news.heir, False)
+        return self.processes[news.heir]
 
     # ---- numbers
 
@@ -180,6 +343,10 @@ class Table:
         return number
 
     # ---- looking up
+
+    def lwp_of(self, tid: int) -> Lwp | None:
+        """The live LWP with this number."""
+        return next((lwp for lwp in self.lwps if lwp.tid == tid and lwp.socket is not None), None)
 
     def process_of(self, number: int) -> Process | None:
         """The live process with this number, or of the LWP with it."""

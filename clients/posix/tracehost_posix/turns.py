@@ -10,14 +10,18 @@ from collections.abc import Callable, Generator
 from typing import TYPE_CHECKING, Union
 
 from .model import Reply, Step
-from .table import Caught, Ended, Failed, Handle, Lwp, Process, Wait
+from .table import Broken, Caught, Ended, Handle, Info, Lwp, News, Process, Wait
 
 if TYPE_CHECKING:
     from .run import Run
 
-KILL, TRAP, PIPE, ALRM, STOP, CONT, CHLD = 9, 5, 13, 14, 17, 19, 20
+KILL, TRAP, SEGV, PIPE, ALRM, STOP, CONT, CHLD = 9, 5, 11, 13, 14, 17, 19, 20
+STOPPING = frozenset({STOP, 18, 21, 22})
 DISCARDED = frozenset({16, 19, 20, 23, 28, 29})
 UNBLOCKABLE = frozenset({KILL, STOP})
+TRAPS = frozenset({4, TRAP, 8, 10, SEGV})
+SI_USER, SI_TIMER, SI_KERNEL, SI_LWP, TRAP_TRACE = 0x10001, 0x10003, 0x10006, 0x10007, 2
+CLD_EXITED, CLD_KILLED, CLD_DUMPED, CLD_TRAPPED, CLD_STOPPED, CLD_CONTINUED = 1, 2, 3, 4, 5, 6
 
 Part = Generator[Union[Wait, Handle, None], None, None]
 Replied = Generator[Union[Wait, Handle, None], None, Reply]
@@ -38,8 +42,10 @@ class Turns:
         self._planned: Lwp | None = None
         self._ahead: list[tuple[Step, Reply]] = []
         """Steps that were made with one before, and their answers."""
-        self.passed = 0
-        """How many handlers ran for a signal that a debugger passed on."""
+        self.passed = self.skipped = 0
+        """How many handlers ran for a signal that a debugger passed on; how many stops were passed over."""
+        self.examined = 0
+        """How often a debugger has read registers, or set them, or made a process step by an instruction."""
 
     # ---- a step
 
@@ -61,13 +67,15 @@ class Turns:
         to be next can't have an effect: it is answered `held`, or by an errno. A signal's handler would come between: so
         they are sent alone where one may be due.
         """
-        self._plan = steps if lwp.clean and not (lwp.passed or lwp.injected) else ()
+        if self.lands(lwp) and steps[-1].keys is COMPUTE:
+            steps = steps[:-1]
+        self._plan = steps if lwp.clean and not (lwp.passed or lwp.injected or lwp.traps) else ()
         self._planned = lwp
 
     def _send(self, step: Step) -> Reply:
         for _, reply in self._ahead:
             if reply[0] not in ("held", "error"):
-                raise Failed(f"a step was made too early, and is answered {' '.join(reply)}")
+                raise Broken(f"a step was made too early, and is answered {' '.join(reply)}")
         self._ahead.clear()
         plan = self._plan
         if step not in plan:
@@ -109,18 +117,22 @@ class Turns:
         done: Callable[[Reply], bool] | None = None,
         caught: list[int] | None = None,
         at_once: bool = False,
+        defers: bool = False,
     ) -> Replied:
-        """A turn, until its act was done, or ended in a stop that `done` takes; `caught` gets the signals met before."""
-        probe = keys is PROBE
+        """A turn, until its act was done, or ended in a stop that `done` takes; `caught` gets the signals met before. One
+        that steps by an instruction only looks where it `defers`: the instruction comes first."""
+        wanted = keys
         while True:
             if keys is not LEAVE:
-                yield from self._before(lwp, keys, caught)
+                yield from self._before(lwp, wanted, caught)
             if self.inside and not at_once:
                 yield None
             at_once = False
             if lwp.passed and keys is not LEAVE:
                 # a debugger has let it go on with a signal since
                 continue
+            keys = PROBE if defers and lwp.traps else wanted
+            probe = keys is PROBE
             step = Step("turn", lwp.tid, keys)
             reply = self.make(step, not probe)
             kind = reply[0]
@@ -132,16 +144,20 @@ class Turns:
                 continue
             if kind in ("stopped", "caught", "ended") and probe:
                 self.kept.append((step, reply))
-            if kind == "stopped":
-                self._stopped(lwp, int(reply[2]))
+            if kind == "stopped" and reply[3] == "flags=none" and self.is_discarded(lwp.process, int(reply[2])):
+                yield from self._pass_over(lwp, int(reply[2]))
+            elif kind == "stopped":
+                self._stopped(lwp, int(reply[2]), reply[3] == "flags=none")
                 if done is not None and done(reply):
                     return reply
             elif kind == "caught":
-                yield from self._caught(lwp, int(reply[1]), caught)
+                self.met(lwp.process, int(reply[1]))
+                if not self._is_spurious(lwp.process, int(reply[1])):
+                    yield from self._caught(lwp, int(reply[1]), caught)
             elif kind == "ended":
                 raise Ended(int(reply[1]))
             elif kind == "error" and reply[1] == "ESRCH":
-                raise Failed(f"LWP {lwp.tid} has ended unseen")
+                raise Broken(f"LWP {lwp.tid} has ended unseen")
             else:
                 return reply
 
@@ -151,13 +167,76 @@ class Turns:
             signal, lwp.passed = lwp.passed, 0
             self.passed += 1
             yield from self._caught(lwp, signal, caught)
+        if lwp.lost and keys in (COMPUTE, PROBE):
+            yield from self._fault(lwp)
         while lwp.injected and not keys.startswith('"act":"raise"'):
             yield from self.turn(lwp, f'"act":"raise","signal":{lwp.injected.pop(0)}', caught=caught)
 
-    def _stopped(self, lwp: Lwp, signal: int) -> None:
+    def _fault(self, lwp: Lwp) -> Part:
+        """There is nothing at address 0; a fault's signal can't be ignored or blocked."""
+        if SEGV in lwp.process.ignored:
+            yield from self.dispose(lwp, SEGV, "default")
+        yield from self.block(lwp, lwp.mask - {SEGV})
+        yield from self.turn(lwp, f'"act":"raise","signal":{SEGV}')
+
+    # ---- signals that FreeBSD discards as they are posted, where the model's traced process keeps them, and stops
+
+    def is_discarded(self, process: Process, signal: int) -> bool:
+        """Whether a traced process doesn't stop for it: its action is nothing. SIGCONT, and a trap, stop it in any case."""
+        if self.run.options.strict or signal == CONT or signal in TRAPS:
+            return False
+        return signal in process.ignored or signal in DISCARDED and signal not in process.caught
+
+    def _pass_over(self, lwp: Lwp, signal: int) -> Part:
+        """The tracer takes the stop and lets the process go on, before anybody else may look."""
+        self._info(lwp, signal)  # nobody gets it
+        process, tracer = lwp.process, self.table.processes.get(lwp.process.tracer or 0)
+        if tracer is None:
+            return
+        stepping = next((other.tid for other in process.lwps if other.stepping), 0)
+        request = "PT_STEP" if stepping else "PT_CONTINUE"
+        take = Step("wait4", tracer.pid, "", "which", process.pid)
+        for step in (take, Step("ptrace", tracer.pid, f'"request":"{request}","data":0', "target", stepping or process.pid)):
+            while self.make(step)[0] == "held":
+                yield Wait((-tracer.pid, -process.pid))
+                if process.tracer != tracer.pid:
+                    return
+        self.skipped += 1
+        tracer.chld_spurious = True
+        for other in tracer.lwps:
+            other.clean = False
+
+    @staticmethod
+    def _is_spurious(process: Process, signal: int) -> bool:
+        """Whether a SIGCHLD that is caught came of stops alone that were passed over."""
+        if signal != CHLD:
+            return False
+        spurious = process.chld_spurious and not process.chld_due
+        process.chld_spurious = process.chld_due = False
+        return spurious
+
+    def met(self, process: Process, signal: int) -> None:
+        """The signal isn't pending any more: what a timer has counted meanwhile are its overruns."""
+        for rung in process.rung.values():
+            if rung.due and rung.signal == signal:
+                rung.due = False
+                rung.overruns = (self.table.now - rung.at) // rung.every
+                self.table.change(rung.topic)
+
+    def _stopped(self, lwp: Lwp, signal: int, by_signal: bool) -> None:
+        self.met(lwp.process, signal)
+        lwp.info = self._info(lwp, signal) if by_signal else Info()
         lwp.process.reporting = lwp
+        lwp.process.stops = True
         lwp.process.maybe.discard(signal)
-        self.child_news(lwp.process)
+        self.child_news(lwp.process, CLD_STOPPED if lwp.process.tracer is None else CLD_TRAPPED, signal)
+
+    @staticmethod
+    def _info(lwp: Lwp, signal: int, else_from: Info = Info()) -> Info:
+        """What is known of a signal that is met; where nobody has sent it, the kernel has."""
+        sent = lwp.sent if signal in lwp.sent else lwp.process.sent
+        known = sent.pop(signal, else_from)
+        return known if known.signal == signal else Info(signal, SI_KERNEL)
 
     def _caught(self, lwp: Lwp, signal: int, caught: list[int] | None) -> Part:
         """The program's handler runs, with its mask."""
@@ -171,7 +250,7 @@ class Turns:
         if action.reset:
             yield from self.dispose(lwp, signal, "default")
         yield from self.block(lwp, old | action.mask | (frozenset() if action.no_defer else {signal}))
-        yield Handle(signal)
+        yield Handle(signal, self._info(lwp, signal, lwp.info))
         yield from self.block(lwp, old)
 
     def dispose(self, lwp: Lwp, signal: int, action: str, caught: Caught | None = None) -> Replied:
@@ -197,6 +276,8 @@ class Turns:
         mask -= UNBLOCKABLE
         if mask != lwp.mask:
             yield from self.turn(lwp, self.blocking(mask))
+            if CONT in lwp.mask - mask:
+                self.met(lwp.process, CONT)  # which the model doesn't keep
             lwp.mask = mask
 
     @staticmethod
@@ -238,22 +319,56 @@ class Turns:
         caught: list[int] = []
 
         def stepped(reply: Reply) -> bool:
-            done = lwp.stepping and reply[2:] == ["5", "flags=none"]
+            done = lwp.stepping and not lwp.traps and reply[2:] == ["5", "flags=none"]
             lwp.stepping = lwp.stepping and not done
             return done
 
-        reply = yield from self.turn(lwp, COMPUTE, stepped, caught)
+        reply = yield from self.turn(lwp, COMPUTE, stepped, caught, defers=True)
         if reply[0] == "stopped":
             yield from self.turn(lwp, PROBE, None, caught)  # no act: does it go on?
         return caught
 
+    def stepped(self, lwp: Lwp) -> Part:
+        """One that steps by an instruction has made it."""
+
+        def done(reply: Reply) -> bool:
+            over = lwp.stepping and reply[2:] == ["5", "flags=none"]
+            lwp.stepping, lwp.traps = lwp.stepping and not over, lwp.traps and not over
+            return over
+
+        yield from self.turn(lwp, COMPUTE, done, at_once=True)
+
+    @staticmethod
+    def goes_on(lwp: Lwp, answer: str) -> str:
+        """The answer, and how the thread goes on with it."""
+        lands, lwp.lands = lwp.lands, False
+        if lands:
+            return f"land {answer}"
+        steps = lwp.traps and len(lwp.stack) < lwp.depth  # not in a handler that runs meanwhile
+        return f"step {answer}" if steps else answer
+
+    def stay(self, lwp: Lwp) -> Part:
+        """In user mode, where no call is made: the LWP stays here while its process is stopped."""
+        if lwp.process.tracer is not None or lwp.process.stops:
+            yield from self.turn(lwp, PROBE)
+
     def finish(self, lwp: Lwp) -> Part:
         """Out of the call, and back in user mode."""
-        if not self._plan and not self._ahead:
+        if not self._plan and not self._ahead and not (lwp.passed or lwp.injected or self.lands(lwp)):
             turn = Step("turn", lwp.tid, LEAVE)
             self._plan, self._planned = (turn, turn._replace(keys=COMPUTE)), lwp
         yield from self.leave(lwp)
-        yield from self.user(lwp)
+        yield from self.back(lwp)
+
+    def lands(self, lwp: Lwp) -> bool:
+        """A traced process meets signals, and stops, where its call has returned to: with its own registers and results."""
+        return lwp.process.tracer is not None and not self.run.options.strict
+
+    def back(self, lwp: Lwp) -> Part:
+        """Back in user mode, from a call that is over."""
+        lwp.lands = self.lands(lwp) and not self._ahead
+        if not lwp.lands:
+            yield from self.user(lwp)
 
     # ---- waiting in a call
 
@@ -262,43 +377,80 @@ class Turns:
     ) -> Generator[Union[Wait, Handle, None], None, bool]:
         """In a call that can't go on, until something has changed: whether a signal has ended the call."""
         process, code = lwp.process, lwp.entered
-        if not self._due(lwp):
+        if not self.due(lwp):
             yield Wait((process.pid, *topics), until)
-        if not self._due(lwp) or code is None:
+        if not self.due(lwp) or code is None:
             return False
         process.maybe &= lwp.mask
         yield from self.leave(lwp)
         caught = yield from self.user(lwp)
-        if self._interrupts(process, caught, restarts):
+        if lwp.cancelled:
+            return True
+        if self.interrupts(process, caught, restarts):
             return True
         caught = []
         yield from self.enter(lwp, code, caught)
-        if self._interrupts(process, caught, restarts):
+        if self.interrupts(process, caught, restarts):
             yield from self.finish(lwp)
             return True
         return False
 
     @staticmethod
-    def _interrupts(process: Process, caught: list[int], restarts: bool) -> bool:
+    def interrupts(process: Process, caught: list[int], restarts: bool) -> bool:
         """Whether one of these handlers has ended a call that another one may restart."""
         return any(not restarts or signal not in process.caught or not process.caught[signal].restart for signal in caught)
 
     @staticmethod
-    def _due(lwp: Lwp) -> bool:
-        return bool(lwp.passed or lwp.injected or lwp.process.maybe - lwp.mask)
+    def due(lwp: Lwp) -> bool:
+        """Whether a signal may be for the LWP to meet."""
+        return bool(lwp.passed or lwp.injected or lwp.cancelled or lwp.process.maybe - lwp.mask)
 
     # ---- who hears of what
 
     def nudge(self, process: Process, signal: int) -> None:
         """The signal may be pending now."""
         self.table.change(process.pid)
+        process.stops |= signal in STOPPING
+        process.chld_due |= signal == CHLD and (CHLD in process.caught or process.tracer is not None)
         for lwp in process.lwps:
             lwp.clean = False
-        if process.tracer is not None or signal in process.caught or signal not in process.ignored and signal not in DISCARDED:
+        if process.tracer is not None:
+            if not self.is_discarded(process, signal):
+                process.maybe.add(signal)
+        elif signal in process.caught or signal not in process.ignored and signal not in DISCARDED:
             process.maybe.add(signal)
 
-    def child_news(self, process: Process) -> None:
-        """SIGCHLD may have come to the tracer and the parent."""
-        for number in (process.tracer, process.parent):
-            if number in self.table.processes:
-                self.nudge(self.table.processes[number], CHLD)
+    def count(self, process: Process, signal: int) -> None:
+        """The signal was sent to the process, whatever comes of it: for kevent(2)."""
+        if signal in process.counts and not (signal == CHLD and CHLD in process.ignored):
+            process.counts[signal] += 1
+            self.table.change(process.pid)
+
+    def end_news(self, process: Process, status: int) -> None:
+        """The process has ended, with this status of wait(2)."""
+        signal = status & 0x7F
+        code = CLD_EXITED if not signal else CLD_DUMPED if status & 0x80 else CLD_KILLED
+        self.child_news(process, code, signal or status >> 8)
+
+    def child_news(self, process: Process, code: int = 0, status: int = 0) -> None:
+        """The process has a status for its tracer, or without one for its parent; SIGCHLD may have come to both."""
+        table, tracer, parent, continued = self.table, process.tracer, process.parent, code == CLD_CONTINUED
+        ended, receiver = process.pid not in table.processes, table.processes.get(parent if tracer is None else tracer)
+        if receiver is None:
+            table.news.pop(process.pid, None)
+        elif receiver.pid == tracer:
+            table.news[process.pid] = News(receiver.pid, False, parent if ended and parent != tracer else 0)
+        elif not continued:
+            table.news[process.pid] = News(parent, not ended)
+        silent = ended and receiver is not None and table.hides(receiver, process.pid)
+        tells = not silent and (not continued or process.stops)
+        if receiver is not None and silent:
+            receiver.chld_spurious = True
+            for lwp in receiver.lwps:
+                lwp.clean = False
+        elif receiver is not None and tells:
+            self.count(receiver, CHLD)
+        for other in [table.processes[number] for number in (tracer, parent) if number in table.processes and not silent]:
+            if tells:
+                other.sent[CHLD] = Info(CHLD, code, process.pid, status)
+            self.nudge(other, CHLD)

@@ -188,7 +188,8 @@ class Replicas(unittest.TestCase):
         """A step that was answered ENOMEM has changed nothing. Those after it have other numbers, and the same replies."""
         replica = Replica(True)
         replica.add(self.SPAWN, "1001 1 error ENOMEM 12")
-        self.assertEqual(replica.rows(1001), ([], []))
+        processes, lwps = replica.rows(1001)
+        self.assertEqual((len(processes), len(lwps)), (0, 0))
         replica.add(self.SPAWN, "1001 2 new 1000 100000")
         self.assertEqual(len(replica.rows(1001)[0]), 1)
 

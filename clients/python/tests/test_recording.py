@@ -14,6 +14,7 @@ import unittest
 import warnings
 from collections.abc import Callable
 from typing import Any
+from unittest import mock
 
 sys.path.insert(0, str(pathlib.Path(__file__).resolve().parents[1]))
 from tracehost import Call, Compute, Enter, Held, Host, Leave, Raise, RefusedStep, Request, Signal, view
@@ -143,6 +144,21 @@ class RefusedSteps(unittest.TestCase):
                 self.assertRegex(refused.reason, r'^op: .*"lst".*"list"')
                 self.assertTrue(str(refused).startswith(f"BadName: {refused.reason}\n"))
                 self.assertIn(refused.line, str(refused))
+
+    @unittest.skipUnless(os.environ.get("TRACEHOST_LIBRARY"), "no library is named")
+    def test_the_same_reason_over_the_library(self) -> None:
+        """The program is asked when the reason is read. Without a program there is none."""
+        reasons: list[str] = []
+        for transport in ("pipe", "library"):
+            with Host(transport=transport) as host, self.assertRaises(RefusedStep) as caught:  # type: ignore[arg-type]
+                host.user(1065).spawn()
+            self.assertIn("1065", caught.exception.reason)
+            reasons.append(str(caught.exception))
+        self.assertEqual(reasons[0], reasons[1])
+        with Host(transport="library") as host, self.assertRaises(RefusedStep) as caught:
+            host.user(1065).spawn()
+        with mock.patch.dict(os.environ, {"TRACEHOST": "/nowhere/tracehost"}):
+            self.assertEqual(caught.exception.reason, "")
 
     def test_without_reasons(self) -> None:
         with Host(explain=False) as host, self.assertRaises(RefusedStep) as caught:

@@ -96,7 +96,8 @@ class Sessions(unittest.TestCase):
     def test_undo_runs_the_session_again(self) -> None:
         text = self.output("spawn", "spawn", "1000 PT_ATTACH 1001", "1000 wait4", "undo 2", "1000 wait4", "1000 list")
         self.assertIn("status 1001 4479   (stopped SIGSTOP)", text)
-        self.assertIn("2 undone, 2 left\n1001 3 error ECHILD 10\n1001 4 pids 1000 1001\n", text)
+        why = "1000 has no child and traces no process"
+        self.assertIn(f"2 undone, 2 left\n1001 3 error ECHILD 10   ({why})\n1001 4 pids 1000 1001\n", text)
 
     def test_save_and_view(self) -> None:
         scenario, page = self.room / "s.json", self.room / "s.html"
@@ -113,6 +114,37 @@ class Sessions(unittest.TestCase):
         self.assertIn("no step: fly", text)
         self.assertIn("Resumes the target", text)
         self.assertIn("takes back the last step", text)
+
+    def test_mistakes_have_the_wrong_word_and_what_was_meant(self) -> None:
+        text = self.output(
+            "spawn", "spwan", "1000 PT_ATACH 1001", "1000 kil 1000 SIGTERM", "1000 kill 1000 SIGTRM", "turn 100000 leaf",
+            "100000 enter frok", "1000 list 7", "1000 PT_SET_EVENT_MASK 1001 PTRACE_FRK", "undo 9", "undo", "undo",
+        )  # fmt: skip
+        said = text.splitlines()[1:]
+        for line, wanted in zip(said, (
+            "no step: spwan; did you mean spawn?",
+            "PT_ATACH: a process makes one of the calls ptrace, wait4, kill, sigaction, list, install, handle; did you mean PT_ATTACH?",
+            "handle; did you mean kill?",
+            "SIGTRM is no number; did you mean SIGTERM?",
+            "leaf: an LWP's turn has one of the acts compute, raise, block, enter, leave; did you mean leave?",
+            "frok: none of the calls exit, fork, vfork,",
+            "7: this op has no further words",
+            "PTRACE_FRK: none of the events PTRACE_EXEC,",
+            "undo [N]: N is 1 to 1",
+            "1 undone, 0 left",
+            "there is no step to undo",
+        )):  # fmt: skip
+            self.assertIn(wanted, line)
+        self.assertEqual(len(said), 11)
+
+    def test_a_closed_standard_output(self) -> None:
+        """One line at most on standard error, and a status."""
+        environment = {**os.environ, "PYTHONPATH": str(CLIENT)}
+        for output, said in (("| true", ""), (">/dev/full", "tracehost.shell: standard output: No space left on device\n")):
+            code = f"(sleep 0.2; yes spawn | head -n 100) | '{sys.executable}' -u -m tracehost.shell {output}"
+            done = subprocess.run(["bash", "-c", f"{code}; exit ${{PIPESTATUS[1]}}"], stderr=subprocess.PIPE, text=True,
+                                  env=environment)  # fmt: skip
+            self.assertEqual((done.stderr, done.returncode), (said, 1))
 
     def test_lines_on_a_pipe(self) -> None:
         command = [sys.executable, "-m", "tracehost.shell"]

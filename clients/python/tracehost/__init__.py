@@ -19,7 +19,10 @@ the calls of the manual pages. A call returns what the manual page says, or rais
 - `Held` where the caller, or the LWP at its turn, doesn't run;
 - `RefusedStep` where the program takes what was sent for no step (a user outside 1001 to 1064, a 17th rule), with the
   reason and the line;
-- `ProgramEnded` where the program has ended, `ProtocolError` where a line can't be understood.
+- `ProgramEnded` if the program has ended, with the kinds `SessionClosed` and `SessionForked`, and `ProtocolError`
+  where a line can't be understood;
+- `RecordingFailed` if a step can't be recorded, and `SessionBusy` for a call from a signal handler that has
+  interrupted another call.
 
 ``tracehost session.json`` prints the lines of the recorded session again, and `view` makes a page that shows it.
 ``block=True`` lets `wait4`, `handle` and `turn` sleep until another thread's step has brought news; `Host.run` runs
@@ -31,7 +34,16 @@ Signals and the codes of system calls have FreeBSD's numbers, whatever the machi
 <sys/signal.h> and <sys/wait.h>. docs/LINES.md describes the protocol, docs/FORMAT.md the meaning of each call.
 """
 
-from .errors import Held, ProgramEnded, ProtocolError, RefusedStep
+from .errors import (
+    Held,
+    ProgramEnded,
+    ProtocolError,
+    RecordingFailed,
+    RefusedStep,
+    SessionBusy,
+    SessionClosed,
+    SessionForked,
+)
 from .host import Host, Process, User
 from .names import Action, Call, Decision, EventMask, LwpEvent, Request, Signal, StopFlag, WaitOption
 from .naming import describe
@@ -43,6 +55,6 @@ from .viewing import view
 __all__ = [
     "Act", "Action", "Block", "Call", "Caught", "Compute", "Decision", "DueStop", "Ended", "Enter", "EventMask",
     "Handled", "Held", "Host", "Leave", "LwpEvent", "LwpInfo", "LwpMode", "LwpRow", "New", "Process", "ProcessRow",
-    "ProcessState", "ProgramEnded", "ProtocolError", "Raise", "RefusedStep", "Request", "Rule", "Signal", "StopFlag",
-    "Stopped", "Turned", "User", "View", "WaitOption", "Waited", "describe", "view",
+    "ProcessState", "ProgramEnded", "ProtocolError", "Raise", "RecordingFailed", "RefusedStep", "Request", "Rule",
+    "SessionBusy", "SessionClosed", "SessionForked", "Signal", "StopFlag", "Stopped", "Turned", "User", "View", "WaitOption", "Waited", "describe", "view",
 ]  # fmt: skip

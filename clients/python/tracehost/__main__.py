@@ -14,7 +14,10 @@ from .program import bundled
 
 
 def main() -> NoReturn:
-    program = bundled()
+    try:
+        program = bundled()
+    except FileNotFoundError as error:
+        sys.exit(f"tracehost: {error}")
     if program is None:
         sys.exit("tracehost: this package was installed without the program")
     for ignored in (signal.SIGPIPE, signal.SIGXFSZ):  # by Python; the program would inherit that

@@ -29,6 +29,12 @@ class Progress:
         """The user's count."""
         return self._counts.get(uid, 0)
 
+    def in_child(self) -> None:
+        """After fork(2), in the child: no other thread sleeps there, or runs functions by turns."""
+        self._news = threading.Condition()
+        self._sleepers = 0
+        self._turns = None
+
     def close(self) -> None:
         """Wakes all threads: no step follows."""
         with self._news:

@@ -2,19 +2,25 @@
 
 from __future__ import annotations
 
+import difflib
 import enum
 import operator
+import signal
+from collections.abc import Mapping
 from typing import Any, TypeVar
 
+from .names import Request, Signal
 from .replies import New
 
 _Kind = TypeVar("_Kind")
 
 
 def whole(name: str, value: object) -> int:
-    """The value as a whole number."""
+    """The value as a whole number. Neither a bool nor a signal of this system is one: its number may be another's."""
+    if isinstance(value, (bool, signal.Signals)):
+        raise _wrong(name, "a whole number", value)
     try:
-        return operator.index(value)  # type: ignore[arg-type]
+        return int(operator.index(value))  # type: ignore[arg-type]  # the index of an IntEnum is one in Python 3.9
     except TypeError:
         raise _wrong(name, "a whole number", value) from None
 
@@ -33,16 +39,66 @@ def number_of_process(name: str, value: object) -> int:
 def of_kind(name: str, kind: type[_Kind], value: Any) -> _Kind:
     """A value that has to be of this class."""
     if not isinstance(value, kind):
-        raise _wrong(name, kind.__name__, value)
+        wrong = _wrong(name, kind.__name__, value)
+        raise TypeError(f"{wrong}{_hint_of_kind(kind, value)}")
     return value
 
 
+def without_foreign_signals(step: Mapping[str, Any]) -> Mapping[str, Any]:
+    """A step for `Host.step`. JSON would have the number of a `signal.Signals`, which means another signal, and that of a
+    `Request`, which a step names.
+    """
+    if not isinstance(step, Mapping):
+        raise TypeError(f'step: expected a mapping, such as {{"user": 1001, "op": "spawn"}}, got {step!r}')
+    for key, value in step.items():
+        for item in value if isinstance(value, (list, tuple)) else (value,):
+            if isinstance(item, signal.Signals):
+                raise _wrong(key, "a whole number", item)
+            if isinstance(item, Request):
+                raise TypeError(f'{key}: expected a name, got {item!r}; write "{item.name}"')
+            if isinstance(item, Mapping):
+                without_foreign_signals(item)
+    return step
+
+
 def _wrong(name: str, wanted: str, value: object) -> TypeError:
-    hint = ""
+    return TypeError(f"{name}: expected {wanted}, got {value!r}{_hint(wanted, value)}")
+
+
+def _hint(wanted: str, value: object) -> str:
+    """What to write."""
     if isinstance(value, New):
-        hint = "; it has a pid and a tid"
-    elif wanted == "a whole number" and isinstance(value, str) and value.startswith("SIG"):
-        hint = f"; write Signal.{value}"
-    elif isinstance(value, enum.Enum):
-        hint = f" of {type(value).__name__}"
-    return TypeError(f"{name}: expected {wanted}, got {value!r}{hint}")
+        return "; it has a pid and a tid"
+    if wanted == "a whole number":
+        if isinstance(value, bool):
+            return f"; write {int(value)}"
+        if isinstance(value, signal.Signals) and value.name not in Signal.__members__:
+            return f", a signal of this system; FreeBSD has no {value.name}"
+        if isinstance(value, signal.Signals):
+            return f", a signal of this system; write Signal.{value.name}"
+        if isinstance(value, float) and value.is_integer():
+            return f"; write {int(value)}"
+        if isinstance(value, str):
+            return f"; write {int(value)}" if value.strip("-").isdecimal() else _member(value, Signal)
+    return f" of {type(value).__name__}" if isinstance(value, enum.Enum) else ""
+
+
+def _hint_of_kind(kind: type[Any], value: object) -> str:
+    """What to write in the place of a value that isn't of this class."""
+    if isinstance(value, type):
+        return f"; write {value.__name__}()"
+    if issubclass(kind, enum.Enum) and not isinstance(value, enum.Enum):
+        return _member(value, kind)
+    return ""
+
+
+def _member(value: object, kind: type[enum.Enum]) -> str:
+    """The member of this value or name, or of one like it."""
+    for member in kind:
+        if value == member.value or value == member.name:
+            return f"; write {kind.__name__}.{member.name}"
+    if not isinstance(value, str):
+        return ""
+    names = {text: member.name for member in kind for text in (member.name, str(member.value))}
+    near = difflib.get_close_matches(value, names, 1)
+    return f"; did you mean {kind.__name__}.{names[near[0]]}?" if near else ""

@@ -2,31 +2,33 @@
 
 from __future__ import annotations
 
-import errno
 import json
 import os
 import threading
 import time
-from collections.abc import Callable, Iterable, Mapping
+from collections.abc import Callable, Iterable, Mapping, Sequence
 from types import TracebackType
-from typing import Any, Literal, Optional, Union, overload
+from typing import Any, Literal, Optional, TypeVar, Union, overload
 
+from . import forks
 from .blocking import Progress
-from .checks import number_of_process, of_kind, whole, word
-from .errors import Held, ProgramEnded
-from .library import CLwp, CProcess, Session, find
-from .names import ALL_EVENTS, OPTIONS, Action, EventMask, Request, WaitOption, names_of
+from .checks import number_of_process, of_kind, whole, without_foreign_signals, word
+from .errors import Held, ProtocolError, RecordingFailed, RefusedStep, SessionBusy, SessionClosed
+from .library import RawRows, Session, find
+from .names import ALL_EVENTS, CALLER_OPS, OPTIONS, Action, Decision, EventMask, Request, WaitOption, names_of
 from .pipe import Pipe
 from .program import default
 from .recording import Recording
+from .refusals import Asked, Rows, asked_by, refusal
 from .replica import Replica
-from .replies import NOTHING, Handled, LwpInfo, New, Turned, Waited
+from .replies import NOTHING, Answered, Handled, LwpInfo, New, Turned, Waited
 from .rows import View, lwp_row, process_row
 from .steps import Act, Rule, check_act
-from .text import Sent, TextCalls, words_of
+from .text import Sent, TextCalls, ask_program, words_of
 from .typed import NotTyped, TypedCalls
 
 _ENCODE = json.JSONEncoder(separators=(",", ":")).encode
+_Result = TypeVar("_Result")
 
 
 class Host:
@@ -54,10 +56,13 @@ class Host:
 
         `kill_on_debugger_exit` is the sysctl kern.kill_on_debugger_exit: whether the end of a debugger kills the
         processes that it traces. `record` is a file that becomes a scenario with the steps of the session, and is one
-        after each step; `record_lines` gets the lines that were answered, for ``--expect``. With `explain` the program
-        says why it refuses a step, which is `RefusedStep.reason`; without it the program's standard error is this
-        process's. The library gives no reasons. Raises OSError where the program can't be started, the library can't be
-        loaded, or a file can't be made.
+        after each step; `record_lines` gets the lines that were answered, for ``--expect``.
+
+        With `explain` the program says why it refuses a step, which is `RefusedStep.reason`, and an OSError says which
+        condition held, by a look at the user's rows. Without it the program's standard error is this process's, and an
+        OSError names each condition that is possible. The library gives no reasons: `RefusedStep.reason` asks the
+        program then. Raises OSError where the program can't be started, the library can't be loaded, or a file can't be
+        made.
         """
         if record is None and record_lines is not None:
             raise ValueError("record_lines goes with record")
@@ -80,19 +85,35 @@ class Host:
             if recording is not None:
                 recording.close()
             raise
-        self._begin(made, recording, kill_on_debugger_exit is not False)
+        self._begin(made, recording, kill_on_debugger_exit is not False, explain)
 
     def _begin(
-        self, made: Union[Session, Pipe], recording: Optional[Recording], kill_on_debugger_exit: bool = True
+        self,
+        made: Union[Session, Pipe],
+        recording: Optional[Recording],
+        kill_on_debugger_exit: bool = True,
+        explain: bool = True,
     ) -> None:
         self._made = made
         self._replica = None if isinstance(made, Session) else Replica(kill_on_debugger_exit)
         self._recording = recording
+        self._explains = explain
         self._progress = Progress()
-        self._lock = threading.Lock()
+        # a signal handler and a ``__del__`` run in the thread of a call, which a plain lock would stop for ever
+        self._lock, self._is_busy = threading.RLock(), False
         self._text = TextCalls(made, self._progress, recording, self._replica)
         self._typed = TypedCalls(made, self._progress) if isinstance(made, Session) and recording is None else None
         self.transport = "library" if isinstance(made, Session) else "pipe"
+        forks.tell(self)
+
+    def in_child(self) -> None:
+        """After fork(2), in the child: over the library it has a copy of the session, which isn't recorded."""
+        self._lock, self._is_busy = threading.RLock(), False
+        self._progress.in_child()
+        if self._replica is not None and isinstance(self._made, Pipe):
+            self._replica.end(self._made.why_ended())
+        if self._recording is not None:
+            self._recording.in_child()
 
     def __enter__(self) -> Host:
         return self
@@ -105,38 +126,45 @@ class Host:
     def close(self) -> int:
         """Ends the session, waits for the program, and returns its exit status. Closing again does nothing more.
 
-        A call of another thread that sleeps raises ProgramEnded.
+        A call of another thread that sleeps raises SessionClosed.
         """
-        with self._lock:
-            status = self._made.close()
-            if self._replica is not None:
-                self._replica.end(ProgramEnded(status))
+        return self._alone(self._close)
+
+    def _close(self) -> int:
+        status = self._made.close()
+        self._progress.close()
+        if self._replica is not None:
+            self._replica.end(SessionClosed(status))
         if self._recording is not None:
             self._recording.close()
-        self._progress.close()
         return status
+
+    def stop_recording(self) -> None:
+        """The steps from now on aren't recorded. The files are those of the steps so far."""
+        if self._recording is not None:
+            self._alone(self._recording.close)
 
     def copy(self) -> Host:
         """A host at the present state of this one: the same machine, with no recording. Both then go their own ways.
 
-        Raises NotImplementedError over a pipe, ProgramEnded and MemoryError.
+        Raises NotImplementedError over a pipe, SessionClosed and MemoryError.
         """
-        with self._lock:
-            if not isinstance(self._made, Session):
-                raise NotImplementedError("copy: it needs transport='library'")
-            made = self._made.copy()
+        if not isinstance(self._made, Session):
+            raise NotImplementedError("copy: it needs transport='library'")
         host = Host.__new__(Host)
-        host._begin(made, None)
+        host._begin(self._alone(self._made.copy), None, explain=self._explains)
         return host
 
     def line(self, text: str) -> str:
         """Sends a line as it is, and returns the line of its answer, without their line feeds.
 
         It raises nothing for `refused`, `held` and `error`. Raises ValueError where `text` has a line feed of its own,
-        and ProgramEnded.
+        UnicodeEncodeError if it can't be encoded, and ProgramEnded.
         """
+        if not isinstance(text, str):
+            raise TypeError(f"text: expected a text, got {text!r}")
         if "\n" in text:
-            raise ValueError("a line feed ends the line")
+            raise ValueError("text: a line feed ends the line; send one line at a time")
         return self._send(text).line
 
     def step(self, step: Mapping[str, Any]) -> str:
@@ -144,9 +172,15 @@ class Host:
 
         It raises what the other calls raise: RefusedStep, Held and OSError.
         """
-        text = _ENCODE(step)
-        sent = self._send(text)
-        words_of(text, sent, str(step.get("user")))
+        text = _ENCODE(without_foreign_signals(step))
+        return self._alone(self._step, text, step)
+
+    def _step(self, text: str, step: Mapping[str, Any]) -> str:
+        sent = self._text.send(text)
+        try:
+            words_of(text, sent, str(step.get("user")))
+        except Answered as answered:
+            raise self._refusal(answered, asked_by(step)) from None
         return sent.line
 
     def run(self, *functions: Callable[[], Any]) -> list[Any]:
@@ -163,46 +197,90 @@ class Host:
         return User(self, uid)
 
     def _send(self, text: str) -> Sent:
+        return self._alone(self._text.send, text)
+
+    def _alone(self, function: Callable[..., _Result], *arguments: Any) -> _Result:
+        """Calls the function while no other call of the session runs. Raises SessionBusy."""
         with self._lock:
-            return self._text.send(text)
+            if self._is_busy:
+                raise SessionBusy
+            try:
+                self._is_busy = True
+                return function(*arguments)
+            except RecordingFailed:
+                self._close()
+                raise
+            except RefusedStep as refused:
+                if self._explains and isinstance(self._made, Session):
+                    refused.ask = ask_program
+                raise
+            finally:
+                self._is_busy = False
 
     def _call(self, name: str, *arguments: Any) -> Any:
         """Makes the call of this name (`TextCalls`, `TypedCalls`)."""
-        with self._lock:
-            return self._call_alone(name, arguments)
+        return self._alone(self._call_alone, name, arguments)
 
     def _call_alone(self, name: str, arguments: tuple[Any, ...]) -> Any:
-        typed = getattr(self._typed, name, None)
-        if typed is not None:
-            try:
-                return typed(*arguments)
-            except NotTyped:
-                pass
-        return getattr(self._text, name)(*arguments)
+        try:
+            typed = getattr(self._typed, name, None)
+            if typed is not None:
+                try:
+                    return typed(*arguments)
+                except NotTyped:
+                    pass
+            return getattr(self._text, name)(*arguments)
+        except Answered as answered:
+            raise self._refusal(answered, _asked(name, arguments)) from None
+
+    def _refusal(self, answered: Answered, asked: Asked) -> OSError:
+        return refusal(answered.name, asked, lambda: self._known_rows(asked.uid))
+
+    def _known_rows(self, uid: int) -> Optional[Rows]:
+        """The user's rows; None if there are none to be had, as over a pipe without the library."""
+        if not self._explains:
+            return None
+        try:
+            return Rows(self._rows(uid))
+        except (NotImplementedError, ProtocolError, MemoryError, ValueError):
+            return None
+
+    def _call_and_see(self, name: str, arguments: tuple[Any, ...], quiet: object) -> tuple[Any, int]:
+        """The result of a call, Held if that is quiet, and how many steps its user has had until then."""
+        try:
+            result = self._call_alone(name, arguments)
+        except Held:
+            if quiet is not Held:
+                raise
+            result = Held
+        return result, self._progress.seen(arguments[0])
 
     def _news(self, quiet: object, timeout: float | None, what: str, name: str, *arguments: Any) -> Any:
         """The first result but `quiet`, which may be Held: the call is made again after each step that may have
         brought news to its user, the first of its arguments."""
         deadline = None if timeout is None else time.monotonic() + timeout
-        uid = arguments[0]
         while True:
-            with self._lock:
-                try:
-                    result = self._call_alone(name, arguments)
-                except Held:
-                    if quiet is not Held:
-                        raise
-                    result = Held
-                seen = self._progress.seen(uid)
+            result, seen = self._alone(self._call_and_see, name, arguments, quiet)
             if result != quiet:
                 return result
-            self._progress.sleep(uid, seen, deadline, what)
+            self._progress.sleep(arguments[0], seen, deadline, what)
 
-    def _rows(self, uid: int) -> tuple[list[CProcess], list[CLwp]]:
+    def _view(self, uid: int) -> View:
+        processes, lwps = self._rows(uid)
+        return View(tuple(map(process_row, processes)), tuple(map(lwp_row, lwps)))
+
+    def _rows(self, uid: int) -> RawRows:
         if isinstance(self._made, Session):
             return self._made.rows(uid)
         assert self._replica is not None
         return self._replica.rows(uid)
+
+
+def _asked(name: str, arguments: Sequence[Any]) -> Asked:
+    """What was asked by a call of this name."""
+    if name in CALLER_OPS:
+        return Asked(name, arguments[0], arguments[1], arguments[2:])
+    return Asked(name, arguments[0], 0, arguments[1:])
 
 
 def _may_be_library() -> bool:
@@ -270,9 +348,25 @@ class User:
         """
         if not 0 <= self.uid < 1 << 32:
             raise ValueError(f"{self.uid} is no user")
-        with self.host._lock:
-            processes, lwps = self.host._rows(self.uid)
-        return View(tuple(map(process_row, processes)), tuple(map(lwp_row, lwps)))
+        return self.host._alone(self.host._view, self.uid)
+
+
+Verdict = Union[Decision, tuple[Decision, int]]
+"""What a function of `Process.handle_with` returns."""
+_REQUESTS = {
+    Decision.CONTINUE: Request.PT_CONTINUE,
+    Decision.DETACH: Request.PT_DETACH,
+    Decision.KILL: Request.PT_KILL,
+}
+
+
+def _verdict(given: object) -> tuple[Decision, int]:
+    """The decision, and the signal that is passed on; 0 for none."""
+    decision, passed = given if isinstance(given, tuple) and len(given) == 2 else (given, 0)
+    of_kind("decision", Decision, decision)
+    if passed and decision not in (Decision.CONTINUE, Decision.DETACH):
+        raise ValueError(f"decision: {decision.name} passes on no signal")
+    return decision, word("signal", passed)
 
 
 class Process:
@@ -319,7 +413,8 @@ class Process:
         if request == Request.PT_SET_EVENT_MASK and whole("data", data) & ~ALL_EVENTS:
             # bits without a name: the model is asked for what it refuses first, and EINVAL comes last
             self.ptrace(Request.PT_GET_EVENT_MASK, target)
-            raise OSError(errno.EINVAL, os.strerror(errno.EINVAL))
+            asked = Asked("ptrace", self.user.uid, self.pid, (request, target, data))
+            raise refusal("EINVAL", asked, lambda: None)
         return self._call("ptrace", request, word("target", target), word("data", data))
 
     def wait4(
@@ -373,6 +468,28 @@ class Process:
         """
         handled: None | Waited | Handled = self._wait(None, block, block, timeout, "handle")
         return handled
+
+    def handle_with(
+        self, decide: Callable[[Handled], Verdict], *, block: bool = False, timeout: float | None = None
+    ) -> None | Waited | Handled:
+        """As `handle`, with a function that decides where the caller's rules leave or decline the stop.
+
+        The function gets the stop, with the system call's number in `code`, and may make calls itself. It returns a
+        `Decision`, or a pair of Decision.CONTINUE or Decision.DETACH and the signal to pass on. Then the request is
+        made, a step of its own: another thread's step may come before it, and it may raise what `ptrace` raises. The
+        reply has that decision, and None for its handler.
+
+            debugger.handle_with(lambda stop: Decision.KILL if stop.code == EXECVE else Decision.CONTINUE)
+        """
+        handled = self.handle(block=True, timeout=timeout) if block else self.handle(timeout=timeout)
+        if not isinstance(handled, Handled) or handled.decision not in (Decision.LEAVE, Decision.DECLINE):
+            return handled
+        decision, passed = _verdict(decide(handled))
+        request = _REQUESTS.get(decision)
+        if request is not None:
+            self.ptrace(request, handled.pid, passed)
+        passes = decision in (Decision.CONTINUE, Decision.DETACH)
+        return handled._replace(handler=None, decision=decision, pass_signal=passed if passes else None)
 
     def _call(self, name: str, *arguments: Any) -> Any:
         return self.user.host._call(name, self.user.uid, word("pid", self.pid), *arguments)

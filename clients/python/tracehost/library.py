@@ -5,16 +5,19 @@ from __future__ import annotations
 import ctypes
 import functools
 import os
-import platform
-from collections.abc import Callable, Iterator
-from ctypes import POINTER, byref, c_bool, c_char_p, c_size_t, c_uint32
+from collections.abc import Callable
+from ctypes import POINTER, Array, byref, c_bool, c_char_p, c_size_t, c_uint32, c_uint64
 from pathlib import Path
 from typing import Any, Optional
 
-from .errors import ProgramEnded
+from . import checkout, packaged
+from .errors import SessionClosed
 
 # what a call returns
 ANSWERED, NOT_OPEN, NO_MEMORY, INVALID, NO_TEXT, TOO_MANY = range(6)
+
+# what a user may have (docs/FORMAT.md, section 2)
+MOST_PROCESSES, MOST_LWPS = 250, 1000
 
 _NAME = "libtracehost.so"
 _ROOM = 1 << 16
@@ -23,7 +26,7 @@ _ROOM = 1 << 16
 class Handle(ctypes.Structure):
     """``struct tracehost``."""
 
-    _fields_ = [("session", ctypes.c_void_p), ("is_open", c_bool)]
+    _fields_ = [("session", ctypes.c_void_p), ("tag", c_uint64)]
 
 
 class Words(ctypes.Structure):
@@ -107,6 +110,8 @@ class CLwp(Words):
     )
 
 
+RawRows = tuple["Array[CProcess]", "Array[CLwp]"]
+"""A user's processes by rising number, and LWPs in order of birth, which is that of their numbers."""
 _HANDLE, _LENGTH = POINTER(Handle), POINTER(c_size_t)
 _TYPES: dict[str, list[Any]] = {
     "open": [c_bool, _HANDLE],
@@ -150,12 +155,19 @@ def load(path: str) -> Library:
     return Library(path)
 
 
-def _places() -> Iterator[Path]:
-    """Where a library is that nobody names: in this package, and in the release of a checkout that it is run from."""
-    package = Path(__file__).resolve().parent
-    yield package / "lib" / _NAME
-    if len(package.parents) > 2 and (package.parents[2] / "crates.txt").exists():
-        yield package.parents[2] / "release" / f"{platform.machine()}-linux" / _NAME
+def _own() -> Path:
+    """The library that nobody names: that of this package, else of the checkout that it is run from.
+
+    Raises OSError if there is none, if the package's isn't the one that it was built with, and if the checkout's isn't of
+    its present sources or is damaged.
+    """
+    place = packaged.file_of(f"lib/{_NAME}")
+    if place is not None:
+        return place
+    folder = checkout.answer_of("library")
+    if folder is None:
+        raise FileNotFoundError("no libtracehost.so: TRACEHOST_LIBRARY names none, and this package has none")
+    return Path(folder) / _NAME
 
 
 def find(needed: bool = False) -> Optional[Library]:
@@ -166,16 +178,12 @@ def find(needed: bool = False) -> Optional[Library]:
     named = os.environ.get("TRACEHOST_LIBRARY")
     if named:
         return load(named)
-    for place in _places():
-        if place.exists():
-            try:
-                return load(str(place))
-            except OSError:
-                if needed:
-                    raise
-    if needed:
-        raise FileNotFoundError("no libtracehost.so: TRACEHOST_LIBRARY names none, and this package has none")
-    return None
+    try:
+        return load(str(_own()))
+    except OSError:
+        if needed:
+            raise
+        return None
 
 
 class Session:
@@ -188,6 +196,7 @@ class Session:
         self.handle = byref(self._handle)
         self._room = ctypes.create_string_buffer(_ROOM)
         self._length = c_size_t()
+        self._rows: Optional[RawRows] = None
         self.check(library["open"](kill_on_debugger_exit, self.handle))
 
     def __del__(self) -> None:
@@ -202,6 +211,7 @@ class Session:
         made.handle = byref(made._handle)
         made._room = ctypes.create_string_buffer(_ROOM)
         made._length = c_size_t()
+        made._rows = None
         self.check(self.library["copy"](self.handle, made.handle))
         return made
 
@@ -231,25 +241,24 @@ class Session:
                 return tuple(array[: self._length.value])
             array = (c_uint32 * self._length.value)()
 
-    def rows(self, uid: int) -> tuple[list[CProcess], list[CLwp]]:
-        """The user's processes and LWPs. Raises ValueError where this is no user."""
-        processes, lwps = (CProcess * 0)(), (CLwp * 0)()
+    def rows(self, uid: int) -> RawRows:
+        """The user's processes and LWPs, until the next call of this function. Raises ValueError where this is no user."""
+        if self._rows is None:
+            self._rows = (CProcess * MOST_PROCESSES)(), (CLwp * MOST_LWPS)()
+        processes, lwps = self._rows
         counts = (c_size_t(), c_size_t())
-        while True:
-            code = self.library["view"](
-                self.handle, uid, processes, len(processes), lwps, len(lwps), byref(counts[0]), byref(counts[1])
-            )
-            if code == INVALID:
-                raise ValueError(f"{uid} is no user")
-            self.check(code)
-            if counts[0].value <= len(processes) and counts[1].value <= len(lwps):
-                return processes[: counts[0].value], lwps[: counts[1].value]
-            processes, lwps = (CProcess * counts[0].value)(), (CLwp * counts[1].value)()
+        code = self.library["view"](
+            self.handle, uid, processes, len(processes), lwps, len(lwps), byref(counts[0]), byref(counts[1])
+        )
+        if code == INVALID:
+            raise ValueError(f"{uid} is no user")
+        self.check(code)
+        return (CProcess * counts[0].value).from_buffer(processes), (CLwp * counts[1].value).from_buffer(lwps)
 
     def check(self, code: int) -> None:
         """Raises what a code stands for."""
         if code == NOT_OPEN:
-            raise ProgramEnded(0)
+            raise SessionClosed
         if code in (NO_MEMORY, NO_TEXT):
             raise MemoryError
         if code == TOO_MANY:

@@ -2,6 +2,7 @@
 
 from __future__ import annotations
 
+import difflib
 import errno
 import os
 
@@ -99,4 +100,5 @@ def explain(name: str) -> str:
     if name in Signal.__members__:
         default = "stops" if name in _STOPS else "is discarded by" if name in _DISCARDED else "ends"
         return f"Signal {int(Signal[name])}, which {default} a process by default."
-    return f"No help for {name}. `help` alone lists the steps."
+    near = difflib.get_close_matches(name, topics(), 1)
+    return f"No help for {name}{f'; did you mean {near[0]}?' if near else '.'} `help` alone lists the steps."

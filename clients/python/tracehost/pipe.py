@@ -6,17 +6,21 @@ import io
 import os
 import subprocess
 import tempfile
+import weakref
 from collections.abc import Sequence
 from typing import IO
 
-from .errors import ProgramEnded
+from . import forks
+from .errors import ProgramEnded, SessionClosed, SessionForked
+
+_SECONDS_TO_END = 5.0
 
 
 class Pipe:
     """A running program and both ends of its pipe. One thread at a time uses it.
 
     What the program prints on standard error is kept in a file where `keep_errors` says so. A file never fills up, as a
-    pipe would.
+    pipe would. A pipe that is dropped ends its program. A forked child has no end of it.
     """
 
     def __init__(self, command: Sequence[str], keep_errors: bool = False) -> None:
@@ -30,15 +34,24 @@ class Pipe:
             raise
         assert isinstance(process.stdin, io.FileIO) and isinstance(process.stdout, io.FileIO)
         self.process = process
+        self._program = command[0]
         self._to, self._from = process.stdin, io.BufferedReader(process.stdout)
         self._seen_errors = 0
+        self._owner = os.getpid()
+        self._is_closed = self._has_answered = False
+        self._dropped = weakref.finalize(self, _end, process, self._errors, self._owner)
+        forks.tell(self)
 
     def exchange(self, line: str) -> str:
-        """Sends a line, and returns the line of its answer, both without a line feed. Raises ProgramEnded."""
+        """Sends a line, and returns the line of its answer, both without a line feed.
+
+        Raises ProgramEnded, SessionClosed, SessionForked, and UnicodeEncodeError, which leaves the session as it was.
+        """
         if self._to.closed:
-            raise ProgramEnded(self.process.poll())
+            raise self.why_ended()
+        sent = line.encode("utf-8", "surrogateescape") + b"\n"
         try:
-            self._write(line.encode("utf-8", "surrogateescape") + b"\n")
+            self._write(sent)
             answer = self._from.readline()
         except BrokenPipeError:
             answer = b""
@@ -48,7 +61,9 @@ class Pipe:
         if not answer.endswith(b"\n"):
             self._shut()
             status = self._status_soon()
-            raise ProgramEnded(status, self.new_errors())
+            said = self.new_errors() or ("" if self._has_answered else "it has answered nothing; is it tracehost?")
+            raise ProgramEnded(status, said, self._program)
+        self._has_answered = True
         return answer[:-1].decode("utf-8", "replace")
 
     def new_errors(self) -> str:
@@ -61,13 +76,37 @@ class Pipe:
         return text.decode("utf-8", "replace")
 
     def close(self) -> int:
-        """Ends the input, waits for the program, and returns its exit status. Closing again does nothing more."""
+        """Ends the input, waits for the program, and returns its exit status. Closing again does nothing more.
+
+        In a forked child it does nothing, and returns 0.
+        """
+        self._is_closed = True
+        if self._is_forked():
+            return 0
         self._shut()
         if not self._from.closed:
             self._from.read()
             self._from.close()
         self._close_errors()
+        self._dropped.detach()
         return self.process.wait()
+
+    def in_child(self) -> None:
+        """Closes the child's copies: as long as one is open, the program doesn't see the end of its input."""
+        for file in (self.process.stdin, self.process.stdout, self._errors):
+            if file is not None:
+                file.close()
+        self.process.returncode = 0  # it isn't the child's to wait for
+
+    def _is_forked(self) -> bool:
+        return os.getpid() != self._owner
+
+    def why_ended(self) -> ProgramEnded:
+        """What a call raises once the pipe is shut."""
+        if self._is_forked():
+            return SessionForked(self._owner)
+        status = self.process.poll()
+        return SessionClosed(status) if self._is_closed else ProgramEnded(status)
 
     def _close_errors(self) -> None:
         if self._errors is not None:
@@ -85,6 +124,20 @@ class Pipe:
     def _status_soon(self) -> int | None:
         """The status of a program that answers no more; None where it runs on."""
         try:
-            return self.process.wait(timeout=5)
+            return self.process.wait(timeout=_SECONDS_TO_END)
         except subprocess.TimeoutExpired:
             return None
+
+
+def _end(process: subprocess.Popen[bytes], errors: IO[bytes] | None, owner: int) -> None:
+    """Ends the program of a pipe that was dropped. In a forked child it is the parent's, and goes on."""
+    if os.getpid() != owner:
+        return
+    for file in (process.stdin, process.stdout, errors):
+        if file is not None:
+            file.close()
+    try:
+        process.wait(timeout=_SECONDS_TO_END)
+    except subprocess.TimeoutExpired:
+        process.kill()
+        process.wait()

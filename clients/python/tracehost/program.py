@@ -3,15 +3,23 @@
 from __future__ import annotations
 
 import os
-import pathlib
+
+from . import checkout, packaged
 
 
 def bundled() -> str | None:
-    """The path of the program that was installed with this package; None where the package has none."""
-    path = pathlib.Path(__file__).parent / "bin" / "tracehost"
-    return str(path) if os.access(path, os.X_OK) else None
+    """The path of the program that was installed with this package; None where the package has none.
+
+    Raises FileNotFoundError if it isn't the one that the package was built with.
+    """
+    path = packaged.file_of("bin/tracehost")
+    return str(path) if path is not None and os.access(path, os.X_OK) else None
 
 
 def default() -> str:
-    """What the environment's ``TRACEHOST`` names, else the package's own program, else ``tracehost`` on the path."""
-    return os.environ.get("TRACEHOST") or bundled() or "tracehost"
+    """What the environment's ``TRACEHOST`` names, else the package's own program, else the checkout's, else
+    ``tracehost`` on the path.
+
+    Raises FileNotFoundError if the checkout's isn't of its present sources, or the package's was changed.
+    """
+    return os.environ.get("TRACEHOST") or bundled() or checkout.answer_of("program") or "tracehost"

@@ -2,18 +2,23 @@
 
 - The fixture `tracehost` is a `Host` that records. ``@pytest.mark.tracehost(kill_on_debugger_exit=False)`` gives it
   settings.
-- The fixture `new_tracehost` is a function that starts such a host. A test with ``@given`` starts one for each example.
+- The fixture `new_tracehost` is a function that starts such a host, which is closed at the end of the test. A test with
+  ``@given`` starts one for each example.
 - An assertion that compares replies shows statuses, signals and flags by name.
-- A test that fails leaves its scenario, its lines and its page in pytest's temporary folder, or in the one that
-  ``--tracehost-artifacts`` names. The report says where.
+- A test that fails, in a fixture too, leaves its scenario, its lines and its page in pytest's temporary folder, or in a
+  folder of its own below the one that ``--tracehost-artifacts`` names. The report says where, and JUnit's XML has the
+  page as the property ``tracehost_page``.
 """
 
 from __future__ import annotations
 
+import hashlib
+import os
 import re
 import subprocess
 import sys
-from collections.abc import Callable, Generator, Iterator
+import weakref
+from collections.abc import Callable, Generator, Iterator, Sequence
 from pathlib import Path
 from typing import Any, Optional, Protocol, TypeVar
 
@@ -29,7 +34,10 @@ __all__ = ["NewHost", "new_tracehost", "tracehost"]
 _Hook = TypeVar("_Hook", bound=Callable[..., Generator[None, Any, None]])
 _wrapper: Callable[[_Hook], _Hook] = pytest.hookimpl(hookwrapper=True)  # untyped in some versions of pytest
 
-_folder_of_item = pytest.StashKey[Path]()
+_MOST_OF_A_NAME = 80  # characters; the digest makes it the test's own
+_MOST_OF_A_TITLE = 300
+_artifacts = pytest.StashKey[Optional[Path]]()
+_sessions_of_item = pytest.StashKey["Sessions"]()
 _current: list[pytest.Item] = []
 
 
@@ -39,6 +47,40 @@ class NewHost(Protocol):
     def __call__(self, name: str = "session", **settings: Any) -> Host: ...
 
 
+class Sessions:
+    """The sessions of a test, and the folder of their records."""
+
+    def __init__(self, folder: Path) -> None:
+        self.folder = folder
+        self._hosts: dict[str, weakref.ref[Host]] = {}
+        self._earlier: weakref.WeakSet[Host] = weakref.WeakSet()
+
+    def start(self, name: str, settings: dict[str, Any]) -> Host:
+        """A host that records as `name`. An earlier one of that name goes on unrecorded, since the file is no longer its."""
+        earlier = self._hosts[name]() if name in self._hosts else None
+        if earlier is not None:
+            earlier.stop_recording()
+            self._earlier.add(earlier)
+        host = Host(record=self.folder / f"{name}.json", record_lines=self.folder / f"{name}.out", **settings)
+        self._hosts[name] = weakref.ref(host)
+        return host
+
+    def close(self) -> None:
+        """Closes those that the test hasn't closed. What it has dropped is closed already."""
+        for host in [*self._earlier, *(reference() for reference in self._hosts.values())]:
+            if host is not None:
+                host.close()
+
+    def records(self) -> list[Path]:
+        return sorted(self.folder.glob("*.json"))
+
+    def clear(self, kinds: Sequence[str] = ("json", "out", "html")) -> None:
+        """Removes what an earlier run of the test has left."""
+        for kind in kinds:
+            for file in self.folder.glob(f"*.{kind}"):
+                file.unlink()
+
+
 def pytest_addoption(parser: pytest.Parser) -> None:
     group = parser.getgroup("tracehost")
     group.addoption("--tracehost-artifacts", metavar="DIR", help="where failed tests leave their sessions and pages")
@@ -46,6 +88,11 @@ def pytest_addoption(parser: pytest.Parser) -> None:
 
 def pytest_configure(config: pytest.Config) -> None:
     config.addinivalue_line("markers", "tracehost(**settings): settings of the Host that the fixture tracehost starts")
+    named: Optional[str] = config.getoption("--tracehost-artifacts")
+    artifacts = None if named is None else Path(named).absolute()  # a test may change the folder that it runs in
+    config.stash[_artifacts] = artifacts
+    if artifacts is not None:  # so that a later job finds the same failing examples
+        os.environ.setdefault("HYPOTHESIS_STORAGE_DIRECTORY", str(artifacts / ".hypothesis"))
 
 
 @pytest.fixture(scope="session")
@@ -53,8 +100,7 @@ def new_tracehost(tmp_path_factory: pytest.TempPathFactory) -> NewHost:
     """A function that starts a `Host` which records, with the settings of `Host`."""
 
     def start(name: str = "session", **settings: Any) -> Host:
-        folder = _folder(_current[-1], tmp_path_factory)
-        return Host(record=folder / f"{name}.json", record_lines=folder / f"{name}.out", **settings)
+        return _sessions(_current[-1], tmp_path_factory).start(name, settings)
 
     return start
 
@@ -89,9 +135,16 @@ def _as_waited(value: object, other: object) -> object:
 
 @_wrapper
 def pytest_runtest_protocol(item: pytest.Item) -> Generator[None, None, None]:
+    """Nothing of an earlier run of the test is left, and none of its sessions is open at its end."""
     _current.append(item)
+    artifacts = item.config.stash[_artifacts]
+    if artifacts is not None:
+        Sessions(artifacts / _name(item.nodeid)).clear()
     yield
     _current.pop()
+    sessions = item.stash.get(_sessions_of_item, None)
+    if sessions is not None:
+        sessions.close()
 
 
 @_wrapper
@@ -100,43 +153,71 @@ def pytest_runtest_call(item: pytest.Item) -> Generator[None, None, None]:
     stateful = sys.modules.get(f"{__package__}.stateful")
     if stateful is not None:
         factory: pytest.TempPathFactory = item.config._tmp_path_factory  # type: ignore[attr-defined]
-        stateful.Debugging.artifacts = _folder(item, factory)
+        stateful.Debugging.artifacts = _sessions(item, factory).folder
     yield
     if stateful is not None:
         stateful.Debugging.artifacts = None
 
 
 @_wrapper
-def pytest_runtest_makereport(item: pytest.Item) -> Generator[None, Any, None]:
+def pytest_runtest_makereport(item: pytest.Item, call: pytest.CallInfo[None]) -> Generator[None, Any, None]:
     outcome = yield
-    report = outcome.get_result()
-    folder = item.stash.get(_folder_of_item, None)
-    if report.when == "call" and report.failed and folder is not None:
-        recorded = sorted(folder.glob("*.json"))
-        if recorded:
-            report.sections.append(("tracehost", "\n".join(_kept(scenario) for scenario in recorded)))
+    report: pytest.TestReport = outcome.get_result()
+    sessions = item.stash.get(_sessions_of_item, None)
+    if sessions is None:
+        return
+    if not report.failed:
+        if report.when == "call":
+            sessions.clear(("html",))  # of an earlier attempt
+        return
+    title = _title(item.nodeid, call)
+    kept = [_kept(scenario, title) for scenario in sessions.records()]
+    if kept:
+        report.sections.append(("tracehost", "\n".join(text for text, _ in kept)))
+    for page in (page for _, page in kept if page is not None):
+        item.user_properties.append(("tracehost_page", str(page)))  # JUnit's XML has those of the last report
+        if report.when == "teardown":
+            report.user_properties.append(("tracehost_page", str(page)))
 
 
-def _kept(scenario: Path) -> str:
-    """Makes the page, and says where everything is."""
+def _title(nodeid: str, call: pytest.CallInfo[None]) -> str:
+    """The test, and the first line of its assertion or exception."""
+    said = str(call.excinfo.value).strip() if call.excinfo is not None else ""
+    kind = call.excinfo.typename if call.excinfo is not None else ""
+    first = said.splitlines()[0] if said else kind
+    title = f"{nodeid}: {first if kind == 'AssertionError' else f'{kind}: {first}'}"
+    return title if len(title) <= _MOST_OF_A_TITLE else title[:_MOST_OF_A_TITLE] + " .."
+
+
+def _kept(scenario: Path, title: str) -> tuple[str, Optional[Path]]:
+    """Makes the page. Says where everything is, and returns the page."""
+    page: Optional[Path] = None
     try:
-        page = str(view(scenario))
+        page = view(scenario, title=title)
+        where = str(page)
     except (OSError, subprocess.CalledProcessError) as error:
-        page = f"none ({error})"
+        where = f"none ({error})"
     steps = scenario.with_suffix(".out")
-    return f"scenario: {scenario}\nlines:    {steps}\npage:     {page}"
+    return f"scenario: {scenario}\nlines:    {steps}\npage:     {where}", page
 
 
-def _folder(item: pytest.Item, factory: pytest.TempPathFactory) -> Path:
-    """The folder of a test's sessions."""
-    folder = item.stash.get(_folder_of_item, None)
-    if folder is None:
-        named: Optional[str] = item.config.getoption("--tracehost-artifacts")
-        safe = re.sub(r"[^\w.-]+", "_", item.nodeid if named else item.name)[:100]
-        if named is None:
-            folder = factory.mktemp(f"tracehost_{safe}")
+def _name(nodeid: str) -> str:
+    """A file name that no other test has: a part of the test's name, and a digest of all of it."""
+    readable = re.sub(r"[^A-Za-z0-9_.-]+", "_", nodeid)[-_MOST_OF_A_NAME:]
+    return f"{hashlib.sha256(nodeid.encode('utf-8', 'surrogatepass')).hexdigest()[:12]}-{readable}"
+
+
+def _sessions(item: pytest.Item, factory: pytest.TempPathFactory) -> Sessions:
+    """The sessions of a test; its folder is made with the first."""
+    sessions = item.stash.get(_sessions_of_item, None)
+    if sessions is None:
+        artifacts = item.config.stash[_artifacts]
+        if artifacts is None:
+            readable = re.sub(r"[^A-Za-z0-9_.-]+", "_", item.name)[:_MOST_OF_A_NAME]
+            folder = factory.mktemp(f"tracehost_{readable}")
         else:
-            folder = Path(named).resolve() / safe
+            folder = artifacts / _name(item.nodeid)
             folder.mkdir(parents=True, exist_ok=True)
-        item.stash[_folder_of_item] = folder
-    return folder
+        sessions = Sessions(folder)
+        item.stash[_sessions_of_item] = sessions
+    return sessions

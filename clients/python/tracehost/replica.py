@@ -6,7 +6,7 @@ from collections import deque
 from typing import Optional
 
 from .errors import ProtocolError
-from .library import CLwp, CProcess, Session, find
+from .library import RawRows, Session, find
 
 MOST_WAITING = 10_000
 """How many steps are kept at most until they are made again."""
@@ -40,7 +40,7 @@ class Replica:
             late = f"view: over a pipe a session's first view comes within its first {MOST_WAITING} steps"
             self.end(NotImplementedError(late))
 
-    def rows(self, uid: int) -> tuple[list[CProcess], list[CLwp]]:
+    def rows(self, uid: int) -> RawRows:
         """The user's processes and LWPs. Raises ValueError where this is no user, and what `end` was given.
 
         Raises NotImplementedError where there is no library or too many steps came before, ProtocolError where the

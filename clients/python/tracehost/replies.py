@@ -21,6 +21,16 @@ class New(NamedTuple):
     pid: int
     tid: int
 
+    @property
+    def lwp(self) -> int:
+        """As `tid`."""
+        return self.tid
+
+    @property
+    def lwpid(self) -> int:
+        """As `tid`."""
+        return self.tid
+
 
 class Waited(NamedTuple):
     """What wait4(2) reports; `pid` and `status` are 0 where there was nothing to collect, as in `os.waitpid`.
@@ -49,6 +59,51 @@ class LwpInfo(NamedTuple):
     pl_child_pid: int
     pl_syscall_code: int
 
+    @property
+    def tid(self) -> int:
+        """As `pl_lwpid`."""
+        return self.pl_lwpid
+
+    @property
+    def lwp(self) -> int:
+        """As `pl_lwpid`."""
+        return self.pl_lwpid
+
+    @property
+    def lwpid(self) -> int:
+        """As `pl_lwpid`."""
+        return self.pl_lwpid
+
+    @property
+    def event(self) -> LwpEvent:
+        """As `pl_event`."""
+        return self.pl_event
+
+    @property
+    def flags(self) -> StopFlag:
+        """As `pl_flags`."""
+        return self.pl_flags
+
+    @property
+    def mask(self) -> frozenset[Signal]:
+        """As `pl_sigmask`."""
+        return self.pl_sigmask
+
+    @property
+    def pending(self) -> frozenset[Signal]:
+        """As `pl_siglist`."""
+        return self.pl_siglist
+
+    @property
+    def child(self) -> int:
+        """As `pl_child_pid`."""
+        return self.pl_child_pid
+
+    @property
+    def code(self) -> int:
+        """As `pl_syscall_code`."""
+        return self.pl_syscall_code
+
 
 class Handled(NamedTuple):
     """A trace stop that the caller's handlers were asked about, and what was done."""
@@ -64,7 +119,37 @@ class Handled(NamedTuple):
     """Which of the caller's handlers decided, from 0; None where all declined."""
     decision: Decision
     pass_signal: int | None
-    """The signal that the process goes on with, 0 for none; None but for `Decision.CONTINUE` and `Decision.DETACH`."""
+    """The signal that the process goes on with, 0 for none; None except for `Decision.CONTINUE` and `Decision.DETACH`."""
+
+    @property
+    def lwp(self) -> int:
+        """As `tid`."""
+        return self.tid
+
+    @property
+    def lwpid(self) -> int:
+        """As `tid`."""
+        return self.tid
+
+    @property
+    def pl_lwpid(self) -> int:
+        """As `tid`."""
+        return self.tid
+
+    @property
+    def pl_flags(self) -> StopFlag:
+        """As `flags`."""
+        return self.flags
+
+    @property
+    def pl_child_pid(self) -> int:
+        """As `child`."""
+        return self.child
+
+    @property
+    def pl_syscall_code(self) -> int:
+        """As `code`."""
+        return self.code
 
 
 class Stopped(NamedTuple):
@@ -73,6 +158,26 @@ class Stopped(NamedTuple):
     tid: int
     signal: Signal
     flags: StopFlag
+
+    @property
+    def lwp(self) -> int:
+        """As `tid`."""
+        return self.tid
+
+    @property
+    def lwpid(self) -> int:
+        """As `tid`."""
+        return self.tid
+
+    @property
+    def pl_lwpid(self) -> int:
+        """As `tid`."""
+        return self.tid
+
+    @property
+    def pl_flags(self) -> StopFlag:
+        """As `flags`."""
+        return self.flags
 
 
 class Caught(NamedTuple):
@@ -92,20 +197,27 @@ Turned = Union[None, New, Stopped, Caught, Ended]
 
 NOTHING = Waited(0, 0)
 # FreeBSD's numbers in errno(2)
-_ERRNOS = {1: errno.EPERM, 3: errno.ESRCH, 10: errno.ECHILD, 12: errno.ENOMEM, 16: errno.EBUSY, 22: errno.EINVAL, 35: errno.EAGAIN}
+_ERRNOS = {1: "EPERM", 3: "ESRCH", 10: "ECHILD", 12: "ENOMEM", 16: "EBUSY", 22: "EINVAL", 35: "EAGAIN"}
+
+
+class Answered(Exception):
+    """An errno was answered. `Host` makes it an OSError that says which call it was and why (`refusals`)."""
+
+    def __init__(self, name: str) -> None:
+        super().__init__(name)
+        self.name = name
 
 
 def raise_number(freebsd: int) -> NoReturn:
-    """Raises OSError with this system's number for FreeBSD's."""
-    number = _ERRNOS[freebsd]
-    raise OSError(number, os.strerror(number))
+    """Raises Answered for FreeBSD's number."""
+    raise Answered(_ERRNOS[freebsd])
 
 
 def raise_errno(words: Sequence[str]) -> NoReturn:
-    number = getattr(errno, words[3], None) if len(words) == 5 else None
-    if not isinstance(number, int):
+    """Raises Answered for the words of a line, user and number included. Raises ProtocolError for an unknown errno."""
+    if len(words) != 5 or not isinstance(getattr(errno, words[3], None), int):
         raise ProtocolError(f"no errno of this system: {' '.join(words)!r}")
-    raise OSError(number, os.strerror(number))
+    raise Answered(words[3])
 
 
 _Reply = TypeVar("_Reply")
@@ -133,6 +245,13 @@ def done(words: Sequence[str]) -> None:
     _length(words, 1)
 
 
+def word(text: str) -> int:
+    """A number of 32 bits, in digits."""
+    if not (text.isascii() and text.isdecimal()) or len(text) > 10 or int(text) >> 32:
+        raise ValueError(f"{text!r} is no word")
+    return int(text)
+
+
 def _field(words: Sequence[str], index: int, name: str) -> str:
     key, _, value = words[index].partition("=")
     if key != name:
@@ -140,13 +259,13 @@ def _field(words: Sequence[str], index: int, name: str) -> str:
     return value
 
 
-def status_of(word: int) -> int:
+def status_of(freebsd: int) -> int:
     """FreeBSD's status word, as this system's os.WIFCONTINUED and similar functions read it."""
-    return _CONTINUED_STATUS if word == _CONTINUED_WORD else word
+    return _CONTINUED_STATUS if freebsd == _CONTINUED_WORD else freebsd
 
 
-def _status(word: str) -> int:
-    return status_of(int(word))
+def _status(text: str) -> int:
+    return status_of(word(text))
 
 
 def _flags(text: str) -> StopFlag:
@@ -158,21 +277,21 @@ def _flags(text: str) -> StopFlag:
 
 
 def _signals(text: str) -> frozenset[Signal]:
-    return frozenset() if text == "none" else frozenset(Signal(int(n)) for n in text.split(","))
+    return frozenset() if text == "none" else frozenset(Signal(word(n)) for n in text.split(","))
 
 
 def new(words: Sequence[str]) -> New:
     _length(words, 3)
-    return New(int(words[1]), int(words[2]))
+    return New(word(words[1]), word(words[2]))
 
 
 def number(words: Sequence[str]) -> int:
     _length(words, 2)
-    return int(words[1])
+    return word(words[1])
 
 
 def numbers(words: Sequence[str]) -> tuple[int, ...]:
-    return tuple(int(word) for word in words[1:])
+    return tuple(map(word, words[1:]))
 
 
 def _mask(words: Sequence[str]) -> EventMask:
@@ -186,19 +305,19 @@ def _mask(words: Sequence[str]) -> EventMask:
 
 def waited(words: Sequence[str]) -> Waited:
     _length(words, 3)
-    return Waited(int(words[1]), _status(words[2]))
+    return Waited(word(words[1]), _status(words[2]))
 
 
 def _info(words: Sequence[str]) -> LwpInfo:
     _length(words, 8)
     return LwpInfo(
-        int(words[1]),
+        word(words[1]),
         LwpEvent["PL_EVENT_" + words[2]],
         _flags(_field(words, 3, "flags")),
         _signals(_field(words, 4, "mask")),
         _signals(_field(words, 5, "pending")),
-        int(_field(words, 6, "child")),
-        int(_field(words, 7, "code")),
+        word(_field(words, 6, "child")),
+        word(_field(words, 7, "code")),
     )
 
 
@@ -209,22 +328,22 @@ def handled(words: Sequence[str]) -> Handled:
     if words[3] != "at" or words[9] != "by":
         raise ValueError("other words")
     return Handled(
-        int(words[1]),
+        word(words[1]),
         _status(words[2]),
-        int(words[4]),
-        Signal(int(_field(words, 5, "signal"))),
+        word(words[4]),
+        Signal(word(_field(words, 5, "signal"))),
         _flags(_field(words, 6, "flags")),
-        int(_field(words, 7, "child")),
-        int(_field(words, 8, "code")),
-        None if words[10] == "none" else int(words[10]),
+        word(_field(words, 7, "child")),
+        word(_field(words, 8, "code")),
+        None if words[10] == "none" else word(words[10]),
         decision,
-        int(words[12]) if passes else None,
+        word(words[12]) if passes else None,
     )
 
 
 def _stopped(words: Sequence[str]) -> Stopped:
     _length(words, 4)
-    return Stopped(int(words[1]), Signal(int(words[2])), _flags(_field(words, 3, "flags")))
+    return Stopped(word(words[1]), Signal(word(words[2])), _flags(_field(words, 3, "flags")))
 
 
 def _caught(words: Sequence[str]) -> Caught:

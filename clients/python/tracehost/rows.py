@@ -77,6 +77,16 @@ class LwpRow(NamedTuple):
     child: int
     code: int
 
+    @property
+    def tid(self) -> int:
+        """As `lwp`."""
+        return self.lwp
+
+    @property
+    def lwpid(self) -> int:
+        """As `lwp`."""
+        return self.lwp
+
 
 class View(NamedTuple):
     """A user's processes by rising number, and LWPs in order of birth."""

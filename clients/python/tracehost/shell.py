@@ -29,6 +29,8 @@ from .errors import ProgramEnded
 from .host import Host
 from .manual import explain
 from .naming import status_text
+from .refusals import asked_by
+from .replies import Answered
 from .shell_words import Unclear, step_of
 from .viewing import view
 
@@ -98,11 +100,11 @@ class Shell(cmd.Cmd):
 
     def do_undo(self, words: str) -> None:
         """undo [N]: takes back the last step, or the last N, by running the session again without them."""
-        if words and not words.isdecimal():
-            self._print("undo [N]")
+        count = int(words or 1) if not words or words.isdecimal() else 0
+        if not 1 <= count <= len(self._steps):
+            self._print(f"undo [N]: N is 1 to {len(self._steps)}" if self._steps else "there is no step to undo")
             return
-        count = int(words or 1)
-        kept = self._steps[: max(0, len(self._steps) - count)]
+        kept = self._steps[: len(self._steps) - count]
         undone = len(self._steps) - len(kept)
         self._host.close()
         self._steps = []
@@ -173,7 +175,15 @@ class Shell(cmd.Cmd):
             self._print(f"{sent.line}: {sent.reason}" if sent.reason else sent.line)
             return
         self._steps.append((text, sent.line))
-        self._print(sent.line + _meaning(sent.line))
+        self._print(sent.line + _meaning(sent.line) + self._why(text, sent.line))
+
+    def _why(self, text: str, line: str) -> str:
+        """What an errno says, after its number."""
+        words = line.split()
+        if words[2] != "error":
+            return ""
+        error = self._host._refusal(Answered(words[3]), asked_by(json.loads(text)))
+        return f"   ({str(error.strerror).split(f'{words[3]}, ', 1)[-1]})"
 
     def _print(self, text: str) -> None:
         print(text, file=self.stdout)
@@ -237,6 +247,13 @@ def main(words: Optional[list[str]] = None) -> int:
                 shell.intro = ""
     except ProgramEnded as error:
         print(error, file=sys.stderr)
+        return 1
+    except BrokenPipeError:  # as `tracehost | head` ends
+        os.dup2(os.open(os.devnull, os.O_WRONLY), sys.stdout.fileno())
+        return 1
+    except OSError as error:  # a recording or an output that can't be written
+        os.dup2(os.open(os.devnull, os.O_WRONLY), sys.stdout.fileno())
+        print(f"tracehost.shell: {error.filename or 'standard output'}: {error.strerror}", file=sys.stderr)
         return 1
     finally:
         shell.close()

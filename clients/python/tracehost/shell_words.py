@@ -2,6 +2,7 @@
 
 from __future__ import annotations
 
+import difflib
 from collections.abc import Sequence
 from typing import Any
 
@@ -11,6 +12,7 @@ Step = dict[str, Any]
 ACTS = ("compute", "raise", "block", "enter", "leave")
 MASKS = (*EVENTS, "PTRACE_SYSCALL")
 FIRST_LWP = 100_000
+COMMANDS = ("user", "list", "undo", "save", "view", "help", "quit")
 
 
 class Unclear(Exception):
@@ -27,7 +29,8 @@ def step_of(words: Sequence[str], uid: int) -> Step:
             raise Unclear("turn LWP ACT")
         return {"user": uid, "op": "turn", "lwp": _number(words[0]), **_act(words[1:])}
     if not words or not words[0].isdecimal():
-        raise Unclear(f"no step: {' '.join(words)}")
+        near = _near(words[0] if words else "", ("spawn", "turn", *COMMANDS))
+        raise Unclear(f"no step: {' '.join(words)}{near}")
     number = int(words[0])
     if number >= FIRST_LWP:
         return {"user": uid, "op": "turn", "lwp": number, **_act(words[1:])}
@@ -35,13 +38,17 @@ def step_of(words: Sequence[str], uid: int) -> Step:
     if op in Request.__members__:
         op, rest = "ptrace", words[1:]
     if op not in CALLER_OPS:
-        raise Unclear(f"a process makes one of the calls {', '.join(CALLER_OPS)}")
+        near = _near(op, (*CALLER_OPS, *Request.__members__, "spawn", "turn"))
+        if near.endswith(("spawn?", "turn?")):
+            near += " It has no caller"
+        raise Unclear(f"{op + ': ' if op else ''}a process makes one of the calls {', '.join(CALLER_OPS)}{near}")
     return {"user": uid, "op": op, "caller": number, **_READERS.get(op, _nothing)(rest)}
 
 
 def _act(words: Sequence[str]) -> Step:
     if not words or words[0] not in ACTS:
-        raise Unclear(f"an LWP's turn has one of the acts {', '.join(ACTS)}")
+        said, near = (f"{words[0]}: ", _near(words[0], ACTS)) if words else ("", "")
+        raise Unclear(f"{said}an LWP's turn has one of the acts {', '.join(ACTS)}{near}")
     act, rest = words[0], words[1:]
     if act == "raise":
         _count(rest, 1, 1, "raise SIGNAL")
@@ -89,7 +96,8 @@ def _sigaction(words: Sequence[str]) -> Step:
 
 
 def _nothing(words: Sequence[str]) -> Step:
-    _count(words, 0, 0, "this op has no further words")
+    if words:
+        raise Unclear(f"{words[0]}: this op has no further words")
     return {}
 
 
@@ -133,8 +141,14 @@ def _is_number(word: str) -> bool:
 
 def _number(word: str) -> int:
     if not _is_number(word):
-        raise Unclear(f"{word} is no number")
+        raise Unclear(f"{word} is no number{_near(word, tuple(Signal.__members__))}")
     return int(word)
+
+
+def _near(word: str, names: Sequence[str]) -> str:
+    """The name that was likely meant, as the end of a sentence."""
+    found = difflib.get_close_matches(word.lower(), [name.lower() for name in names], 1)
+    return f"; did you mean {next(name for name in names if name.lower() == found[0])}?" if found else ""
 
 
 def _signal(word: str) -> int:
@@ -144,5 +158,5 @@ def _signal(word: str) -> int:
 
 def _one_of(word: str, names: Sequence[str], kind: str) -> str:
     if word not in names:
-        raise Unclear(f"{word}: the {kind} are {', '.join(names)}")
+        raise Unclear(f"{word}: none of the {kind} {', '.join(names)}{_near(word, names)}")
     return word

@@ -58,7 +58,9 @@ Act = Union[Compute, Raise, Block, Enter, Leave]
 def check_act(act: Act) -> Act:
     """The act. Raises TypeError where it is none."""
     if not isinstance(act, (Compute, Raise, Block, Enter, Leave)):
-        raise TypeError(f"act: expected an act, such as Compute(), got {act!r}")
+        name = act.__name__ if isinstance(act, type) else str(act).capitalize()
+        hint = f"; write {name}(..)" if name in ("Compute", "Raise", "Block", "Enter", "Leave") else ""
+        raise TypeError(f"act: expected an act, such as Compute(), got {act!r}{hint}")
     return act
 
 

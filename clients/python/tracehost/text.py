@@ -3,10 +3,11 @@
 from __future__ import annotations
 
 import re
+import subprocess
 from collections.abc import Iterable, Sequence
 from typing import Any, NamedTuple, Optional, Protocol
 
-from . import replies
+from . import program, replies
 from .blocking import Progress
 from .errors import Held, ProgramEnded, ProtocolError, RefusedStep
 from .names import EVENTS, OPTIONS, Action, Request, names_of
@@ -18,6 +19,7 @@ from .steps import Act, Rule
 # replies to steps that may have changed something; the others change nothing
 _CHANGES = frozenset(("ok", "new", "status", "handled", "stopped", "caught", "ended"))
 _NUMBER_OF_LINE = re.compile(r"^\s*line \d+(?:: |, )", re.MULTILINE)
+_SECONDS_TO_EXPLAIN = 10
 
 
 class Transport(Protocol):
@@ -38,6 +40,24 @@ class Sent(NamedTuple):
 
     line: str
     reason: str
+
+
+def reason_in(errors: str) -> str:
+    """The reason in what the program has said of one line."""
+    return _NUMBER_OF_LINE.sub("", errors).strip()
+
+
+def ask_program(line: str) -> str:
+    """What the program that `Host` would choose says of a line which the library has refused; "" without a program."""
+    try:
+        done = subprocess.run(
+            [program.default(), "--lines", "--explain=always"],
+            input=line.encode("utf-8", "surrogateescape") + b"\n",
+            stdout=subprocess.PIPE, stderr=subprocess.PIPE, timeout=_SECONDS_TO_EXPLAIN,
+        )  # fmt: skip
+    except (OSError, subprocess.TimeoutExpired):
+        return ""
+    return reason_in(done.stderr.decode("utf-8", "replace")) if done.stdout.startswith(b"refused") else ""
 
 
 class TextCalls:
@@ -64,7 +84,7 @@ class TextCalls:
                 self._replica.end(error)
             raise
         if line.startswith("refused"):
-            return Sent(line, _NUMBER_OF_LINE.sub("", self._transport.new_errors()).strip())
+            return Sent(line, reason_in(self._transport.new_errors()))
         if self._recording is not None:
             self._recording.add(text, line)
         if self._replica is not None:
@@ -132,7 +152,7 @@ class TextCalls:
 
 
 def words_of(text: str, sent: Sent, uid: str) -> Sequence[str]:
-    """The words of a reply. Raises RefusedStep, Held and OSError where it is one of these."""
+    """The words of a reply. Raises RefusedStep, Held and Answered where it is one of these."""
     words = sent.line.split(" ")
     if words[0] == "refused" and len(words) > 1:
         raise RefusedStep(words[1], " ".join(words[2:]) or sent.reason, text)

@@ -173,7 +173,7 @@ class TypedCalls:
         return handled
 
     def _made(self, code: int, uid: int) -> Any:
-        """What the reply stands for. Raises Held and OSError where it is one of these."""
+        """What the reply stands for. Raises Held and Answered where it is one of these."""
         if code == INVALID:
             raise NotTyped
         if code:
@@ -186,8 +186,10 @@ class TypedCalls:
     def _table(self) -> tuple[tuple[bool, Callable[[Reply], Any]], ...]:
         """For each kind of reply, whether its step may have changed something, and what it stands for."""
 
+        session = self._session  # a table that had `self` would keep a dropped session until the next collection
+
         def numbers(reply: Reply) -> tuple[int, ...]:
-            return self._session.numbers()
+            return session.numbers()
 
         return (
             (True, _nothing),

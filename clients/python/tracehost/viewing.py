@@ -2,14 +2,23 @@
 
 from __future__ import annotations
 
+import errno
 import os
 import shutil
 import subprocess
 import sys
 import tempfile
+from collections.abc import Sequence
 from pathlib import Path
 
 from .program import default
+
+
+class NoPage(subprocess.CalledProcessError):
+    """The program has refused the scenario, or the viewer its lines. The message has what was said of it."""
+
+    def __str__(self) -> str:
+        return self.stderr.strip() or super().__str__()
 
 
 def view(
@@ -22,19 +31,30 @@ def view(
     """Makes a page that shows this scenario, such as `Host` records one, and returns the page's path.
 
     The page is one HTML file; without `page` it gets the scenario's name with ``.html`` in place of ``.json``.
-    `program` runs the scenario; without it the one that `Host` chooses. Raises FileNotFoundError where the viewer isn't
-    installed, and subprocess.CalledProcessError where the scenario is refused.
+    `program` runs the scenario; without it the one that `Host` chooses. Raises FileNotFoundError where there is no such
+    scenario, or the viewer isn't installed, and NoPage where the scenario is refused or the page can't be written.
     """
     source = Path(scenario)
+    if not source.exists():
+        raise FileNotFoundError(errno.ENOENT, os.strerror(errno.ENOENT), os.fspath(scenario))
     target = source.with_suffix(".html") if page is None else Path(page)
-    run = [os.fspath(program or default()), "--json", "--explain=always", "--", os.fspath(source)]
-    lines = subprocess.run(run, stdout=subprocess.PIPE, check=True).stdout
+    run = os.fspath(program or default())
+    lines = _output_of([run, "--json", "--explain=always", "--", os.fspath(source)])
     with tempfile.TemporaryDirectory() as room:
         lines_file = Path(room, source.stem + ".lines")
         lines_file.write_bytes(lines)
         titled = ["--title", source.stem if title is None else title]
-        subprocess.run([*_viewer(run[0]), "-o", target, *titled, lines_file, source], check=True)
+        _output_of([*_viewer(run), "-o", os.fspath(target), *titled, os.fspath(lines_file), os.fspath(source)])
     return target
+
+
+def _output_of(command: Sequence[str]) -> bytes:
+    """What the command prints. Raises NoPage where its status isn't 0."""
+    done = subprocess.run(command, stdin=subprocess.DEVNULL, stdout=subprocess.PIPE, stderr=subprocess.PIPE)
+    said = done.stderr.decode("utf-8", "replace")
+    if done.returncode:
+        raise NoPage(done.returncode, command, done.stdout, said)
+    return done.stdout
 
 
 def _viewer(program: str) -> list[str]:

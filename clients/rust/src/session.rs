@@ -2,7 +2,9 @@
 
 use crate::replies::{checked, new, reply};
 use crate::view::{Lwp, Process, View};
-use crate::{sys, Act, Caller, Disposition, Error, New, Reply, Request, Rule, Signal, WaitOptions, Which};
+use crate::{
+    sys, Act, Caller, Decision, Disposition, Error, Handled, New, Reply, Request, Rule, Signal, WaitOptions, Which,
+};
 
 /// The settings of a session.
 #[derive(Clone, Copy, Debug, PartialEq, Eq, Hash)]
@@ -122,6 +124,42 @@ impl Session {
     pub fn handle(&mut self, caller: Caller) -> Result<Reply, Error> {
         let (code, raw) = self.handle.handle(caller.user, caller.pid);
         self.reply(code, raw)
+    }
+
+    /// As [`handle`](Session::handle), with a closure that decides where the caller's rules leave or decline the stop.
+    ///
+    /// The closure gets the stop, with the system call's number in `code`. Then the request is made, which is a step of
+    /// its own, and its error is returned. The reply has the closure's decision, and no handler.
+    ///
+    /// ```no_run
+    /// # fn main() -> Result<(), tracehost::Error> {
+    /// use tracehost::{Caller, Decision, Session};
+    ///
+    /// const EXECVE: u32 = 59;
+    /// let mut session = Session::new()?;
+    /// let sandbox = Caller { user: 1001, pid: session.spawn(1001)?.pid };
+    /// session.handle_with(sandbox, |stop| match stop.code {
+    ///     EXECVE => Decision::Kill,
+    ///     _ => Decision::Continue(None),
+    /// })?;
+    /// # Ok(())
+    /// # }
+    /// ```
+    pub fn handle_with(&mut self, caller: Caller, decide: impl FnOnce(&Handled) -> Decision) -> Result<Reply, Error> {
+        let mut stop = match self.handle(caller)? {
+            Reply::Handled(stop) if matches!(stop.decision, Decision::Leave | Decision::Decline) => stop,
+            reply => return Ok(reply),
+        };
+        stop.decision = decide(&stop);
+        stop.handler = None;
+        let request = match stop.decision {
+            Decision::Decline | Decision::Leave => return Ok(Reply::Handled(stop)),
+            Decision::Continue(signal) => Request::Continue(signal),
+            Decision::Detach(signal) => Request::Detach(signal),
+            Decision::Kill => Request::Kill,
+        };
+        self.ptrace(caller, request, stop.pid)?;
+        Ok(Reply::Handled(stop))
     }
 
     /// ptrace(2). A target up to 99999 is a process, a greater one an LWP. [`Reply::Done`], or what [`Request`] names.

@@ -16,13 +16,13 @@ pub const TOO_MANY: u32 = 5;
 #[repr(C)]
 struct Raw {
     session: *mut c_void,
-    is_open: bool,
+    tag: u64,
 }
 
 impl Raw {
     const CLOSED: Raw = Raw {
         session: std::ptr::null_mut(),
-        is_open: false,
+        tag: 0,
     };
 }
 

@@ -205,3 +205,68 @@ fn sessions_in_many_threads() {
         thread.join().unwrap();
     }
 }
+
+/// A closure decides by system call: reads go on, an exec ends the process, and a signal is passed on with a detach.
+#[test]
+fn a_closure_decides() {
+    const READ: u32 = 3;
+    let mut session = attached();
+    wait(&mut session).unwrap();
+    session.ptrace(DEBUGGER, Request::Syscall(None), TARGET).unwrap();
+    let mut seen = Vec::new();
+    let mut decide = |stop: &tracehost::Handled| {
+        seen.push((stop.code, stop.flags));
+        match (stop.code, stop.signal) {
+            (59, _) => Decision::Kill,
+            (_, Signal::SIGTRAP) => Decision::Continue(None),
+            (_, signal) => Decision::Detach(Some(signal)),
+        }
+    };
+    assert_eq!(session.handle_with(DEBUGGER, &mut decide), Ok(Reply::Nothing));
+    for call in [Act::Enter(Call::Other(READ)), Act::Leave, Act::Enter(Call::Exec)] {
+        session.turn(USER, TARGET_LWP, call).unwrap();
+        let Ok(Reply::Handled(stop)) = session.handle_with(DEBUGGER, &mut decide) else {
+            panic!("a stop")
+        };
+        assert_eq!((stop.pid, stop.handler), (TARGET, None));
+    }
+    let killed = session.handle_with(DEBUGGER, &mut decide).unwrap();
+    assert!(matches!(killed, Reply::Status { pid: TARGET, .. }), "{killed}");
+    let codes: Vec<u32> = seen.iter().map(|&(code, _)| code).collect();
+    assert_eq!(codes, [READ, READ, 59]);
+}
+
+/// The caller's rules come first, a stop that is left remains, and an error of the request is returned.
+#[test]
+fn a_closure_after_rules() {
+    let mut session = attached();
+    wait(&mut session).unwrap();
+    let rule = Rule {
+        signal: Some(Signal::SIGUSR1),
+        flags: StopFlags::empty(),
+        decision: Decision::Continue(None),
+    };
+    session.install(DEBUGGER, &[rule]).unwrap();
+    session.ptrace(DEBUGGER, Request::Continue(None), TARGET).unwrap();
+    for (signal, asked) in [(Signal::SIGUSR1, false), (Signal::SIGUSR2, true)] {
+        session.turn(USER, TARGET_LWP, Act::Raise(signal)).unwrap();
+        session.turn(USER, TARGET_LWP, Act::Compute).unwrap();
+        let mut was_asked = false;
+        let reply = session.handle_with(DEBUGGER, |_| {
+            was_asked = true;
+            Decision::Leave
+        });
+        assert!(matches!(reply, Ok(Reply::Handled(_))));
+        assert_eq!(was_asked, asked);
+    }
+    assert_eq!(
+        session.turn(USER, TARGET_LWP, Act::Compute),
+        Err(Error::Held),
+        "the stop remains"
+    );
+    let other = Caller { user: USER, pid: 7 };
+    assert_eq!(
+        session.handle_with(other, |_| Decision::Kill),
+        Err(Error::Errno(Errno::ESRCH))
+    );
+}

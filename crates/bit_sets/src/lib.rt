@@ -78,6 +78,16 @@ impl NumberSet {
         self.words[(number / WIDTH) as usize]
     }
 
+    /// Tests whether the set contains the number.
+    pub fn contains(&self, number: u32) -> bool
+        ensures { result ≡ member self.now number }
+    {
+        match self.words.get((number / WIDTH) as usize) {
+            Some(word) => word >> (number % WIDTH) & 1 == 1,
+            None => false,
+        }
+    }
+
     /// Adds the number to the set.
     pub fn insert(&mut self, number: u32)
         requires { number < room self.old }

@@ -1,5 +1,6 @@
 -- Lines one after another.
-use Rattle.{std.proofs.{Common.{◌≡◌, ◌≤◌, ℕ, List, [], ◌∷◌, ◌++◌, length, refl, arith}, lemmas.List.{append_assoc, append-nil}}, byte_io.specs.Lines.{lines_in, NoFeed, end_bytes}}
+use Rattle.std.proofs.{Common.{◌≡◌, ◌≤◌, ℕ, List, [], ◌∷◌, ◌++◌, length, refl, arith}, lemmas.List.{append_assoc, append-nil, length-append}, Math.Seq.get_or-append_seam}
+use Rattle.byte_io.specs.Lines.{lines_in, NoFeed, end_bytes, WholeLines}
 use Rattle.byte_io.specs.declared.reading.LineEnd.{LineEnd}
 
 -- a line, and then others
@@ -32,3 +33,7 @@ whole_line bytes text w h = grind (arith, w, lines_more text [] h)
 
 pub whole_more : (bytes text : List ℕ) → Whole bytes → NoFeed text → Whole (bytes ++ (text ++ (10 ∷ [])))
 whole_more bytes text w h xs = grind (arith, w, lines_more text [] h, lines_more text xs h, append_assoc {A = ℕ}, append_assoc {A = List ℕ})
+
+-- a line feed at the end
+pub feed_last : (bytes text : List ℕ) → WholeLines (bytes ++ (text ++ (10 ∷ [])))
+feed_last bytes text some = grind (arith, append_assoc {A = ℕ}, length-append {A = ℕ}, get_or-append_seam (bytes ++ text) 10 [] 0)

@@ -1,6 +1,6 @@
 -- Parts of a line, one after another.
-use Rattle.std.proofs.{Common.{◌≡◌, ◌≤◌, ◌-◌, ◌+◌, ℕ, min, List, [], ◌∷◌, ◌++◌, length, take, Option, arith, take_all, take-take, length-take}, Math.Seq.{take-append-add, take-append-le}}
-use Rattle.{std.{proofs.lemmas.List.{append_assoc, append-nil}, specs.{Prelude.{Result, OnErr}, Io.KnownBytes.Consumes}}, byte_io.specs.Lines.{NoFeed, Loses}}
+use Rattle.std.proofs.{Common.{◌≡◌, ◌≤◌, ◌<◌, ◌⊎◌, inl, inr, ◌-◌, ◌+◌, ℕ, min, List, [], ◌∷◌, ◌++◌, length, take, Option, None, Some, ◌^◌, arith, take_all, take-take, length-take}, Math.Seq.{take-append-add, take-append-le}}
+use Rattle.{std.{proofs.lemmas.List.{append_assoc, append-nil, length-append}, specs.{Prelude.{Result, OnErr}, Io.KnownBytes.Consumes}}, byte_io.specs.Lines.{NoFeed, Loses, IsEndless}}
 
 pub on_err : {X E : Type 0} (r : Result X E) (P : Type 0) → P → OnErr r P
 on_err r P p = grind arith
@@ -29,3 +29,16 @@ kept_more most xs ys = grind (arith, take-append-le {A = ℕ}, take_all {A = ℕ
 
 pub kept_parts : (most : ℕ) (line new xs ys : List ℕ) → line ≡ take most xs → new ≡ take most (line ++ ys) → new ≡ take most (xs ++ ys)
 kept_parts most line new xs ys p q = grind (arith, kept_more)
+
+-- parts of at least a byte each, one after another
+pub longer : (P : Type 0) (n : ℕ) (xs ys : List ℕ) → P ⊎ (n ≤ length xs) → P ⊎ (0 < length ys) → P ⊎ (n + 1 ≤ length (xs ++ ys))
+longer P n xs ys (inl p) more = inl p
+longer P n xs ys (inr long) (inl p) = inl p
+longer P n xs ys (inr long) (inr some) = inr (grind (arith, length-append xs ys, long, some))
+
+-- a reader that gave so many bytes had them
+pub endless : (P : Type 0) (a b : Option (List ℕ)) (n : ℕ) (xs : List ℕ) → n ≡ 2 ^ 64 - 1 → Loses a b xs [] → P ⊎ (n ≤ length xs) → P ⊎ IsEndless a
+endless P a b n xs all lost (inl p) = inl p
+endless P None b n xs all lost (inr long) = inr tt
+endless P (Some ys) None n xs all lost (inr long) = absurd lost.1
+endless P (Some ys) (Some zs) n xs all lost (inr long) = inr (grind (arith, length-append {A = ℕ}, lost.1, long, all))

@@ -29,7 +29,7 @@ fn see(
 ) -> Result<(), ExampleError> {
     let view = user_view(alloc, host, user)?;
     let number = user.get();
-    for process in view.processes() {
+    for process in view.processes.iter() {
         let pid = process.pid.get();
         println!(rt; "user {number} sees process {pid}")?;
     }

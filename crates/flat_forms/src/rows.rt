@@ -98,18 +98,18 @@ fn state_of(state: &State) -> FlatState
             reported: 0,
             status: 0,
         },
-        State::Trace { tid, sig, reported } => FlatState {
+        State::Trace { tid, sig, seen } => FlatState {
             state: 1,
             lwp: tid.get(),
             signal: sig.number(),
-            reported: flag(*reported),
+            reported: flag(*seen),
             status: 0,
         },
-        State::Job { sig, reported } => FlatState {
+        State::Job { sig, seen } => FlatState {
             state: 2,
             lwp: 0,
             signal: sig.number(),
-            reported: flag(*reported),
+            reported: flag(*seen),
             status: 0,
         },
         State::Zombie { status } => FlatState {

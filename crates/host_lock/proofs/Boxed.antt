@@ -15,5 +15,5 @@ made_mapped f u (Step.Kill caller which sig) m n r made = made
 made_mapped f u (Step.Wait4 caller which options) m n r made = made
 made_mapped f u (Step.Install caller own) m n r made = absurd (cc)
 made_mapped f u (Step.Handle caller) m n r made = made
-made_mapped f u (Step.Ptrace caller request target «data») m n r made = made
+made_mapped f u (Step.Ptrace caller request target arg) m n r made = made
 made_mapped f u (Step.Turn tid act) m n r made = made

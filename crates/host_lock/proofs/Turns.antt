@@ -1,14 +1,15 @@
 -- Each step keeps the rule.
-use Rattle.host_lock.proofs.CommonNames.{◌≡◌, ◌≢◌, ℕ, zero, suc, ◌+◌, ◌*◌, ◌%◌, ◌^◌, ◌<◌, ◌≤◌, List, [], ◌∷◌, ◌++◌, length, set, sym, refl, ap, ◌∙◌, subst, ⊎_elim, inl, inr, arith, eq-eqb, ne_eqb, length-append, append-nil, none}
-use Rattle.host_lock.proofs.CommonNames.{some, ℕ_discrete, set_again, set_else, get_elem?, State, step, keeps, takes, gives, Allows, Splits, Joins, opening, Final, Seen, Machine, PlainStep, Entry, Stage, Idle, Waiting, Holding}
+use Rattle.host_lock.proofs.CommonNames.{◌≡◌, ◌≢◌, ℕ, zero, suc, ◌+◌, ◌*◌, ◌%◌, ◌^◌, ◌<◌, ◌≤◌, true, false, List, [], ◌∷◌, ◌++◌, length, set, take, drop, sym, refl, ap, ◌∙◌, subst, ◌⊎◌, ⊎_elim, inl, inr, arith, eq-eqb, ne_eqb, length-append, append-nil, none}
+use Rattle.host_lock.proofs.CommonNames.{some, ℕ_discrete, set_else, get_elem?, State, step, keeps, takes, gives, Allows, Splits, Joins, opening, Final, Seen, Machine, PlainStep, Entry, Stage, Idle, Waiting, Holding}
 use Rattle.host_lock.proofs.CommonNames.{Counted, Account, View, spent, HostSlot, Present, Taken, History, history, StartsWith, next_entry, M, total, Each, once, has_ticket, has_slot, owes, times, Matches, AtTurn, Fits, ticket_of}
-use Rattle.host_lock.proofs.CommonNames.{slot_of, number_of, parts_of, budget_of, calls_of, InSlot, SharedInvariant, snapshot_of, drawn, taken, drew, Takes, turned, learned, longer, shown, first_known, ticket_in, counted, released}
-use Rattle.host_lock.proofs.CommonNames.{fresh, fresh_view, opening_view, both, session_view, Closes, Tells, start_of, known_of, mine_of, dite, TakesSlot, max_sessions, max_calls}
+use Rattle.host_lock.proofs.CommonNames.{slot_of, number_of, parts_of, budget_of, calls_of, InSlot, SharedInvariant, snapshot_of, drawn, taken, drew, awaits, looked, longest, others, split_left, split_right, first_known, counted, released}
+use Rattle.host_lock.proofs.CommonNames.{fresh, opening_view, both, session_view, Closes, Tells, start_of, known_of, mine_of, dite, TakesSlot, max_sessions, max_calls}
 use Rattle.std.proofs.Math.Nat.{mod-eq_of_lt}
+use Rattle.std.proofs.lemmas.List.{take-append-drop}
 use mathlib.Core.Option as maybe
 use Rattle.host_lock.proofs.Logs.{entries_mine, entries_other, starts_longer}
-use Rattle.host_lock.proofs.Moments.{longer_is}
-use Rattle.host_lock.proofs.Totals.{once_same, once_else, total_set, total_snoc, total_one, total_two, total_find, seats_set, seats_snoc, each_map, each_append}
+use Rattle.host_lock.proofs.Moments.{longest_starts}
+use Rattle.host_lock.proofs.Totals.{once_same, once_else, total_set, total_snoc, total_one, total_two, total_find, seats_set, seats_snoc, each_map, each_append, each_left, each_right}
 
 -- the next number of a word, which does not wrap
 no_wrap : (x : ℕ) → x < max_sessions * max_calls → (x + 1) % 18446744073709551616 ≡ x + 1
@@ -27,9 +28,19 @@ not_holder serving log (Waiting q) known none_out = tt
 not_holder serving log (Holding q) known none_out = absurd (omega arith)
 not_holder serving log (Counted q) known none_out = absurd (omega arith)
 
+awaits_tells : (n : ℕ) (g : Stage) → ((awaits n g ≡ true) × (g ≡ Waiting n)) ⊎ (awaits n g ≡ false)
+awaits_tells n Idle = inr refl
+awaits_tells n (Waiting t) = dite (ℕ_discrete n t) (λ e. inl (eq-eqb n t e, ap Waiting (sym e))) (λ ne. inr (ne_eqb n t ne))
+awaits_tells n (Holding t) = inr refl
+awaits_tells n (Counted t) = inr refl
+
 times_append : (q : ℕ) (l m : List Account) → times q (l ++ m) ≡ times q l + times q m
 times_append q [] m = omega arith
 times_append q (x ∷ xs) m = let r = times_append q xs m in omega arith
+
+pub fresh_length : (i k : ℕ) → length (fresh i k) ≡ k
+fresh_length i zero = refl
+fresh_length i (suc k) = let r = fresh_length (i + 1) k in omega arith
 
 -- whatever is counted, the seats of m have as much as those of l, with news in place of olds
 abbrev Trade : List View → List View → List View → List View → Type 0
@@ -61,10 +72,6 @@ module _ (h : Machine) (n : ℕ) where
     (entries_other x.number log e (ne_eqb e.session x.number (λ q. let z = once_same x.number e.session (sym q) in absurd (omega arith))) ∙ all.0.0, all.0.1),
     others_match log e xs (omega arith) all.1,
   )
-
-  fresh_length : (i k : ℕ) → length (fresh i k) ≡ k
-  fresh_length i zero = refl
-  fresh_length i (suc k) = let r = fresh_length (i + 1) k in omega arith
 
   fresh_before : (q i k : ℕ) → q < i → times q (fresh i k) ≡ 0
   fresh_before q i zero lt = refl
@@ -175,33 +182,37 @@ module _ {F J : Type 0} where
         let mine : has_ticket r.serving v.stage ≡ once r.serving r.serving = ap (has_ticket r.serving) waits in
         omega (arith, (holder r.serving r.log d.stage d.known out fits.turn_is).0 r.serving, once_same r.serving r.serving refl, at_most_one s r r.serving))
 
-    pub turns : (slots id : ℕ) (m : (M F J)) (t : ℕ) → m.0.stage ≡ Waiting t → 0 < length m.0.owns → Allows Rule slots id m 0 (λ x. x) (turned (step slots 0 0 0 none) m)
-    turns slots id m t waits some_part s r _ at _ =
+    -- a seat that doesn't have the slot looks at the number served
+    pub looks : (slots id : ℕ) (m : (M F J)) → has_slot m.0.stage ≡ 0 → 0 < length m.0.owns → Allows Rule slots id m 0 (λ x. x) (looked (step slots 0 0 0 none) m)
+    looks slots id m empty some_session s r _ at _ =
         let v : View = m.0 in
         let f = r.seats id v at in
-        let same_ticket : (t' : ℕ) → m.0.stage ≡ Waiting t' → t ≡ t' = λ t' e. ap ticket_in (sym waits ∙ e) in
-        rw r.words (dite (ℕ_discrete r.serving t)
-        (λ hit.
-        let slot = is_in_slot s r id v at (waits ∙ ap Waiting (sym hit)) in
-        let w : View = taken v t r.log in
-        let had : has_slot v.stage ≡ 0 = ap has_slot waits in
-        let owed : owes v.stage ≡ 1 = ap owes waits in
-        let even : Even (v ∷ []) (w ∷ []) = record { tickets = λ q. ap (λ (x : ℕ). x + 0) (sym (ap (has_ticket q) waits)); numbers = λ q. refl; parts = refl; budgets = refl } in (
+        let tells : Each (Tells r.log) v.owns = each_map (Matches n r.log) (Tells r.log) v.owns (λ x k. k.0) f.owns_is in
+        rw r.words (⊎_elim
+        (λ (hit : (awaits r.serving v.stage ≡ true) × (v.stage ≡ Waiting r.serving)).
+        let slot = is_in_slot s r id v at hit.1 in
+        let w : View = taken v r.serving r.log in
+        let owed : owes v.stage ≡ 1 = ap owes hit.1 in
+        let even : Even (v ∷ []) (w ∷ []) = record { tickets = λ q. ap (λ (x : ℕ). x + 0) (sym (ap (has_ticket q) hit.1)); numbers = λ q. refl; parts = refl; budgets = refl } in (
           w,
           takes 0 (Present (history h r.log)),
           ap (λ (hs : List (maybe.Option (HostSlot F J))). get_elem? hs 0) slot.1,
           keeps_rule s r r.log (set s.homes 0 none) (set s.views id w) (v ∷ []) (w ∷ []) (trade_set s.views id v w at) even (omega arith) r.given (inr (omega (arith, total_set slot_of s.views id v w at, slot.0), ap (λ (hs : List (maybe.Option (HostSlot F J))). set hs 0 none) slot.1))
-              (seat_set s r s.views id w (record { start_is = f.start_is; known_is = (([], sym (append-nil r.log)), tt); owns_is = f.owns_is; turn_is = (sym hit, refl); works = omega arith }) r.seats),
-          λ t' e. rw (eq-eqb r.serving t' (hit ∙ same_ticket t' e))
-              (h, r.log, ap (λ (x : ℕ). (taken v x r.log, (0, Present (history h r.log)) ∷ m.1)) (same_ticket t' e), f.start_is, f.known_is, each_map (Matches n r.log) (Tells r.log) v.owns (λ x k. k.0) f.owns_is),
+              (seat_set s r s.views id w (record { start_is = f.start_is; known_is = (([], sym (append-nil r.log)), tt); owns_is = f.owns_is; turn_is = (refl, refl); works = omega arith }) r.seats),
+          (r.log, f.known_is, tells, rw hit.0 (h, f.start_is, refl)),
         ))
-        (λ miss. (
-          v,
+        (λ (miss : awaits r.serving v.stage ≡ false).
+        let l : List Entry = longest v.known in
+        let w : View = record v { known = l ∷ [] } in
+        let seats = seat_set s r s.views id w (record { start_is = f.start_is; known_is = (longest_starts r.log v.known f.known_is, tt); owns_is = f.owns_is; turn_is = not_holder r.serving r.log v.stage (l ∷ []) empty; works = f.works }) r.seats in
+        let rule = shares s r (set s.views id w) (v ∷ []) (w ∷ []) (trade_set s.views id v w at) (omega arith) seats in (
+          w,
           keeps,
           tt,
-          subst (λ (z : List ℕ × List View). Rule record { words = z.0; homes = s.homes; views = z.1 }) (λ i. (r.words i, sym (set_again s.views id v at) i)) r,
-          λ t' e. rw (ne_eqb r.serving t' (λ z. miss (z ∙ sym (same_ticket t' e)))) refl,
-        )))
+          subst (λ (ws : List ℕ). Rule record { words = ws; homes = s.homes; views = set s.views id w }) r.words rule,
+          (r.log, f.known_is, tells, rw miss refl),
+        ))
+        (awaits_tells r.serving v.stage))
 
     -- where the slot is out with a seat, the host is not in it, and no other seat has it
     is_out : (s : State (HostSlot F J) View) (r : Rule s) (id : ℕ) (v : View) → get_elem? s.views id ≡ some v → has_slot v.stage ≡ 1 → (total slot_of s.views ≡ 1) × (s.homes ≡ none ∷ [])
@@ -291,15 +302,24 @@ module _ {F J : Type 0} where
           refl,
         )
 
-    pub splits : (r₀ : Machine) (id i k : ℕ) → Splits Rule id (fresh_view r₀ i (suc k)) (fresh_view r₀ (i + 1) k) (session_view r₀ Idle max_calls [] i [])
-    splits r₀ id i k s r at =
-        let v : View = fresh_view r₀ i (suc k) in
-        let left : View = fresh_view r₀ (i + 1) k in
-        let right : View = session_view r₀ Idle max_calls [] i [] in
+    -- a seat keeps its first session, and a new one owns the others
+    pub splits : (id : ℕ) (v : View) → v.stage ≡ Idle → others v * max_calls ≤ v.budget → Splits Rule id v (split_left v) (split_right v)
+    splits id v idle few s r at =
+        let left : View = split_left v in
+        let right : View = split_right v in
         let f = r.seats id v at in
-        shares s r (set s.views id left ++ right ∷ []) (v ∷ []) (left ∷ right ∷ []) (trade_snoc s.views id v left right at) (omega arith)
-        (seats_snoc (Fits h n r.serving r.log) (set s.views id left) right (record { start_is = f.start_is; known_is = f.known_is; owns_is = (f.owns_is.0, tt); turn_is = tt; works = omega arith })
-        (seat_set s r s.views id left (record { start_is = f.start_is; known_is = f.known_is; owns_is = f.owns_is.1; turn_is = tt; works = omega arith }) r.seats))
+        let none_v : has_slot v.stage ≡ 0 = ap has_slot idle in
+        let whole : take 1 v.owns ++ drop 1 v.owns ≡ v.owns = take-append-drop 1 v.owns in
+        let owned : Each (Matches n r.log) (take 1 v.owns ++ drop 1 v.owns) = subst (Each (Matches n r.log)) (sym whole) f.owns_is in
+        let numbers : (q : ℕ) → times q (take 1 v.owns) + times q (drop 1 v.owns) ≡ times q v.owns = λ q. sym (times_append q (take 1 v.owns) (drop 1 v.owns)) ∙ ap (times q) whole in
+        let parts : length (take 1 v.owns) + length (drop 1 v.owns) ≡ length v.owns = sym (length-append (take 1 v.owns) (drop 1 v.owns)) ∙ ap (λ (l : List Account). length l) whole in
+        let same : Same (v ∷ []) (left ∷ right ∷ []) = rw idle (omega (arith, numbers, parts, few)) in
+        shares s r (set s.views id left ++ right ∷ []) (v ∷ []) (left ∷ right ∷ []) (trade_snoc s.views id v left right at) same
+        (seats_snoc (Fits h n r.serving r.log) (set s.views id left) right
+        (record { start_is = f.start_is; known_is = f.known_is; owns_is = each_right (Matches n r.log) (take 1 v.owns) (drop 1 v.owns) owned; turn_is = not_holder r.serving r.log v.stage v.known none_v; works = omega arith })
+        (seat_set s r s.views id left
+        (record { start_is = f.start_is; known_is = f.known_is; owns_is = each_left (Matches n r.log) (take 1 v.owns) (drop 1 v.owns) owned; turn_is = not_holder r.serving r.log v.stage v.known none_v; works = omega arith })
+        r.seats))
 
     pub joins : (id other : ℕ) (v w : View) → v.stage ≡ Idle → w.stage ≡ Idle → Joins Rule id v other w (both v w) spent
     joins id other v w idle_v idle_w s r at apart at_w' =
@@ -322,32 +342,6 @@ module _ {F J : Type 0} where
         })
         r.seats))
 
-    -- a seat that owns nothing is added
-    pub shows : (id : ℕ) (v : View) → v.stage ≡ Idle → Splits Rule id v v (shown v)
-    shows id v idle s r at =
-        let w : View = shown v in
-        let f = r.seats id v at in
-        let none_v : has_slot v.stage ≡ 0 = ap has_slot idle in
-        let same : Same (v ∷ []) (v ∷ w ∷ []) = rw idle (omega arith) in
-        shares s r (set s.views id v ++ w ∷ []) (v ∷ []) (v ∷ w ∷ []) (trade_snoc s.views id v v w at) same
-        (seats_snoc (Fits h n r.serving r.log) (set s.views id v) w (record { start_is = f.start_is; known_is = f.known_is; owns_is = tt; turn_is = not_holder r.serving r.log v.stage v.known none_v; works = omega arith })
-        (seat_set s r s.views id v f r.seats))
-
-    -- a seat that knows two beginnings keeps the longer one
-    pub learns : (slots id : ℕ) (m : (M F J)) (x y : List Entry) → m.0.stage ≡ Idle → m.0.known ≡ x ∷ y ∷ [] → Allows Rule slots id m 0 (λ x. x) (learned (step slots 0 0 0 none) m)
-    learns slots id m x y idle two s r _ at _ =
-        let v : View = m.0 in
-        let l : List Entry = longer v.known in
-        let w : View = record v { known = l ∷ [] } in
-        let f = r.seats id v at in
-        let none_v : has_slot v.stage ≡ 0 = ap has_slot idle in
-        let starts = subst (Each (StartsWith r.log)) two f.known_is in
-        let start : StartsWith r.log l = subst (λ (ls : List (List Entry)). StartsWith r.log (longer ls)) (sym two) (longer_is (StartsWith r.log) x y starts.0 starts.1.0) in
-        let seats = seat_set s r s.views id w (record { start_is = f.start_is; known_is = (start, tt); owns_is = f.owns_is; turn_is = not_holder r.serving r.log v.stage (l ∷ []) none_v; works = f.works }) r.seats in
-        let rule = shares s r (set s.views id w) (v ∷ []) (w ∷ []) (trade_set s.views id v w at) (omega arith) seats in
-        let rule' : Rule record { words = r.serving ∷ r.ticket ∷ length r.log ∷ []; homes = s.homes; views = set s.views id w } = subst (λ ws. Rule record { words = ws; homes = s.homes; views = set s.views id w }) r.words rule in
-        rw r.words (w, keeps, tt, rule', (refl, (r.log, f.known_is, each_map (Matches n r.log) (Tells r.log) v.owns (λ x k. k.0) f.owns_is)))
-
     pub opens : n ≤ max_sessions → Rule (opening (0 ∷ 0 ∷ 0 ∷ []) (Present (history h []) ∷ []) (opening_view h n))
     opens few = let v : View = opening_view h n in record {
       serving = 0;
@@ -357,7 +351,7 @@ module _ {F J : Type 0} where
       seats = seats_snoc (Fits h n 0 []) [] v (record { start_is = refl; known_is = (([], refl), tt); owns_is = fresh_match h n 0 n (omega arith); turn_is = tt; works = omega arith }) (λ j d e. absurd (maybe.some-ne-none d (sym e)));
       slot = inl (refl, refl);
       numbers = λ q. let o = fresh_once h n q 0 n in omega arith;
-      parts = let o = fresh_length h n 0 n in omega arith;
+      parts = let o = fresh_length 0 n in omega arith;
       given = tt;
       in_order = omega arith;
       out = λ t lo hi. absurd (omega arith);
@@ -387,19 +381,18 @@ module _ {F J : Type 0} where
   abbrev pub IsWaiting : ℕ → ℕ → (M F J) → Type 0
   IsWaiting number ticket m = m ≡ (session_view (start_of m.0) (Waiting ticket) m.0.budget (known_of m.0) number (mine_of m.0), [])
 
-  pub looks : (h : Machine) (n slots id number ticket : ℕ) (m : (M F J)) → IsWaiting number ticket m → Allows (SharedInvariant h n) slots id m 0 (λ x. x) (turned (step slots 0 0 0 none) m)
-  looks h n slots id number ticket m e = let one : length m.0.owns ≡ 1 = ap (λ (z : (M F J)). length z.0.owns) e in turns h n slots id m ticket (ap (λ (z : (M F J)). z.0.stage) e) (omega arith)
-
-  takes₀ : (h : Machine) (b k ticket : ℕ) (x mine : List Entry) (m' : (M F J)) → Takes (session_view h (Waiting ticket) b x k mine, []) ticket m' → TakesSlot (session_view h (Waiting ticket) b x k mine) k ticket m'
-  takes₀ h b k ticket x mine m' t = (t.1, t.2 ∙ ap (λ (z : Machine). (session_view h (Holding ticket) b t.1 k mine, (0, Present (history z t.1)) ∷ [])) (sym t.3), t.4.0, t.5.0)
-
-  pub takes_slot : (slots number ticket found : ℕ) (m m' : (M F J)) → IsWaiting number ticket m → turned (step slots 0 0 0 none) m found m' → found ≡ ticket → TakesSlot m.0 number ticket m'
+  pub takes_slot : (slots number ticket found : ℕ) (m m' : (M F J)) → IsWaiting number ticket m → looked (step slots 0 0 0 none) m found m' → found ≡ ticket → TakesSlot m.0 number ticket m'
   takes_slot slots number ticket found m m' e t is =
-      let took = rw (eq-eqb found ticket is) at (t ticket (ap (λ (z : (M F J)). z.0.stage) e)) in
-      subst (λ (z : (M F J)). Takes z ticket m' → TakesSlot z.0 number ticket m') (sym e) (takes₀ (start_of m.0) m.0.budget number ticket (known_of m.0) (mine_of m.0) m') took
+      subst (λ (z : (M F J)). looked (step slots 0 0 0 none) z found m' → TakesSlot z.0 number ticket m') (sym e) (takes₀ slots (start_of m.0) m.0.budget number ticket found (known_of m.0) (mine_of m.0) m' is) t
+    where
+      takes₀ : (slots : ℕ) (h : Machine) (b k ticket found : ℕ) (x mine : List Entry) (m' : (M F J)) → found ≡ ticket → looked (step slots 0 0 0 none) (session_view h (Waiting ticket) b x k mine, []) found m' → TakesSlot (session_view h (Waiting ticket) b x k mine) k ticket m'
+      takes₀ slots h b k ticket found x mine m' is t =
+          let took = rw (eq-eqb found ticket is) at t.3 in
+          (t.0, took.2 ∙ (λ j. (session_view h (Holding (is j)) b t.0 k mine, (0, Present (history (sym took.1 j) t.0)) ∷ [])), t.1.0, t.2.0)
 
-  pub waits_on : (slots number ticket found : ℕ) (m m' : (M F J)) → IsWaiting number ticket m → turned (step slots 0 0 0 none) m found m' → found ≢ ticket → m' ≡ m
-  waits_on slots number ticket found m m' e t is = rw (ne_eqb found ticket is) at (t ticket (ap (λ (z : (M F J)). z.0.stage) e))
+  pub waits_on : (slots number ticket found : ℕ) (m m' : (M F J)) → IsWaiting number ticket m → looked (step slots 0 0 0 none) m found m' → found ≢ ticket → m' ≡ m
+  waits_on slots number ticket found m m' e t ne =
+      subst (λ (z : (M F J)). looked (step slots 0 0 0 none) z found m' → m' ≡ z) (sym e) (λ (t : looked (step slots 0 0 0 none) (session_view (start_of m.0) (Waiting ticket) m.0.budget (known_of m.0) number (mine_of m.0), []) found m'). rw (ne_eqb found ticket ne) at t.3) t
 
   pub leaves : (h : Machine) (n slots id number : ℕ) (k : History) (g : Stage) (x : (HostSlot F J)) (v : View) (m : (M F J)) → has_slot g ≡ 1 → v ≡ session_view k.start g v.budget k.log number (mine_of v) → m ≡ (v, (0, Present k) ∷ [])
       → Allows (SharedInvariant h n) slots id m 0 (λ x. (x + 1) % 2 ^ 64) (released (step slots 0 1 0 none) m)

@@ -19,5 +19,5 @@ map_same (Step.Kill caller which sig) = refl
 map_same (Step.Wait4 caller which options) = refl
 map_same (Step.Install caller own) = refl
 map_same (Step.Handle caller) = refl
-map_same (Step.Ptrace caller request target «data») = refl
+map_same (Step.Ptrace caller request target arg) = refl
 map_same (Step.Turn tid act) = refl

@@ -1,5 +1,5 @@
 -- The rule of the table, and the knowledge that each step gives.
-use Rattle.std.specs.Prelude.{◌≡◌, ◌⊎◌, ℕ, zero, suc, ◌+◌, ◌-◌, ◌*◌, ◌<◌, ◌≤◌, ◌==◌, List, [], ◌∷◌, ◌++◌, length, take, drop, leb, Option, Some, None, IfSome, MatchBool, true, if◌then◌else◌}
+use Rattle.std.specs.Prelude.{◌≡◌, ◌⊎◌, ℕ, zero, suc, ◌+◌, ◌-◌, ◌*◌, ◌<◌, ◌≤◌, ◌==◌, List, [], ◌∷◌, ◌++◌, length, take, drop, leb, Option, Some, None, IfSome, MatchBool, Bool, true, false, if◌then◌else◌}
 use Rattle.std.specs.declared.snapshot.Snapshot.{Snapshot}
 use Rattle.{atomic_table.specs.{Table.{State, Me}, Seated.TableId}, requests.specs.{Machine.{Machine, empty}}}
 use Rattle.step_types.specs.{Plain.PlainStep, Replies.is_memory, declared.Reply.Reply}
@@ -34,6 +34,13 @@ has_slot Idle = 0
 has_slot (Waiting n) = 0
 has_slot (Holding n) = 1
 has_slot (Counted n) = 1
+
+-- whether the stage waits for the ticket n
+abbrev pub awaits : ℕ → Stage → Bool
+awaits n Idle = false
+awaits n (Waiting t) = n == t
+awaits n (Holding t) = false
+awaits n (Counted t) = false
 
 -- whether a call is still to be counted
 abbrev pub owes : Stage → ℕ
@@ -132,27 +139,36 @@ fresh_view h n k = record { start = Some h; stage = Idle; budget = k * max_calls
 abbrev pub opening_view : Machine → ℕ → View
 opening_view h sessions = fresh_view h 0 sessions
 
-abbrev pub split_left : View → View
-split_left v = record v { budget = v.budget - max_calls; owns = drop 1 v.owns }
+-- how many sessions the seat owns beside its first one
+abbrev pub others : View → ℕ
+others v = length v.owns - 1
 
+-- a seat that is split keeps its first session
+abbrev pub split_left : View → View
+split_left v = record v { budget = v.budget - others v * max_calls; owns = take 1 v.owns }
+
+-- the new seat knows the same, and owns the other sessions, which have made no call
 abbrev pub split_right : View → View
-split_right v = record v { budget = max_calls; owns = take 1 v.owns }
+split_right v = record v { budget = others v * max_calls; owns = drop 1 v.owns }
 
 abbrev pub both : View → View → View
 both v w = record v { budget = v.budget + w.budget; known = v.known ++ w.known; owns = v.owns ++ w.owns }
 
--- the view of a seat that owns no session, and knows what this one does
-abbrev pub shown : View → View
-shown v = record v { budget = 0; owns = [] }
-
+-- the view of a seat that owns no session
 abbrev pub moment_view : Machine → List Entry → View
 moment_view h known = record { start = Some h; stage = Idle; budget = 0; known = known ∷ []; owns = [] }
 
--- the longer one of the first two lists
-abbrev pub longer : List (List Entry) → List Entry
-longer [] = []
-longer (x ∷ []) = x
-longer (x ∷ y ∷ zs) = if leb (length y) (length x) then x else y
+abbrev pub longer : List Entry → List Entry → List Entry
+longer x y = if leb (length y) (length x) then x else y
+
+-- the longest one of a list and the others
+abbrev pub longest_of : List Entry → List (List Entry) → List Entry
+longest_of x [] = x
+longest_of x (y ∷ ys) = longest_of (longer x y) ys
+
+abbrev pub longest : List (List Entry) → List Entry
+longest [] = []
+longest (x ∷ xs) = longest_of x xs
 
 -- what the slot contains of a step that is being made
 abbrev pub snapshot_of : PlainStep → Snapshot PlainStep
@@ -230,13 +246,18 @@ module _ {F J : Type 0} where
   abbrev pub drew : At F J → M F J → ℕ → M F J → Type 0
   drew st m n m' = m' ≡ (drawn m.0 n, m.1)
 
-  -- it is the seat's turn: the host is out with it, and it knows the log so far
-  abbrev pub Takes : M F J → ℕ → M F J → Type 0
-  Takes m t m' =
-      (start : Machine) × (log : List Entry) × (m' ≡ (taken m.0 t log, (0, Present (history start log)) ∷ m.1)) × IfSome m.0.start (λ h. h ≡ start) × Each (StartsWith log) m.0.known × Each (Tells log) m.0.owns
+  -- the host is out with the seat, which knows the whole log
+  abbrev pub Takes : M F J → ℕ → List Entry → M F J → Type 0
+  Takes m t log m' = (start : Machine) × IfSome m.0.start (λ h. h ≡ start) × (m' ≡ (taken m.0 t log, (0, Present (history start log)) ∷ m.1))
 
-  abbrev pub turned : At F J → M F J → ℕ → M F J → Type 0
-  turned st m n m' = (t : ℕ) → m.0.stage ≡ Waiting t → MatchBool (n == t) (Takes m t m') (m' ≡ m)
+  -- the seat keeps the longest list that it knows
+  abbrev pub KeepsLongest : M F J → M F J → Type 0
+  KeepsLongest m m' = m' ≡ (record m.0 { known = longest m.0.known ∷ [] }, m.1)
+
+  -- the lists that the seat knows are beginnings of one log, which has the entries of its sessions; its turn comes if it waits for the ticket that is served
+  abbrev pub looked : At F J → M F J → ℕ → M F J → Type 0
+  looked st m n m' =
+      (log : List Entry) × Each (StartsWith log) m.0.known × Each (Tells log) m.0.owns × MatchBool (awaits n m.0.stage) (Takes m n log m') (KeepsLongest m m')
 
   abbrev pub count_slot : (HostSlot F J) → View → View
   count_slot (Present k) v = v
@@ -252,11 +273,6 @@ module _ {F J : Type 0} where
 
   abbrev pub released : At F J → M F J → ℕ → M F J → Type 0
   released st m n m' = m' ≡ (staged m.0 Idle, [])
-
-  -- the seat keeps the longer one of its two lists: both are beginnings of one list
-  abbrev pub learned : At F J → M F J → ℕ → M F J → Type 0
-  learned st m n m' =
-      (m' ≡ (record m.0 { known = longer m.0.known ∷ [] }, m.1)) × ((log : List Entry) × Each (StartsWith log) m.0.known × Each (Tells log) m.0.owns)
 
   -- the knowledge at the end about a seat that was joined with all others
   abbrev pub Closes : Machine → ℕ → View → List (HostSlot F J) → Type 0

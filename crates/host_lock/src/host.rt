@@ -15,7 +15,7 @@ use crate::door::{Announced, FairLock};
 use crate::journal::{Entry, Journal};
 use crate::limits::MAX_SESSIONS;
 use crate::moment::{Moment, learn, show};
-use crate::rule::{HostSeat, HostTable, JoinTwo, SplitOne, TableKey};
+use crate::rule::{HostSeat, HostTable, JoinTwo, SplitOff, TableKey};
 use crate::session::{Session, budget_left};
 use crate::shared_state::SharedState;
 use crate::step::{OwnHandler, plain};
@@ -239,7 +239,7 @@ impl<F: Decider + Send + Drop, J: CallLog + Send + Drop> SharedHost<F, J> {
     {
         let badge = mem::replace(&mut session.badge, Badge::blank());
         let mut seat = badge.into_seat();
-        let shown = show(&self.table.shared, &mut seat);
+        let shown = show(&self.table.shared, &mut seat, session.number);
         session.badge = seat.into_badge();
         Moment {
             badge: shown.into_badge(),
@@ -320,7 +320,7 @@ fn make_session<F: Decider + Send + Drop, J: CallLog + Send + Drop>(
     }
 }
 
-/// Creates a session for each user. Its seat is split from the seat that owns all sessions.
+/// Creates a session for each user. Its seat is split from a seat that owns this session and all later ones.
 fn make_sessions<F: Decider + Send + Drop, J: CallLog + Send + Drop>(
     alloc: Global,
     table: &HostTable<F, J>,
@@ -333,8 +333,9 @@ fn make_sessions<F: Decider + Send + Drop, J: CallLog + Send + Drop>(
 {
     let mut sessions = Vec::with_capacity(alloc, users.len())?;
     for i in 0..users.len() {
-        let seat = table.shared.split_seat::<SplitOne>(&mut unsplit);
-        sessions.push_reserved(make_session(users[i], i, seat));
+        let later = table.shared.split_seat::<SplitOff>(&mut unsplit);
+        sessions.push_reserved(make_session(users[i], i, unsplit));
+        unsplit = later;
     }
     Ok(sessions)
 }

@@ -2,11 +2,11 @@
 
 ghost use Rattle.std.specs.Prelude.{◌≡◌, []};
 ghost use Rattle.host_lock.specs.Journal.{IsLegal, entries_of};
-ghost use Rattle.host_lock.specs.Rule.{HasLearned, IsHostTable, mine_of, moment_view, known_of, session_view, shown, start_of};
+ghost use Rattle.host_lock.specs.Rule.{HasLearned, IsHostTable, mine_of, moment_view, known_of, session_view, start_of};
 ghost use Rattle.host_lock.specs.Views.{Idle};
 
 use crate::call_log::CallLog;
-use crate::rule::{HostSeat, JoinTwo, Learn, SharedTable, Show};
+use crate::rule::{HostSeat, JoinTwo, Look, SharedTable, SplitOff};
 use crate::view::View;
 use atomic_table::Badge;
 use std::marker::Model;
@@ -49,18 +49,19 @@ impl Moment {
     }
 }
 
-/// Splits off a seat that knows the same, and owns no session.
+/// Splits off a seat that knows the same. It owns no session, since the seat of a session keeps its only one.
 pub(crate) fn show<F: Decider + Send + Drop, J: CallLog + Send + Drop>(
     table: &SharedTable<F, J>,
     seat: &mut HostSeat<F, J>,
+    number: usize,
 ) -> HostSeat<F, J>
     requires table { IsHostTable table.now.table_id × (seat.old.table_id ≡ table.now.table_id) }
-    requires rests { seat.old.me.0.stage ≡ Idle }
+    requires rests { seat.old.me ≡ (session_view (start_of seat.old.me.0) Idle seat.old.me.0.budget (known_of seat.old.me.0) number (mine_of seat.old.me.0), []) }
     ensures table { (seat.new.table_id ≡ seat.old.table_id) × (result.table_id ≡ seat.old.table_id) }
     ensures same { seat.new.me ≡ seat.old.me }
-    ensures shown { result.me ≡ (shown seat.old.me.0, []) }
+    ensures shown { result.me ≡ (moment_view (start_of seat.old.me.0) (known_of seat.old.me.0), []) }
 {
-    table.split_seat::<Show>(seat)
+    table.split_seat::<SplitOff>(seat)
 }
 
 /// Lets the seat of a session know what another seat knows, which is given up. No word of the table changes.
@@ -79,5 +80,5 @@ pub(crate) fn learn<F: Decider + Send + Drop, J: CallLog + Send + Drop>(
     ensures learned { HasLearned seat.old.me.0 number (known_of shown.me.0) seat.new.me }
 {
     table.join_seat::<JoinTwo>(seat, shown);
-    table.load::<Learn>(seat, 0);
+    table.load::<Look>(seat, 0);
 }

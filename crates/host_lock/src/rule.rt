@@ -1,6 +1,6 @@
 //! The rule of the table, and the knowledge that each step on it gives. Word 0 is serving, word 1 ticket, word 2 count.
 
-ghost use Rattle.host_lock.specs.Rule.{drew, turned, counted, released, learned};
+ghost use Rattle.host_lock.specs.Rule.{drew, looked, counted, released};
 
 use crate::call_log::CallLog;
 use crate::view::{HostSlot, View};
@@ -44,11 +44,12 @@ impl<F: Decider + Send + Drop, J: CallLog + Send + Drop> Play<HostSlot<F, J>, Vi
     ghost then = { drew };
 }
 
-/// Load of serving. If it is the seat's ticket, the slot is then out with the seat.
-pub(crate) struct Turn;
+/// Load of serving. If it is the seat's ticket, the slot is then out with the seat. Otherwise a seat that knows several
+/// beginnings of the journal keeps the longest one.
+pub(crate) struct Look;
 
-impl<F: Decider + Send + Drop, J: CallLog + Send + Drop> Play<HostSlot<F, J>, View> for Turn {
-    ghost then = { turned };
+impl<F: Decider + Send + Drop, J: CallLog + Send + Drop> Play<HostSlot<F, J>, View> for Look {
+    ghost then = { looked };
 }
 
 /// Addition to count: the step of the machine.
@@ -65,28 +66,10 @@ impl<F: Decider + Send + Drop, J: CallLog + Send + Drop> Play<HostSlot<F, J>, Vi
     ghost then = { released };
 }
 
-/// Load of serving, by a seat that knows two beginnings of the journal: it keeps the longer one.
-pub(crate) struct Learn;
+/// Splits a seat: it keeps its first session. The new seat knows the same, and owns the other sessions, if there are any.
+pub(crate) struct SplitOff;
 
-impl<F: Decider + Send + Drop, J: CallLog + Send + Drop> Play<HostSlot<F, J>, View> for Learn {
-    ghost then = { learned };
-}
-
-/// Splits a seat off, which owns no session and knows the same.
-pub(crate) struct Show;
-
-impl Split<View> for Show {
-    ghost use Rattle.host_lock.specs.Rule.{shown};
-
-    ghost left = { λ v. v };
-
-    ghost right = { shown };
-}
-
-/// Splits a seat that owns several sessions: a new seat takes the first one.
-pub(crate) struct SplitOne;
-
-impl Split<View> for SplitOne {
+impl Split<View> for SplitOff {
     ghost use Rattle.host_lock.specs.Rule.{split_left, split_right};
 
     ghost left = { split_left };

@@ -7,7 +7,7 @@ ghost use Rattle.host_lock.specs.Journal.{StartsWith, entries_of};
 ghost use Rattle.host_lock.specs.Rule.{session_view, snapshot_of, start_of, known_of, mine_of, TakesSlot, IsHostTable, HasCounted, HasTurned, IsOut};
 
 use crate::call_log::CallLog;
-use crate::rule::{Count, Draw, HostSeat, Release, SharedTable, Turn};
+use crate::rule::{Count, Draw, HostSeat, Look, Release, SharedTable};
 use crate::shared_state::SharedState;
 use crate::step::OwnHandler;
 use crate::view::HostSlot;
@@ -34,7 +34,7 @@ pub(crate) fn await_ticket<F: Decider + Send + Drop, J: CallLog + Send + Drop, R
     ensures taken { TakesSlot seat.old.me.0 number ticket seat.new.me }
 {
     for _ in rt.forever() {
-        let serving = table.load::<Turn>(seat, 0);
+        let serving = table.load::<Look>(seat, 0);
         if serving == ticket {
             return;
         }

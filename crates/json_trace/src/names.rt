@@ -1,6 +1,6 @@
 //! The names of a scenario, as docs/FORMAT.md has them. Written by `tools/format` from format/scenario.toml.
 use event_masks::Call;
-use scenario::BareStep;
+use scenario_runs::BareStep;
 use signals::Disposition;
 use step_types::{Act, Request, Step};
 use stop_handlers::Decision;

@@ -1,6 +1,6 @@
 //! The steps of each user.
 use pid_blocks::Uid;
-use scenario::{BareStep, Scenario, USERS};
+use scenario_runs::{BareStep, Scenario, USERS};
 use std::alloc::{AllocError, Global};
 use step_types::Step;
 use stop_handlers::Policy;

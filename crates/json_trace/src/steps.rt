@@ -4,7 +4,7 @@ use crate::members::{push_flags, push_name, push_nonzero, push_number, push_sign
 use crate::names::{act_name, action_name, call_name, decision_name, op_of, request_name};
 use event_masks::{Call, EventMask};
 use json::Writer;
-use scenario::BareStep;
+use scenario_runs::BareStep;
 use signals::Disposition;
 use std::alloc::AllocError;
 use step_types::{Act, Options, Request, Step};
@@ -14,7 +14,7 @@ fn push_ptrace(
     out: &mut Writer,
     request: Request,
     target: u32,
-    data: u32,
+    arg: u32,
 ) -> Result<(), AllocError> {
     push_name(out, "request", request_name(request))?;
     if request == Request::TraceMe {
@@ -22,9 +22,9 @@ fn push_ptrace(
     }
     push_number(out, "target", target)?;
     if request == Request::SetEventMask {
-        return push_flags(out, "mask", EventMask(data));
+        return push_flags(out, "mask", EventMask(arg));
     }
-    push_nonzero(out, "data", data)
+    push_nonzero(out, "data", arg)
 }
 
 fn push_which(out: &mut Writer, which: i64) -> Result<(), AllocError> {
@@ -147,9 +147,9 @@ fn push_keys(out: &mut Writer, step: &BareStep, policy: Option<&Policy>) -> Resu
         Step::Ptrace {
             request,
             target,
-            data,
+            arg,
             ..
-        } => push_ptrace(out, *request, *target, *data),
+        } => push_ptrace(out, *request, *target, *arg),
         Step::Turn { tid, act } => push_turn(out, *tid, act),
     }
 }

@@ -6,7 +6,7 @@ use crate::steps::push_step;
 use json::Writer;
 use memchr::memchr;
 use pid_blocks::Uid;
-use scenario::Scenario;
+use scenario_runs::Scenario;
 use std::alloc::{AllocError, Global};
 use std::io::{BufWriter, Write};
 use std::{io, mem, str};

@@ -1,12 +1,12 @@
 -- Sessions compared with scenarios.
-use Rattle.std.{proofs.Common.{◌≡◌, ℕ, ◌+◌, ◌==◌, count_by, List, [], ◌∷◌, ◌++◌, map, Option, Some, None, refl, ap, subst, arith}, specs.Prelude.{Ok, Err}}
+use Rattle.std.{proofs.Common.{◌≡◌, ℕ, ◌+◌, ◌==◌, count_by, List, [], ◌∷◌, ◌++◌, map, Some, None, refl, ap, subst, arith}, specs.Prelude.{Ok, Err}}
 use Rattle.open_sessions.proofs.LineLemmas.{one_result}
-use Rattle.{std.specs.{Prelude.if◌then◌else◌, List.AllByRecursion}, requests.specs.{Isolation.{Ran, Users, host_after, reply_of}, Machine.{Machine}}}
-use Rattle.step_types.specs.{Plain.UserStep, declared.Reply.Reply}
-use Rattle.{requests.specs.Run.{replies}, visibility.{specs.Runs.{reply_given, MakesStep}}}
-use Rattle.{scenario_text.specs.{OneStep.{IsStep}}, scenario.specs.declared.style.Style.Style}
-use Rattle.{scenario.specs.{Lines.{Answered, line, lines_after, text_of}, Runs.paired}, open_sessions.specs.Answers.{LineReply, AnswersLine, step, refused}, line_sessions.specs.Sessions.AnswersLines}
-use Rattle.line_sessions.specs.{Sessions.text_after, Laws.{AreSteps, IsMade, StepsIn, replies_in, none as no_step, step as a_step, refused as no_step_here}}
+use Rattle.{std.specs.{Prelude.if◌then◌else◌, List.AllByRecursion}, requests.specs.{Isolation.{host_after, reply_of}, Machine.{Machine}}}
+use Rattle.step_types.specs.{Plain.UserStep}
+use Rattle.{requests.specs.Run.{replies}, visibility.{specs.Runs.{MakesStep}}}
+use Rattle.{scenario_text.specs.{OneStep.{IsStep}}, scenario_runs.specs.declared.style.Style.Style}
+use Rattle.{scenario_runs.specs.{Lines.{Answered, line, lines_after, text_of}, Runs.paired}, open_sessions.specs.Answers.{LineReply, AnswersLine, step, refused}, line_sessions.specs.Sessions.AnswersLines}
+use Rattle.{line_sessions.specs.{Sessions.text_after, Laws.{AreSteps, IsMade}}, open_sessions.{specs.Laws.by_line, proofs.LawLemmas.{Found, found_none, found_line}}}
 
 -- the answer to a line that is a step, where memory was left
 record Made (a : UserStep) (m : Machine) (r : LineReply) (k : Machine) : Type 0 where
@@ -32,26 +32,7 @@ lines_of_scenario style before (l ∷ lines) (a ∷ steps) m (r ∷ rs) k are an
 lines_of_scenario style before lines steps m rs k are answers left = grind arith
 
 -- the steps of a session, as a run
-pub record Found (lines : List (List ℕ)) (m : Machine) (rs : List LineReply) (k : Machine) : Type 0 where
-  pub steps : List UserStep
-  pub are : StepsIn lines steps
-  pub users : Users steps
-  pub ran : Ran steps (map (λ r. reply_given r) (replies_in rs)) m k
-
-ran_more : (a : UserStep) (steps : List UserStep) (o : Option Reply) (os : List (Option Reply)) (m n k : Machine) → MakesStep o a.uid a.step m n → Ran steps os n k → Ran (a ∷ steps) (o ∷ os) m k
-ran_more a steps None os m n k did ran = rw did.0 at ran
-ran_more a steps (Some r) os m n k did ran = (did.0, rw did.1 at ran)
-
-found_more : (l : List ℕ) (lines : List (List ℕ)) (m n k : Machine) (r : LineReply) (rs : List LineReply) → AnswersLine l m r n → Found lines n rs k → Found (l ∷ lines) m (r ∷ rs) k
-found_more l lines m n k r rs (step a reply after is user did) rest = record {
-  steps = a ∷ rest.steps;
-  are = a_step l lines a rest.steps is rest.are;
-  users = (user, rest.users);
-  ran = ran_more a rest.steps (reply_given reply) (map (λ r. reply_given r) (replies_in rs)) m after k did rest.ran;
-}
-found_more l lines m n k r rs (refused f is) rest = record { steps = rest.steps; are = no_step_here l lines f rest.steps is rest.are; users = rest.users; ran = rest.ran }
-
-pub found : (lines : List (List ℕ)) (m : Machine) (rs : List LineReply) (k : Machine) → AnswersLines lines m rs k → Found lines m rs k
-found [] m [] k answers = record { steps = []; are = no_step; users = tt; ran = answers }
-found (l ∷ lines) m (r ∷ rs) k answers = found_more l lines m answers.0 k r rs answers.1 (found lines answers.0 rs k answers.2)
+pub found : (lines : List (List ℕ)) (m : Machine) (rs : List LineReply) (k : Machine) → AnswersLines lines m rs k → Found (map by_line lines) m rs k
+found [] m [] k answers = found_none m k answers
+found (l ∷ lines) m (r ∷ rs) k answers = found_line l (map by_line lines) m answers.0 k r rs answers.1 (found lines answers.0 rs k answers.2)
 found lines m rs k answers = absurd answers

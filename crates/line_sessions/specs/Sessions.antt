@@ -1,7 +1,7 @@
 -- A session line by line: each line of the input has one answer.
-use Rattle.std.specs.{Prelude.{⊤, ◌≡◌, ◌≤◌, ℕ, ◌==◌, ◌+◌, List, [], ◌∷◌, ◌++◌, length, take, Option, IfSome, Result, Ok, Err, count_by}, Io.KnownBytes.{Appends, Consumes, IsAtEnd}}
-use Rattle.{requests.specs.Machine.Machine, scenario.specs.{declared.style.Style.Style, Lines.line}, open_sessions.specs.Answers.{LineReply, AnswersLine, refusal}}
-use Rattle.{line_sessions.specs.declared.fault.ServeError.{ServeError, TheVariants.Write}, byte_io.specs.Lines.lines_in}
+use Rattle.std.specs.{Prelude.{⊤, ◌≡◌, ◌⊎◌, ◌≤◌, ℕ, ◌==◌, ◌+◌, ◌-◌, ◌^◌, List, [], ◌∷◌, ◌++◌, length, take, Option, IfSome, Result, Ok, Err, count_by}, Io.KnownBytes.{Appends, Consumes, IsAtEnd}}
+use Rattle.{requests.specs.Machine.Machine, scenario_runs.specs.{declared.style.Style.Style, Lines.line}, open_sessions.specs.Answers.{LineReply, AnswersLine, refusal}}
+use Rattle.{line_sessions.specs.declared.fault.ServeError.{ServeError, TheVariants.{Write, TooManyLines}}, byte_io.specs.Lines.{lines_in, WholeLines}}
 
 -- the answers to lines in order, on a host that is m before and k after them
 abbrev pub AnswersLines : List (List ℕ) → Machine → List LineReply → Machine → Type 0
@@ -28,6 +28,10 @@ abbrev pub serve_fault_status : ServeError → ℕ
 serve_fault_status ServeError.TooManyLines = 1
 serve_fault_status e = 3
 
+-- the input has ended
+abbrev pub Ended : (read unread : Option (List ℕ)) → Type 0
+Ended read unread = IfSome read (λ _. IsAtEnd unread)
+
 -- the reader gave some lines, which have these answers from the host m on, and then `rest`
 pub record Talk (m : Machine) (read unread : Option (List ℕ)) (rest : List ℕ) (rs : List LineReply) : Type 0 where
   pub bytes : List ℕ
@@ -35,13 +39,23 @@ pub record Talk (m : Machine) (read unread : Option (List ℕ)) (rest : List ℕ
   pub taken : Consumes read unread (bytes ++ rest)
   pub answered : AnswersLines (lines_in bytes) m rs host
 
+-- the most lines that a session answers
+abbrev pub max_lines : ℕ
+max_lines = 2 ^ 64 - 1
+
 -- A session from the host m on. At the end of the input all lines were answered, and the writer has got the text of the
--- answers. Where a write failed, it has got a front of that text. Else it has got the text of the answers to all lines
--- except a last one, of which nothing, a part or all was taken.
+-- answers. If a write failed, the writer has got a front of that text. Else it has got the whole text, and a last line,
+-- of which nothing, a part or all was taken, has no answer. A line is answered when its line feed or the end of the
+-- input was read. There are too many lines after `max_lines` answers, and then no more is taken.
 abbrev pub Serves : Style → Result ⊤ ServeError → Machine → (read unread had has : Option (List ℕ)) → Type 0
 Serves style (Ok done) m read unread had has =
-    (rs : List LineReply) × Talk m read unread [] rs × Appends had has (text_of style rs) × IfSome read (λ _. IsAtEnd unread)
+    (rs : List LineReply) × Talk m read unread [] rs × Appends had has (text_of style rs) × Ended read unread
 Serves style (Err Write) m read unread had has =
-    (rs : List LineReply) × Talk m read unread [] rs × (n : ℕ) × Appends had has (take n (text_of style rs))
+    (rs : List LineReply) × (talk : Talk m read unread [] rs) × (WholeLines talk.bytes ⊎ Ended read unread)
+    × (n : ℕ) × Appends had has (take n (text_of style rs))
+Serves style (Err TooManyLines) m read unread had has =
+    (rs : List LineReply) × (length rs ≡ max_lines) × (talk : Talk m read unread [] rs) × WholeLines talk.bytes
+    × Appends had has (text_of style rs)
 Serves style (Err e) m read unread had has =
-    (rs : List LineReply) × (rest : List ℕ) × (length (lines_in rest) ≤ 1) × Talk m read unread rest rs × Appends had has (text_of style rs)
+    (rs : List LineReply) × (rest : List ℕ) × (length (lines_in rest) ≤ 1) × (talk : Talk m read unread rest rs) × WholeLines talk.bytes
+    × Appends had has (text_of style rs)

@@ -5,7 +5,7 @@ ghost use Rattle.line_sessions.specs.Turns.{Told, Writes};
 use crate::fault::ServeError;
 use byte_io::write_flushed;
 use open_sessions::{Session, SessionFault};
-use scenario::Style;
+use scenario_runs::Style;
 use std::alloc::Global;
 use std::io::Write;
 

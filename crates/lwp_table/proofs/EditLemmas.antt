@@ -81,8 +81,8 @@ module _ (was now : ℕ → Option RowNode) (returns : LwpData → LwpData → T
     old_row es births rows indexed seen = grind (arith, nat_tests, walk.back s b, lwp_of-slot was es births indexed s, untouched)
 
 -- a table with another row in a slot, of the same number and process
-module _ {f : ℕ → Option RowNode} {es : List (ℕ × ℕ)} {hs : List (ℕ × ListHead)} {all : ListHead} {births : ℕ} {users : List ℕ} {may : ℕ → Bool} (kept : LwpTableInvariant f es hs all births users may) where
-  pub LwpTableInvariant-edited : (s : ℕ) (b : RowNode) (new : LwpData) (g : ℕ → Option RowNode) → (may new.pid ≡ false → new.pending ≡ 0) → f s ≡ Some b → (new.tid ≡ b.row.tid) × (new.pid ≡ b.row.pid) → g s ≡ Some (record b { row = new }) → ((j : ℕ) → j ≢ s → g j ≡ f j) → LwpTableInvariant g es hs all births users may
+module _ {f : ℕ → Option RowNode} {es : List (ℕ × ℕ)} {hs : List (ℕ × ListHead)} {births : ℕ} {users : List ListHead} {may : ℕ → Bool} (kept : LwpTableInvariant f es hs births users may) where
+  pub LwpTableInvariant-edited : (s : ℕ) (b : RowNode) (new : LwpData) (g : ℕ → Option RowNode) → (may new.pid ≡ false → new.pending ≡ 0) → f s ≡ Some b → (new.tid ≡ b.row.tid) × (new.pid ≡ b.row.pid) → g s ≡ Some (record b { row = new }) → ((j : ℕ) → j ≢ s → g j ≡ f j) → LwpTableInvariant g es hs births users may
   LwpTableInvariant-edited s b new g calm had its has others = grind (arith, nat_tests, lwp_of-slot f es births kept.indexed s b had, LwpTableInvariant-set kept new s b g)
 
 -- a write in place leaves as many values

@@ -1,5 +1,5 @@
 -- From slots with birth numbers to the rows in order of birth, and what a change of one slot does.
-use Rattle.lwp_table.proofs.CommonNames.{◌≡◌, ◌≢◌, ℕ, ◌+◌, not, List, [], ◌∷◌, ◌++◌, Option, Some, None, IsSome, refl, sym, ap, ◌∙◌, arith, cond, nat_eq, rules, lookup, option_map, IsSomeAnd}
+use Rattle.lwp_table.proofs.CommonNames.{◌≡◌, ◌≢◌, ℕ, ◌+◌, not, List, [], ◌∷◌, ◌++◌, Option, Some, None, IsSome, refl, sym, ap, ◌∙◌, arith, cond, nat_eq, rules, lookup, option_map, IsSomeAnd, node_named, is_some}
 use Rattle.lwp_table.proofs.CommonNames.{cases_eq, nat_tests, same_Some, some_pair_parts, LwpData, RowNode, lwp_of, put_lwp, with_lwp, without_lwp, Differ, born_row, rows_of, IsIndexed}
 use Rattle.lwp_table.proofs.WordLemmas.{test_same, test_apart}
 use Rattle.lwp_table.proofs.ListLemmas.{AreNumbered, differ-listing, listing-end, listing-same, lwp_of-none, lwp_of-listing, listing-kept, listing-mapped}
@@ -50,19 +50,37 @@ module _ (f : ℕ → Option RowNode) (es : List (ℕ × ℕ)) (births : ℕ) (i
   pub lwp_of-slot : (s : ℕ) (slot : RowNode) → f s ≡ Some slot → lwp_of slot.row.tid (rows_of f es births) ≡ Some slot.row
   lwp_of-slot s slot there = lwp_of-listing (born_row f es) numbered slot.born slot.row (born_of s slot there) 0 births (omega arith) (omega (arith, indexed.earlier s slot there))
 
-  pub lwp_of-absent : (tid : ℕ) → lookup (nat_eq tid) es ≡ None → lwp_of tid (rows_of f es births) ≡ None
+  pub lwp_of-absent : (tid : ℕ) → ((s : ℕ) (slot : RowNode) → f s ≡ Some slot → slot.row.tid ≡ tid → ⊥) → lwp_of tid (rows_of f es births) ≡ None
   lwp_of-absent tid none = search (rules, lwp_of-none, born_in)
+
+  -- what a number finds is the row in its slot, if that has the number
+  absent : (tid : ℕ) → node_named f es tid ≡ None → lwp_of tid (rows_of f es births) ≡ None
+  absent tid none = lwp_of-absent tid (λ s slot had its. grind (arith, nat_tests, indexed.listed s slot had))
+
+  led : (tid : ℕ) (slot : RowNode) → node_named f es tid ≡ Some slot → (s : ℕ) × (lookup (nat_eq tid) es ≡ Some s) × (f s ≡ Some slot) × (slot.row.tid ≡ tid)
+  led tid slot is = search (rules, nat_tests, same_Some)
+
+  pub node_named-is : (tid : ℕ) → option_map (λ slot. slot.row) (node_named f es tid) ≡ lwp_of tid (rows_of f es births)
+  node_named-is tid = by (node_named f es tid) refl
+    where
+      by : (o : Option RowNode) → node_named f es tid ≡ o → option_map (λ slot. slot.row) o ≡ lwp_of tid (rows_of f es births)
+      by None is = sym (absent tid is)
+      by (Some slot) is = let at = led tid slot is in grind (arith, nat_tests, lwp_of-slot at.0 slot at.2, at.3)
 
   -- a number with a row has a slot
   pub slot_for : (tid : ℕ) (row : LwpData) → lwp_of tid (rows_of f es births) ≡ Some row → (s : ℕ) × (slot : RowNode) × (lookup (nat_eq tid) es ≡ Some s) × (f s ≡ Some slot) × (slot.row ≡ row) × (slot.row.tid ≡ tid)
-  slot_for tid row is = search (rules, lwp_of-absent, same_Some, lwp_of-slot)
+  slot_for tid row is = let slot = came (λ slot. slot.row) (node_named f es tid) row (node_named-is tid ∙ is) in let at = led tid slot.0 slot.1 in (at.0, slot.0, at.1, at.2, slot.2, at.3)
 
-  -- the row in a number's slot
-  pub lwp_of-found : (tid s : ℕ) (slot : RowNode) → lookup (nat_eq tid) es ≡ Some s → f s ≡ Some slot → (slot.row.tid ≡ tid) × (lwp_of tid (rows_of f es births) ≡ Some slot.row)
-  lwp_of-found tid s slot at there = search (rules, same_Some, lwp_of-slot)
+  -- the number leads to its slot
+  pub leads : (tid : ℕ) → IsSome (lwp_of tid (rows_of f es births)) → IsSome (lookup (nat_eq tid) es)
+  leads tid has = let row = some_of _ has in ap is_some (slot_for tid row.0 row.1).2
 
-  pub no_slot : (tid : ℕ) → lwp_of tid (rows_of f es births) ≡ None → lookup (nat_eq tid) es ≡ None
-  no_slot tid none = search (rules, lwp_of-slot)
+  pub slot_has : (tid s : ℕ) → IsSome (lwp_of tid (rows_of f es births)) → lookup (nat_eq tid) es ≡ Some s → IsSome (f s)
+  slot_has tid s has at = let row = some_of _ has in let found = slot_for tid row.0 row.1 in grind (arith, nat_tests, found.2, same_Some)
+
+  -- the row in the slot of a number that has a row
+  pub lwp_of-found : (tid s : ℕ) (slot : RowNode) → IsSome (lwp_of tid (rows_of f es births)) → lookup (nat_eq tid) es ≡ Some s → f s ≡ Some slot → (slot.row.tid ≡ tid) × (lwp_of tid (rows_of f es births) ≡ Some slot.row)
+  lwp_of-found tid s slot has at there = let row = some_of _ has in let found = slot_for tid row.0 row.1 in grind (arith, nat_tests, found.2, same_Some)
 
   -- one slot changes its face
   module _ (g : ℕ → Option RowNode) (es' : List (ℕ × ℕ)) (q : ℕ) (others : (s : ℕ) → s ≢ q → option_map face (g s) ≡ option_map face (f s)) where
@@ -83,14 +101,14 @@ module _ (f : ℕ → Option RowNode) (es : List (ℕ × ℕ)) (births : ℕ) (i
         ))
 
     module _ (new : RowNode) (vacant : f q ≡ None) (has : g q ≡ Some new) (last : new.born ≡ births)
-        (fresh : lookup (nat_eq new.row.tid) es ≡ None) (change : (p : ℕ) → lookup (nat_eq p) es' ≡ cond (nat_eq new.row.tid p) (Some q) (lookup (nat_eq p) es)) where
+        (fresh : (s : ℕ) (slot : RowNode) → f s ≡ Some slot → slot.row.tid ≡ new.row.tid → ⊥) (change : (p : ℕ) → lookup (nat_eq p) es' ≡ cond (nat_eq new.row.tid p) (Some q) (lookup (nat_eq p) es)) where
       pub IsIndexed-added : IsIndexed g es' (births + 1)
       IsIndexed-added = grind (arith, nat_tests, test_same, backward, test_apart, onward, same_Some)
 
       pub rows_of-added : rows_of g es' (births + 1) ≡ rows_of f es births ++ new.row ∷ []
       rows_of-added = grind (arith, nat_tests, listing-end (born_row g es') 0 births, born_listed g (IsIndexed-added).apart q new new.row.tid has es' ((IsIndexed-added).listed q new has), listing-same (born_row g es') (born_row f es) 0 births (λ k least less. born_others (births + 1) (IsIndexed-added) k (λ slot is. absurd (cc (is, vacant))) (λ slot is. grind (arith, nat_tests))))
 
-    module _ (old : RowNode) (had : f q ≡ Some old) (gone : g q ≡ None) (change : (p : ℕ) → lookup (nat_eq p) es' ≡ cond (nat_eq old.row.tid p) None (lookup (nat_eq p) es)) where
+    module _ (old : RowNode) (had : f q ≡ Some old) (gone : g q ≡ None) (same_es : es' ≡ es) where
       pub IsIndexed-removed : IsIndexed g es' births
       IsIndexed-removed = grind (arith, nat_tests, test_same, backward, test_apart, onward, same_Some)
 
@@ -120,4 +138,4 @@ module _ (f : ℕ → Option RowNode) (es : List (ℕ × ℕ)) (births : ℕ) (i
           listing-mapped (put_lwp new.row) (born_row g es') (born_row f es) (λ k. grind (arith, nat_tests, others_k k, put_k k (born_row f es k), born_of q old had, here)) 0 births
 
 -- what a number finds
-pub ruleset number_laws = (lwp_of-absent, lwp_of-found)
+pub ruleset number_laws = (node_named-is)

@@ -1,17 +1,17 @@
 -- What a table keeps after each change, and the rows that it then has.
-use Rattle.lwp_table.proofs.CommonNames.{◌≡◌, ◌≢◌, ℕ, ◌+◌, ◌-◌, ◌<◌, ◌≤◌, Bool, true, false, ◌&&◌, ◌||◌, not, List, [], ◌∷◌, ◌++◌, Option, Some, None, IsSome, IfSome, is_some, refl, sym, ap, subst}
-use Rattle.lwp_table.proofs.CommonNames.{◌∙◌, arith, inl, inr, cond, nat_eq, is_none, length, count_by, get_or, set, unwrap_or, replicate, rules, lookup, option_map, option_or, IsSomeAnd, eqb_tells}
-use Rattle.lwp_table.proofs.CommonNames.{nat_tests, same_Some, get_or-replicate, length-map, LwpData, RowNode, ListHead, lwp_of, put_lwp, with_lwp, without_lwp, Differ, Node, IsNearest, IsChain}
-use Rattle.lwp_table.proofs.CommonNames.{up, down, anywhere, joined, own_node, seen_by, all_node, is_of, is_at, place_of, linked, closed_up, ends_at, may_pend, marked, empty_head}
+use Rattle.lwp_table.proofs.CommonNames.{◌≡◌, ◌≢◌, ℕ, ◌+◌, ◌<◌, ◌≤◌, Bool, true, false, ◌||◌, not, List, [], ◌∷◌, ◌++◌, Option, Some, None, IsSome, IfSome, is_some, refl, sym, ap, subst}
+use Rattle.lwp_table.proofs.CommonNames.{◌∙◌, arith, inl, inr, cond, nat_eq, count_by, get_or, set, replicate, rules, lookup, option_map, IsSomeAnd, eqb_tells}
+use Rattle.lwp_table.proofs.CommonNames.{nat_tests, same_Some, get_or-replicate, LwpData, RowNode, ListHead, lwp_of, with_lwp, without_lwp, Differ, Node, IsNearest, IsChain}
+use Rattle.lwp_table.proofs.CommonNames.{up, anywhere, joined, own_node, seen_by, user_node, is_of, is_at, place_of, linked, closed_up, extended, without_slot, ends_at, may_pend, marked, empty_head}
 use Rattle.lwp_table.proofs.CommonNames.{born_row, rows_of, IsIndexed, LwpTableInvariant}
-use Rattle.lwp_table.specs.declared.links.Link.TheVariants.{NextOwn, NextAll}
+use Rattle.lwp_table.specs.declared.links.Link.TheVariants.{NextOwn, NextUser}
+use Rattle.std.proofs.lemmas.List.{length-set}
 use Rattle.lwp_table.proofs.WordLemmas.{both_calm, test_same, test_apart}
 use Rattle.lwp_table.proofs.ChainLemmas.{AreApart, bridged, IsChain-left, IsChain-left_other}
 use Rattle.lwp_table.proofs.JoinLemmas.{IsChain-appended, IsChain-appended_other}
 use Rattle.lwp_table.proofs.Numbered.{count-without, count-put}
-use Rattle.lwp_table.proofs.WalkLemmas.{first-row}
-use Rattle.lwp_table.proofs.CountLemmas.{one, count-end, count-below, count-none, length-end, length-without, length-listing, at_yes, at_no, users_set}
-use Rattle.lwp_table.proofs.IndexLemmas.{some_and, came, carried, differ, face, lwp_of-slot, lwp_of-found, no_slot, IsIndexed-added, rows_of-added, IsIndexed-removed, rows_of-removed, IsIndexed-set}
+use Rattle.lwp_table.proofs.CountLemmas.{one, count-end, count-below, user_put}
+use Rattle.lwp_table.proofs.IndexLemmas.{some_and, came, carried, differ, face, lwp_of-slot, lwp_of-found, IsIndexed-added, rows_of-added, IsIndexed-removed, rows_of-removed, IsIndexed-set}
 use Rattle.lwp_table.proofs.IndexLemmas.{rows_of-set}
 
 -- a slot that has a value keeps one
@@ -34,10 +34,6 @@ module _ (f mid g : ℕ → Option RowNode) (q : ℕ) (others : (s : ℕ) → s 
   pub seen_same : {X : Type 0} (h : RowNode → X) → ((s : ℕ) (slot : RowNode) → h (l s slot) ≡ h slot) → (s : ℕ) → s ≢ q → option_map h (g s) ≡ option_map h (f s)
   seen_same h same s off = grind (arith, nat_tests)
 
--- a list with no first node has no last one
-no_last : (f : ℕ → Option Node) (t : ℕ) (o : Option ℕ) → IsNearest down f t anywhere o → IsNearest up f t anywhere None → o ≡ None
-no_last f t o last first = grind (arith, nat_tests)
-
 -- a list with a slot has a first one
 pub first_there : (f : ℕ → Option RowNode) (p : ℕ) (o : Option ℕ) → IsNearest up (seen_by own_node f) p anywhere o → (s : ℕ) (slot : RowNode) → f s ≡ Some slot → slot.row.pid ≡ p → is_some o ≡ true
 first_there f p None near s slot there on = absurd (near s (own_node slot) (ap (option_map own_node) there) on tt)
@@ -56,55 +52,56 @@ IsChain-same : (f g : ℕ → Option Node) (t : ℕ) (first last : Option ℕ) �
 IsChain-same f g t first last same chain = subst (λ h. IsChain h t first last) (λ i s. same s i) chain
 
 -- a row more: its slot is taken, the slots before it are linked to it, and its number finds it
-pub record HasJoined (f : ℕ → Option RowNode) (es : List (ℕ × ℕ)) (hs : List (ℕ × ListHead)) (all : ListHead) (births : ℕ) (row : LwpData) (q : ℕ) (own : ListHead) (g : ℕ → Option RowNode) (es' : List (ℕ × ℕ)) : Type 0 where
-  pub own_is : own ≡ ends_at hs row.pid
+pub record HasJoined (f : ℕ → Option RowNode) (es : List (ℕ × ℕ)) (own user : ListHead) (births : ℕ) (row : LwpData) (q : ℕ) (g : ℕ → Option RowNode) (es' : List (ℕ × ℕ)) : Type 0 where
+  pub within : place_of row.tid < 64
   pub vacant : f q ≡ None
   pub taken : ℕ → Option RowNode
-  pub put : taken q ≡ Some (record { row = row; born = births; own = record { prev = own.last; next = None }; all = record { prev = all.last; next = None } })
+  pub put : taken q ≡ Some (record { row = row; born = births; own = record { prev = own.last; next = None }; user = record { prev = user.last; next = None } })
   pub others : (s : ℕ) → s ≢ q → taken s ≡ f s
   pub listed : ℕ → Option RowNode
   pub links_own : (s : ℕ) → listed s ≡ option_map (linked NextOwn own.last (Some q) s) (taken s)
-  pub links_all : (s : ℕ) → g s ≡ option_map (linked NextAll all.last (Some q) s) (listed s)
+  pub links_user : (s : ℕ) → g s ≡ option_map (linked NextUser user.last (Some q) s) (listed s)
   pub change : (p : ℕ) → lookup (nat_eq p) es' ≡ cond (nat_eq row.tid p) (Some q) (lookup (nat_eq p) es)
   pub fresh : lwp_of row.tid (rows_of f es births) ≡ None
 
--- a row less: the one with the number has left its slot, its neighbours are linked, and these are the ends of its
--- process's list
-pub record HasLeft (f : ℕ → Option RowNode) (es : List (ℕ × ℕ)) (hs : List (ℕ × ListHead)) (tid q : ℕ) (old : RowNode) (g : ℕ → Option RowNode) (es' : List (ℕ × ℕ)) (left : ListHead) : Type 0 where
-  pub at : lookup (nat_eq tid) es ≡ Some q
+-- a row less: the one with the number has left its slot, and its neighbours are linked
+pub record HasLeft (f : ℕ → Option RowNode) (tid q : ℕ) (old : RowNode) (g : ℕ → Option RowNode) : Type 0 where
+  pub its : old.row.tid ≡ tid
+  pub within : place_of old.row.tid < 64
   pub had : f q ≡ Some old
   pub rest : ℕ → Option RowNode
   pub gone : rest q ≡ None
   pub others : (s : ℕ) → s ≢ q → rest s ≡ f s
   pub closed : (s : ℕ) → g s ≡ option_map (closed_up old s) (rest s)
-  pub change : (p : ℕ) → lookup (nat_eq p) es' ≡ cond (nat_eq tid p) None (lookup (nat_eq p) es)
-  pub first : left.first ≡ cond (is_none old.own.prev) old.own.next (ends_at hs old.row.pid).first
-  pub last : left.last ≡ cond (is_none old.own.next) old.own.prev (ends_at hs old.row.pid).last
-  pub count : left.count + 1 ≡ (ends_at hs old.row.pid).count
-  pub pends : left.may_pend ≡ (is_some left.first && (ends_at hs old.row.pid).may_pend)
 
-module _ {f : ℕ → Option RowNode} {es : List (ℕ × ℕ)} {hs : List (ℕ × ListHead)} {all : ListHead} {births : ℕ} {users : List ℕ} {may : ℕ → Bool} (kept : LwpTableInvariant f es hs all births users may) where
+module _ {f : ℕ → Option RowNode} {es : List (ℕ × ℕ)} {hs : List (ℕ × ListHead)} {births : ℕ} {users : List ListHead} {may : ℕ → Bool} (kept : LwpTableInvariant f es hs births users may) where
   -- no count is greater than the number of births
   pub own_count : (pid : ℕ) → (ends_at hs pid).count ≤ births
   own_count pid = omega (arith, kept.counted pid, count-below (is_of pid) (born_row f es) 0 births)
 
-  pub all_count : all.count ≤ births
-  all_count = omega (arith, kept.total, length-listing (born_row f es) 0 births)
+  pub user_count : (place : ℕ) → place < 64 → (get_or users place empty_head).count ≤ births
+  user_count place within = omega (arith, kept.homes place within, count-below (is_at place) (born_row f es) 0 births)
 
   -- a row more
-  module _ (row : LwpData) (q : ℕ) (own : ListHead) (g : ℕ → Option RowNode) (es' : List (ℕ × ℕ)) (joins : HasJoined f es hs all births row q own g es') where
-    abbrev new : RowNode
-    new = record { row = row; born = births; own = record { prev = own.last; next = None }; all = record { prev = all.last; next = None } }
+  module _ (row : LwpData) (q : ℕ) (g : ℕ → Option RowNode) (es' : List (ℕ × ℕ)) (joins : HasJoined f es (ends_at hs row.pid) (get_or users (place_of row.tid) empty_head) births row q g es') where
+    -- the ends of the two lists before
+    abbrev own : ListHead
+    own = ends_at hs row.pid
 
-    -- what becomes of each slot
-    abbrev both : ℕ → RowNode → RowNode
-    both s slot = linked NextAll all.last (Some q) s (linked NextOwn own.last (Some q) s slot)
+    abbrev user : ListHead
+    user = get_or users (place_of row.tid) empty_head
+
+    abbrev new : RowNode
+    new = record { row = row; born = births; own = record { prev = own.last; next = None }; user = record { prev = user.last; next = None } }
 
     own_chain : IsChain (seen_by own_node f) row.pid own.first own.last
-    own_chain = subst (λ (e : ListHead). IsChain (seen_by own_node f) row.pid e.first e.last) (sym joins.own_is) (kept.own row.pid)
+    own_chain = kept.own row.pid
+
+    user_chain : IsChain (seen_by user_node f) (place_of row.tid) user.first user.last
+    user_chain = kept.user (place_of row.tid) joins.within
 
     has : g q ≡ Some new
-    has = grind (arith, nat_tests, test_apart, own_chain)
+    has = grind (arith, nat_tests, test_apart, own_chain, user_chain)
 
     faces : (s : ℕ) → s ≢ q → option_map face (g s) ≡ option_map face (f s)
     faces = grind (arith, nat_tests, seen_same, face)
@@ -112,63 +109,64 @@ module _ {f : ℕ → Option RowNode} {es : List (ℕ × ℕ)} {hs : List (ℕ �
     own_g : (s : ℕ) → s ≢ q → seen_by own_node g s ≡ option_map (joined own.last None q s) (seen_by own_node f s)
     own_g = grind (arith, nat_tests, seen)
 
-    all_g : (s : ℕ) → s ≢ q → seen_by all_node g s ≡ option_map (joined all.last None q s) (seen_by all_node f s)
-    all_g = grind (arith, nat_tests, seen)
+    user_g : (s : ℕ) → s ≢ q → seen_by user_node g s ≡ option_map (joined user.last None q s) (seen_by user_node f s)
+    user_g = grind (arith, nat_tests, seen)
 
-    vacant_es : lookup (nat_eq row.tid) es ≡ None
-    vacant_es = no_slot f es births kept.indexed row.tid joins.fresh
+    unused : (s : ℕ) (slot : RowNode) → f s ≡ Some slot → slot.row.tid ≡ row.tid → ⊥
+    unused s slot there its = grind (arith, nat_tests, lwp_of-slot f es births kept.indexed s slot there, joins.fresh)
 
     pub rows-added : rows_of g es' (births + 1) ≡ rows_of f es births ++ row ∷ []
-    rows-added = rows_of-added f es births kept.indexed g es' q faces new joins.vacant has refl vacant_es joins.change
+    rows-added = rows_of-added f es births kept.indexed g es' q faces new joins.vacant has refl unused joins.change
 
-    module _ (hs' : List (ℕ × ListHead)) (first first_all : Option ℕ) (pend : Bool) (first_is : first ≡ option_or own.first (Some q)) (all_is : first_all ≡ option_or all.first (Some q))
-        (heads : (p : ℕ) → lookup (nat_eq p) hs' ≡ cond (nat_eq row.pid p) (Some (record { first = first; last = Some q; count = own.count + 1; may_pend = pend })) (lookup (nat_eq p) hs))
-        (owner : ℕ) (owner_is : owner ≡ place_of row.tid) (within : owner < 64) (long : length users ≡ 64)
-        (told : (p : ℕ) → may_pend hs p ≡ false → may p ≡ false) (calm : pend ≡ false → (own.may_pend ≡ false) × (row.pending ≡ 0)) where
-      ends : (p : ℕ) → ends_at hs' p ≡ cond (nat_eq row.pid p) (record { first = first; last = Some q; count = own.count + 1; may_pend = pend }) (ends_at hs p)
-      ends p = search (rules, unwrap_or, heads)
-
-      -- the new row's process may have pending signals if it might before, or the row has some
-      pend_is : (p : ℕ) → row.pid ≡ p → may_pend hs' p ≡ pend
-      pend_is p is = grind (arith, nat_tests, ends p)
-
+    module _ (hs' : List (ℕ × ListHead)) (pends : Bool) (ends : (p : ℕ) → ends_at hs' p ≡ cond (nat_eq row.pid p) (extended q pends (ends_at hs p)) (ends_at hs p))
+        (told : (p : ℕ) → may_pend hs p ≡ false → may p ≡ false) (calm : pends ≡ false → row.pending ≡ 0) where
       lower : (s : ℕ) (slot : RowNode) → g s ≡ Some slot → may_pend hs' slot.row.pid ≡ false → may slot.row.pid ≡ false
-      lower s slot there none = grind (arith, nat_tests, pend_is, ends)
+      lower s slot there none = grind (arith, nat_tests, ends slot.row.pid, told slot.row.pid)
 
-      pub LwpTableInvariant-added : LwpTableInvariant g es' hs' (record { first = first_all; last = Some q; count = all.count + 1; may_pend = false }) (births + 1) (set users owner (get_or users owner 0 + 1)) (may_pend hs')
-      LwpTableInvariant-added = record {
-        indexed = IsIndexed-added f es births kept.indexed g es' q faces new joins.vacant has refl vacant_es joins.change;
+      puts : (place : ℕ) → get_or (set users (place_of row.tid) (extended q false user)) place empty_head ≡ cond (nat_eq (place_of row.tid) place) (extended q false user) (get_or users place empty_head)
+      puts = user_put users (place_of row.tid) (extended q false user) kept.long joins.within
+
+      added : LwpTableInvariant g es' hs' (births + 1) (set users (place_of row.tid) (extended q false user)) (may_pend hs')
+      added = record {
+        indexed = IsIndexed-added f es births kept.indexed g es' q faces new joins.vacant has refl unused joins.change;
         own = λ p. elim (eqb_tells row.pid p) [
           | inl h ↦
               let chain = IsChain-appended (seen_by own_node f) (seen_by own_node g) (nodes_apart f own_node (λ slot. refl) kept.indexed.apart) row.pid own.first own.last own_chain q (own_node new) (ap (option_map own_node) joins.vacant) (ap (option_map own_node) has) refl refl refl own_g
               (nodes_earlier f own_node (λ slot. refl) births kept.indexed.earlier) in
-              rw (ends p, h.0, ← h.1, first_is) chain
+              rw (ends p, h.0, ← h.1) chain
           | inr h ↦
               rw (ends p, h.0) (IsChain-appended_other (seen_by own_node f) (seen_by own_node g) (nodes_apart f own_node (λ slot. refl) kept.indexed.apart) row.pid own.first own.last own_chain q (own_node new) (ap (option_map own_node) joins.vacant) (ap (option_map own_node) has) refl refl refl own_g
               (nodes_earlier f own_node (λ slot. refl) births kept.indexed.earlier) p (ends_at hs p).first (ends_at hs p).last (λ e. h.1 (sym e)) (kept.own p))
         ];
-        whole =
-            rw all_is (IsChain-appended (seen_by all_node f) (seen_by all_node g) (nodes_apart f all_node (λ slot. refl) kept.indexed.apart) 0 all.first all.last kept.whole q (all_node new) (ap (option_map all_node) joins.vacant) (ap (option_map all_node) has) refl refl refl all_g
-            (nodes_earlier f all_node (λ slot. refl) births kept.indexed.earlier));
+        long = length-set users (place_of row.tid) (extended q false user) ∙ kept.long;
+        user = λ p below. elim (eqb_tells (place_of row.tid) p) [
+          | inl h ↦
+              let chain = IsChain-appended (seen_by user_node f) (seen_by user_node g) (nodes_apart f user_node (λ slot. refl) kept.indexed.apart) (place_of row.tid) user.first user.last user_chain q (user_node new) (ap (option_map user_node) joins.vacant) (ap (option_map user_node) has) refl refl refl user_g
+              (nodes_earlier f user_node (λ slot. refl) births kept.indexed.earlier) in
+              rw (puts p, h.0, ← h.1) chain
+          | inr h ↦
+              rw (puts p, h.0) (IsChain-appended_other (seen_by user_node f) (seen_by user_node g) (nodes_apart f user_node (λ slot. refl) kept.indexed.apart) (place_of row.tid) user.first user.last user_chain q (user_node new) (ap (option_map user_node) joins.vacant) (ap (option_map user_node) has) refl refl refl user_g
+              (nodes_earlier f user_node (λ slot. refl) births kept.indexed.earlier) p (get_or users p empty_head).first (get_or users p empty_head).last (λ e. h.1 (sym e)) (kept.user p below))
+        ];
         counted = λ p. rw (rows-added, count-end (is_of p) (rows_of f es births) row, ends p) (elim (eqb_tells row.pid p) [
-          | inl h ↦ rw h.0 (omega (arith, kept.counted row.pid, ap (λ (e : ListHead). e.count) joins.own_is, ap (λ n. count_by (is_of n) (rows_of f es births)) h.1))
+          | inl h ↦ rw h.0 (omega (arith, kept.counted p))
           | inr h ↦ rw h.0 (omega (arith, kept.counted p))
         ]);
-        total = rw (rows-added, length-end (rows_of f es births) row) (ap (λ n. n + 1) kept.total);
-        homes = users_set users (rows_of f es births) (rows_of g es' (births + 1)) owner _ long within
-            (rw (rows-added, count-end (is_at owner) (rows_of f es births) row) (omega (arith, kept.homes owner within, ap one (at_yes owner row owner_is))))
-            (λ place off. rw (rows-added, count-end (is_at place) (rows_of f es births) row) (omega (arith, ap one (at_no owner place row owner_is off))))
-            kept.homes;
-        quiet = quiet_kept f g may (may_pend hs') q faces kept.quiet lower
-            (λ slot there none. let same = same_Some slot new (sym there ∙ has) in
-            ap (λ (x : RowNode). x.row.pending) same ∙ (calm (sym (pend_is slot.row.pid (ap (λ (x : RowNode). x.row.pid) (sym same))) ∙ none)).1);
+        homes = λ p below. rw (rows-added, count-end (is_at p) (rows_of f es births) row, puts p) (elim (eqb_tells (place_of row.tid) p) [
+          | inl h ↦ rw (h.0, ← h.1) (omega (arith, kept.homes (place_of row.tid) joins.within))
+          | inr h ↦ rw h.0 (omega (arith, kept.homes p below))
+        ]);
+        quiet = quiet_kept f g may (may_pend hs') q faces kept.quiet lower (λ slot there none. grind (arith, nat_tests, ends slot.row.pid, has, same_Some slot new));
       }
+
+      pub LwpTableInvariant-added : (users' : List ListHead) → users' ≡ set users (place_of row.tid) (extended q false user) → LwpTableInvariant g es' hs' (births + 1) users' (may_pend hs')
+      LwpTableInvariant-added users' is = subst (λ us. LwpTableInvariant g es' hs' (births + 1) us (may_pend hs')) (sym is) added
 
   -- the row of a number's slot is replaced by one of the same LWP
   module _ (row : LwpData) (q : ℕ) (old : RowNode) (g : ℕ → Option RowNode) (its : IsSomeAnd (lwp_of row.tid (rows_of f es births)) (λ was. was.pid ≡ row.pid)) (at : lookup (nat_eq row.tid) es ≡ Some q) (had : f q ≡ Some old)
       (has : g q ≡ Some (record old { row = row })) (same_g : (s : ℕ) → s ≢ q → g s ≡ f s) where
     found : (old.row.tid ≡ row.tid) × (lwp_of row.tid (rows_of f es births) ≡ Some old.row)
-    found = lwp_of-found f es births kept.indexed row.tid q old at had
+    found = lwp_of-found f es births kept.indexed row.tid q old (let was = some_and _ _ its in ap is_some was.1) at had
 
     pub pids : old.row.pid ≡ row.pid
     pids = let was = some_and _ _ its in ap (λ (r : LwpData). r.pid) (same_Some old.row was.0 (sym found.1 ∙ was.1)) ∙ was.2
@@ -187,31 +185,31 @@ module _ {f : ℕ → Option RowNode} {es : List (ℕ × ℕ)} {hs : List (ℕ �
     counts : (p : LwpData → Bool) → p old.row ≡ p row → count_by p (rows_of f es births) ≡ count_by p (rows_of g es births)
     counts p same = sym (ap (count_by p) rows-set ∙ count-put (λ (l : LwpData). l.tid) p row old.row (rows_of f es births) (differ f es births kept.indexed) found.1 same)
 
-    pub LwpTableInvariant-set : (may row.pid ≡ false → row.pending ≡ 0) → LwpTableInvariant g es hs all births users may
+    pub LwpTableInvariant-set : (may row.pid ≡ false → row.pending ≡ 0) → LwpTableInvariant g es hs births users may
     LwpTableInvariant-set calm = record {
       indexed = IsIndexed-set f es births kept.indexed g es q set_faces old (record old { row = row }) had has refl (sym found.0) refl;
       own = λ p. IsChain-same (seen_by own_node f) (seen_by own_node g) p _ _ (set_nodes own_node (λ i. record { key = old.born; list = pids i; prev = old.own.prev; next = old.own.next })) (kept.own p);
-      whole = IsChain-same (seen_by all_node f) (seen_by all_node g) 0 _ _ (set_nodes all_node refl) kept.whole;
+      long = kept.long;
+      user = λ p below. IsChain-same (seen_by user_node f) (seen_by user_node g) p _ _ (set_nodes user_node (λ i. record { key = old.born; list = place_of (found.0 i); prev = old.user.prev; next = old.user.next })) (kept.user p below);
       counted = λ p. kept.counted p ∙ counts (is_of p) (ap (λ n. nat_eq n p) pids);
-      total = kept.total ∙ sym (ap length rows-set ∙ length-map (rows_of f es births) (put_lwp row));
       homes = λ place within. kept.homes place within ∙ counts (is_at place) (ap (λ n. nat_eq (place_of n) place) found.0);
       quiet = quiet_kept f g may may q set_faces kept.quiet (λ s slot there none. none) (λ slot there none. grind (arith, nat_tests));
     }
 
   -- less is said of pending signals
-  pub LwpTableInvariant-may : (more : ℕ → Bool) → ((p : ℕ) → more p ≡ false → may p ≡ false) → LwpTableInvariant f es hs all births users more
+  pub LwpTableInvariant-may : (more : ℕ → Bool) → ((p : ℕ) → more p ≡ false → may p ≡ false) → LwpTableInvariant f es hs births users more
   LwpTableInvariant-may more told = grind (arith, nat_tests)
 
   -- it is noted of one process whether its rows may have pending signals
   pub LwpTableInvariant-marked : (pid : ℕ) (b : Bool) (hs' : List (ℕ × ListHead)) → ((p : ℕ) → ends_at hs' p ≡ cond (nat_eq pid p) (marked b (ends_at hs p)) (ends_at hs p))
       → (b ≡ false → (s : ℕ) (slot : RowNode) → f s ≡ Some slot → slot.row.pid ≡ pid → slot.row.pending ≡ 0)
-      → ((p : ℕ) → nat_eq pid p ≡ false → may_pend hs p ≡ false → may p ≡ false) → LwpTableInvariant f es hs' all births users (may_pend hs')
+      → ((p : ℕ) → nat_eq pid p ≡ false → may_pend hs p ≡ false → may p ≡ false) → LwpTableInvariant f es hs' births users (may_pend hs')
   LwpTableInvariant-marked pid b hs' marks calm told = record {
     indexed = kept.indexed;
     own = λ p. grind (arith, nat_tests, marks p, kept.own p);
-    whole = kept.whole;
+    long = kept.long;
+    user = kept.user;
     counted = λ p. grind (arith, nat_tests, marks p, kept.counted p);
-    total = kept.total;
     homes = kept.homes;
     quiet = λ s slot there none. grind (arith, nat_tests, marks slot.row.pid, first_there f slot.row.pid (ends_at hs slot.row.pid).first (kept.own slot.row.pid).first_is s slot there, calm, told slot.row.pid, kept.quiet s slot there);
   }
@@ -219,7 +217,7 @@ module _ {f : ℕ → Option RowNode} {es : List (ℕ × ℕ)} {hs : List (ℕ �
   -- it is noted that a row's process may have pending signals, if it may already or the row has some
   module _ (row : LwpData) (hs' : List (ℕ × ListHead)) (told : (p : ℕ) → may_pend hs p ≡ false → may p ≡ false)
       (marks : (p : ℕ) → ends_at hs' p ≡ cond (nat_eq row.pid p) (marked (may_pend hs row.pid || not (nat_eq row.pending 0)) (ends_at hs p)) (ends_at hs p)) where
-    pub LwpTableInvariant-noted : LwpTableInvariant f es hs' all births users (may_pend hs')
+    pub LwpTableInvariant-noted : LwpTableInvariant f es hs' births users (may_pend hs')
     LwpTableInvariant-noted = grind (arith, nat_tests, LwpTableInvariant-marked, both_calm)
 
     pub noted : (s : ℕ) (slot : RowNode) → f s ≡ Some slot → slot.row.pid ≡ row.pid → may_pend hs' row.pid ≡ false → row.pending ≡ 0
@@ -235,21 +233,25 @@ module _ {f : ℕ → Option RowNode} {es : List (ℕ × ℕ)} {hs : List (ℕ �
     pub own_positive : 0 < (ends_at hs old.row.pid).count
     own_positive = omega (arith, kept.counted old.row.pid, counts_without (is_of old.row.pid), ap one (test_same old.row.pid))
 
-    pub user_positive : (owner : ℕ) → owner ≡ place_of old.row.tid → owner < 64 → 0 < get_or users owner 0
-    user_positive owner is within = omega (arith, kept.homes owner within, counts_without (is_at owner), ap one (at_yes owner old.row is))
+    pub user_positive : place_of old.row.tid < 64 → 0 < (get_or users (place_of old.row.tid) empty_head).count
+    user_positive within = omega (arith, kept.homes (place_of old.row.tid) within, counts_without (is_at (place_of old.row.tid)), ap one (test_same (place_of old.row.tid)))
 
     -- its neighbours are in their slots when it has left
     module _ (rest : ℕ → Option RowNode) (others : (s : ℕ) → s ≢ q → rest s ≡ f s) where
       still : (node : RowNode → Node) (le : ℕ → ℕ → Type 0) (t : ℕ) (P : ℕ → Type 0) (o : Option ℕ) → ((n : RowNode) → (node n).key ≡ n.born) → (P old.born → ⊥) → IsNearest le (seen_by node f) t P o → IfSome o (λ s. IsSome (rest s))
       still node le t P o keys not near = grind (arith, nat_tests, came, same_Some)
 
-      pub neighbours : IfSome old.own.prev (λ s. IsSome (rest s)) × IfSome old.own.next (λ s. IsSome (rest s)) × IfSome old.all.prev (λ s. IsSome (rest s)) × IfSome old.all.next (λ s. IsSome (rest s))
-      neighbours = grind (arith, nat_tests, still, (kept.own old.row.pid).prev_is q (own_node old), (kept.own old.row.pid).next_is q (own_node old), kept.whole.prev_is q (all_node old), kept.whole.next_is q (all_node old))
+      pub neighbours : place_of old.row.tid < 64 → IfSome old.own.prev (λ s. IsSome (rest s)) × IfSome old.own.next (λ s. IsSome (rest s)) × IfSome old.user.prev (λ s. IsSome (rest s)) × IfSome old.user.next (λ s. IsSome (rest s))
+      neighbours within = let chain = kept.user (place_of old.row.tid) within in grind (arith, nat_tests, still, (kept.own old.row.pid).prev_is q (own_node old), (kept.own old.row.pid).next_is q (own_node old), chain.prev_is q (user_node old), chain.next_is q (user_node old))
 
   -- a row goes
-  module _ (tid q : ℕ) (old : RowNode) (g : ℕ → Option RowNode) (es' : List (ℕ × ℕ)) (left : ListHead) (leaves : HasLeft f es hs tid q old g es' left) where
-    change : (p : ℕ) → lookup (nat_eq p) es' ≡ cond (nat_eq old.row.tid p) None (lookup (nat_eq p) es)
-    change = grind (arith, nat_tests, lwp_of-found)
+  module _ (tid q : ℕ) (old : RowNode) (g : ℕ → Option RowNode) (leaves : HasLeft f tid q old g) where
+    -- the ends of the two lists afterwards
+    abbrev own_left : ListHead
+    own_left = without_slot old.own (ends_at hs old.row.pid)
+
+    abbrev user_left : ListHead
+    user_left = without_slot old.user (get_or users (place_of old.row.tid) empty_head)
 
     gone_g : g q ≡ None
     gone_g = leaves.closed q ∙ ap (option_map (closed_up old q)) leaves.gone
@@ -260,72 +262,73 @@ module _ {f : ℕ → Option RowNode} {es : List (ℕ × ℕ)} {hs : List (ℕ �
     left_own : (s : ℕ) → s ≢ q → seen_by own_node g s ≡ option_map (bridged old.own.prev old.own.next s) (seen_by own_node f s)
     left_own = seen f leaves.rest g q leaves.others (closed_up old) leaves.closed own_node (bridged old.own.prev old.own.next) (λ s slot. refl)
 
-    left_all : (s : ℕ) → s ≢ q → seen_by all_node g s ≡ option_map (bridged old.all.prev old.all.next s) (seen_by all_node f s)
-    left_all = seen f leaves.rest g q leaves.others (closed_up old) leaves.closed all_node (bridged old.all.prev old.all.next) (λ s slot. refl)
+    left_user : (s : ℕ) → s ≢ q → seen_by user_node g s ≡ option_map (bridged old.user.prev old.user.next s) (seen_by user_node f s)
+    left_user = seen f leaves.rest g q leaves.others (closed_up old) leaves.closed user_node (bridged old.user.prev old.user.next) (λ s slot. refl)
 
-    without : rows_of g es' births ≡ without_lwp old.row.tid (rows_of f es births)
-    without = rows_of-removed f es births kept.indexed g es' q left_faces old leaves.had gone_g change
+    without : rows_of g es births ≡ without_lwp old.row.tid (rows_of f es births)
+    without = rows_of-removed f es births kept.indexed g es q left_faces old leaves.had gone_g refl
 
-    pub rows-removed : rows_of g es' births ≡ without_lwp tid (rows_of f es births)
-    rows-removed = grind (arith, nat_tests, without, lwp_of-found)
+    pub rows-removed : rows_of g es births ≡ without_lwp tid (rows_of f es births)
+    rows-removed = without ∙ ap (λ n. without_lwp n (rows_of f es births)) leaves.its
 
-    indexed : IsIndexed g es' births
-    indexed = IsIndexed-removed f es births kept.indexed g es' q left_faces old leaves.had gone_g change
-
-    fewer : (p : LwpData → Bool) → count_by p (rows_of g es' births) + cond (p old.row) 1 0 ≡ count_by p (rows_of f es births)
+    fewer : (p : LwpData → Bool) → count_by p (rows_of g es births) + cond (p old.row) 1 0 ≡ count_by p (rows_of f es births)
     fewer p = grind (arith, nat_tests, without, counts_without q old leaves.had p)
 
-    chain_left : IsChain (seen_by own_node g) old.row.pid left.first left.last
-    chain_left = rw (leaves.first, leaves.last) (IsChain-left (seen_by own_node f) (seen_by own_node g) (nodes_apart f own_node (λ slot. refl) kept.indexed.apart) old.row.pid (ends_at hs old.row.pid).first (ends_at hs old.row.pid).last (kept.own old.row.pid) q (own_node old)
-        (ap (option_map own_node) leaves.had) refl (ap (option_map own_node) gone_g) left_own)
+    chain_left : IsChain (seen_by own_node g) old.row.pid own_left.first own_left.last
+    chain_left =
+        IsChain-left (seen_by own_node f) (seen_by own_node g) (nodes_apart f own_node (λ slot. refl) kept.indexed.apart) old.row.pid (ends_at hs old.row.pid).first (ends_at hs old.row.pid).last (kept.own old.row.pid) q (own_node old)
+        (ap (option_map own_node) leaves.had) refl (ap (option_map own_node) gone_g) left_own
 
-    -- a list with no first row is empty
-    pub left_empty : left.first ≡ None → left ≡ empty_head
-    left_empty none = grind (arith, nat_tests, no_last (seen_by own_node g) old.row.pid left.last, chain_left, fewer (is_of old.row.pid), leaves.count, kept.counted old.row.pid, leaves.pends, count-none (is_of old.row.pid) (rows_of g es' births) (grind (arith, nat_tests, first-row g es' births indexed old.row.pid None, chain_left)))
-
-    module _ (hs' : List (ℕ × ListHead)) (all' : ListHead) (ends : (p : ℕ) → ends_at hs' p ≡ cond (nat_eq old.row.pid p) left (ends_at hs p))
-        (all_first : all'.first ≡ cond (is_none old.all.prev) old.all.next all.first) (all_last : all'.last ≡ cond (is_none old.all.next) old.all.prev all.last) (all_fewer : all'.count + 1 ≡ all.count)
-        (owner : ℕ) (owner_is : owner ≡ place_of tid) (within : owner < 64) (long : length users ≡ 64) (told : (p : ℕ) → may_pend hs p ≡ false → may p ≡ false) where
-      its_owner : owner ≡ place_of old.row.tid
-      its_owner = grind (arith, nat_tests, lwp_of-found)
-
+    module _ (hs' : List (ℕ × ListHead)) (ends : (p : ℕ) → ends_at hs' p ≡ cond (nat_eq old.row.pid p) (without_slot old.own (ends_at hs p)) (ends_at hs p))
+        (told : (p : ℕ) → may_pend hs p ≡ false → may p ≡ false) where
       -- a row is left in the list, so the ends tell of pending signals as before
       lower_left : (s : ℕ) (slot : RowNode) → g s ≡ Some slot → may_pend hs' slot.row.pid ≡ false → may slot.row.pid ≡ false
-      lower_left s slot there none = grind (arith, nat_tests, eqb_tells old.row.pid slot.row.pid, first_there g slot.row.pid left.first, ends slot.row.pid, chain_left)
+      lower_left s slot there none = grind (arith, nat_tests, eqb_tells old.row.pid slot.row.pid, first_there g slot.row.pid own_left.first, ends slot.row.pid, chain_left)
 
-      pub LwpTableInvariant-removed : LwpTableInvariant g es' hs' all' births (set users owner (get_or users owner 0 - 1)) (may_pend hs')
-      LwpTableInvariant-removed = record {
-        indexed = indexed;
+      put_back : (place : ℕ) → get_or (set users (place_of old.row.tid) user_left) place empty_head ≡ cond (nat_eq (place_of old.row.tid) place) user_left (get_or users place empty_head)
+      put_back = user_put users (place_of old.row.tid) user_left kept.long leaves.within
+
+      removed : LwpTableInvariant g es hs' births (set users (place_of old.row.tid) user_left) (may_pend hs')
+      removed = record {
+        indexed = IsIndexed-removed f es births kept.indexed g es q left_faces old leaves.had gone_g refl;
         own = λ p. elim (eqb_tells old.row.pid p) [
           | inl h ↦ rw (ends p, h.0, ← h.1) chain_left
           | inr h ↦
               rw (ends p, h.0) (IsChain-left_other (seen_by own_node f) (seen_by own_node g) (nodes_apart f own_node (λ slot. refl) kept.indexed.apart) old.row.pid (ends_at hs old.row.pid).first (ends_at hs old.row.pid).last (kept.own old.row.pid) q (own_node old)
               (ap (option_map own_node) leaves.had) refl (ap (option_map own_node) gone_g) left_own p (ends_at hs p).first (ends_at hs p).last (λ e. h.1 (sym e)) (kept.own p))
         ];
-        whole =
-            rw (all_first, all_last) (IsChain-left (seen_by all_node f) (seen_by all_node g) (nodes_apart f all_node (λ slot. refl) kept.indexed.apart) 0 all.first all.last kept.whole q (all_node old)
-            (ap (option_map all_node) leaves.had) refl (ap (option_map all_node) gone_g) left_all);
-        counted = λ p. grind (arith, nat_tests, ends p, kept.counted p, leaves.count, fewer (is_of p));
-        total = rw without (omega (arith, kept.total, all_fewer, length-without old.row.tid old.row (rows_of f es births) (differ f es births kept.indexed) (lwp_of-slot f es births kept.indexed q old leaves.had)));
-        homes = users_set users (rows_of f es births) (rows_of g es' births) owner _ long within
-            (omega (arith, kept.homes owner within, fewer (is_at owner), ap one (at_yes owner old.row its_owner)))
-            (λ place off. omega (arith, fewer (is_at place), ap one (at_no owner place old.row its_owner off)))
-            kept.homes;
+        long = length-set users (place_of old.row.tid) user_left ∙ kept.long;
+        user = λ p below. elim (eqb_tells (place_of old.row.tid) p) [
+          | inl h ↦
+              rw (put_back p, h.0, ← h.1) (IsChain-left (seen_by user_node f) (seen_by user_node g) (nodes_apart f user_node (λ slot. refl) kept.indexed.apart) (place_of old.row.tid) (get_or users (place_of old.row.tid) empty_head).first (get_or users (place_of old.row.tid) empty_head).last (kept.user (place_of old.row.tid) leaves.within) q (user_node old)
+              (ap (option_map user_node) leaves.had) refl (ap (option_map user_node) gone_g) left_user)
+          | inr h ↦
+              rw (put_back p, h.0) (IsChain-left_other (seen_by user_node f) (seen_by user_node g) (nodes_apart f user_node (λ slot. refl) kept.indexed.apart) (place_of old.row.tid) (get_or users (place_of old.row.tid) empty_head).first (get_or users (place_of old.row.tid) empty_head).last (kept.user (place_of old.row.tid) leaves.within) q (user_node old)
+              (ap (option_map user_node) leaves.had) refl (ap (option_map user_node) gone_g) left_user p (get_or users p empty_head).first (get_or users p empty_head).last (λ e. h.1 (sym e)) (kept.user p below))
+        ];
+        counted = λ p. grind (arith, nat_tests, ends p, kept.counted p, fewer (is_of p));
+        homes = λ p below. rw (put_back p) (elim (eqb_tells (place_of old.row.tid) p) [
+          | inl h ↦ rw (h.0, ← h.1) (omega (arith, kept.homes (place_of old.row.tid) leaves.within, fewer (is_at (place_of old.row.tid)), ap one (test_same (place_of old.row.tid))))
+          | inr h ↦ rw h.0 (omega (arith, kept.homes p below, fewer (is_at p), ap one h.0))
+        ]);
         quiet = quiet_kept f g may (may_pend hs') q left_faces kept.quiet lower_left (λ slot there none. absurd (cc (there, gone_g)));
       }
+
+      pub LwpTableInvariant-removed : (users' : List ListHead) → users' ≡ set users (place_of old.row.tid) user_left → LwpTableInvariant g es hs' births users' (may_pend hs')
+      LwpTableInvariant-removed users' is = subst (λ us. LwpTableInvariant g es hs' births us (may_pend hs')) (sym is) removed
 
 -- an empty list, and an empty table
 IsChain-none : (f : ℕ → Option Node) (t : ℕ) → ((s : ℕ) → f s ≡ None) → IsChain f t None None
 IsChain-none f t none = grind (arith, nat_tests)
 
-pub LwpTableInvariant-none : (f : ℕ → Option RowNode) (es : List (ℕ × ℕ)) (hs : List (ℕ × ListHead)) → ((s : ℕ) → f s ≡ None) → es ≡ [] → hs ≡ [] → LwpTableInvariant f es hs empty_head 0 (replicate 64 0) (may_pend hs)
+pub LwpTableInvariant-none : (f : ℕ → Option RowNode) (es : List (ℕ × ℕ)) (hs : List (ℕ × ListHead)) → ((s : ℕ) → f s ≡ None) → es ≡ [] → hs ≡ [] → LwpTableInvariant f es hs 0 (replicate 64 empty_head) (may_pend hs)
 LwpTableInvariant-none f es hs none no_es no_hs = record {
   indexed = grind (arith, nat_tests);
   own = λ p. grind (arith, nat_tests, IsChain-none);
-  whole = grind (arith, nat_tests, IsChain-none);
+  long = refl;
+  user = λ place within. rw (get_or-replicate 64 place empty_head empty_head (omega (arith, within))) (IsChain-none (seen_by user_node f) place (λ s. ap (option_map user_node) (none s)));
   counted = λ p. rw no_hs refl;
-  total = refl;
-  homes = λ place within. get_or-replicate 64 place 0 0 (omega (arith, within));
+  homes = λ place within. ap (λ (e : ListHead). e.count) (get_or-replicate 64 place empty_head empty_head (omega (arith, within)));
   quiet = λ s slot there is. absurd (cc (there, none s));
 }
 

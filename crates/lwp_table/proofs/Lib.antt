@@ -10,3 +10,4 @@ pub mod KeptLemmas
 pub mod EditLemmas
 pub mod WalkLemmas
 pub mod CloneLemmas
+pub mod BirthLemmas

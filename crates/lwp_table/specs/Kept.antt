@@ -1,7 +1,7 @@
 -- How a table stores its rows: in slots, each with a birth number, and with links in order of birth.
-use Rattle.std.specs.Prelude.{◌≡◌, ℕ, zero, suc, ◌+◌, ◌-◌, ◌<◌, Bool, false, ◌==◌, List, [], Option, Some, None, nat_eq, count_by, length, find, filter_map, is_some, if◌then◌else◌, unwrap_or, slice_index, IfSome, IsSomeAnd}
+use Rattle.std.specs.Prelude.{◌≡◌, ℕ, zero, suc, ◌+◌, ◌-◌, ◌<◌, Bool, false, ◌==◌, ◌&&◌, ◌||◌, List, [], Option, Some, None, nat_eq, count_by, length, find, filter_map, get_or, is_none, is_some, if◌then◌else◌, unwrap_or, IfSome, IsSomeAnd}
 use Rattle.std.specs.List.{cons_option}
-use Rattle.std.specs.Option.{option_and_then, option_map, option_map_or}
+use Rattle.std.specs.Option.{option_and_then, option_map, option_map_or, option_or}
 use Rattle.std.specs.Map.{lookup}
 use Rattle.pid_blocks.specs.Blocks.{slot, tid_owner}
 use Rattle.lwp_table.specs.declared.LwpData.{LwpData}
@@ -9,7 +9,7 @@ use Rattle.lwp_table.specs.declared.links.RowNode.{RowNode}
 use Rattle.lwp_table.specs.declared.links.Links.{Links}
 use Rattle.lwp_table.specs.declared.links.ListHead.{ListHead}
 use Rattle.lwp_table.specs.declared.links.Link.{Link}
-use Rattle.lwp_table.specs.declared.links.Link.TheVariants.{NextOwn, PrevOwn, NextAll, PrevAll}
+use Rattle.lwp_table.specs.declared.links.Link.TheVariants.{NextOwn, PrevOwn, NextUser, PrevUser}
 use Rattle.lwp_table.specs.Chain.{Node, IsChain, IsNearest, up, above, leads_to}
 
 -- whether a row is an LWP of this process
@@ -24,12 +24,16 @@ place_of tid = slot (tid_owner tid)
 abbrev pub is_at : ℕ → LwpData → Bool
 is_at place row = place_of row.tid == place
 
--- the slot as its process's list sees it, and as the list of all rows does
+-- the slot as its process's list sees it, and as its user's does
 abbrev pub own_node : RowNode → Node
 own_node slot = record { key = slot.born; list = slot.row.pid; prev = slot.own.prev; next = slot.own.next }
 
-abbrev pub all_node : RowNode → Node
-all_node slot = record { key = slot.born; list = 0; prev = slot.all.prev; next = slot.all.next }
+abbrev pub user_node : RowNode → Node
+user_node slot = record { key = slot.born; list = place_of slot.row.tid; prev = slot.user.prev; next = slot.user.next }
+
+-- the slot as one of all, which no links join
+abbrev pub born_node : RowNode → Node
+born_node slot = record { key = slot.born; list = 0; prev = None; next = None }
 
 -- the slots as a list sees them
 abbrev pub seen_by : (RowNode → Node) → (ℕ → Option RowNode) → ℕ → Option Node
@@ -43,8 +47,8 @@ turned at to s link = if leads_to at s then to else link
 abbrev pub linked : Link → Option ℕ → Option ℕ → ℕ → RowNode → RowNode
 linked NextOwn at to s slot = record slot { own = record slot.own { next = turned at to s slot.own.next } }
 linked PrevOwn at to s slot = record slot { own = record slot.own { prev = turned at to s slot.own.prev } }
-linked NextAll at to s slot = record slot { all = record slot.all { next = turned at to s slot.all.next } }
-linked PrevAll at to s slot = record slot { all = record slot.all { prev = turned at to s slot.all.prev } }
+linked NextUser at to s slot = record slot { user = record slot.user { next = turned at to s slot.user.next } }
+linked PrevUser at to s slot = record slot { user = record slot.user { prev = turned at to s slot.user.prev } }
 
 -- the links of the slot s in a list, after the slot between these two has left it
 abbrev pub passed_by : Links → ℕ → Links → Links
@@ -52,11 +56,29 @@ passed_by gone s links = record { prev = turned gone.next gone.prev s links.prev
 
 -- the slot s, after its neighbour has left both lists
 abbrev pub closed_up : RowNode → ℕ → RowNode → RowNode
-closed_up gone s slot = record slot { own = passed_by gone.own s slot.own; all = passed_by gone.all s slot.all }
+closed_up gone s slot = record slot { own = passed_by gone.own s slot.own; user = passed_by gone.user s slot.user }
 
 -- the ends of an empty list
 abbrev pub empty_head : ListHead
 empty_head = record { first = None; last = None; count = 0; may_pend = false }
+
+-- the ends of a list, after this slot has joined it behind the last one; `pends` tells whether its row may have pending
+-- signals
+abbrev pub extended : ℕ → Bool → ListHead → ListHead
+extended q pends ends = record { first = option_or ends.first (Some q); last = Some q; count = ends.count + 1; may_pend = ends.may_pend || pends }
+
+-- the first slot of a list, after a slot with these links has left it
+abbrev pub first_without : Links → ListHead → Option ℕ
+first_without gone ends = if is_none gone.prev then gone.next else ends.first
+
+-- the ends of a list, after a slot with these links has left it
+abbrev pub without_slot : Links → ListHead → ListHead
+without_slot gone ends = record {
+  first = first_without gone ends;
+  last = if is_none gone.next then gone.prev else ends.last;
+  count = ends.count - 1;
+  may_pend = is_some (first_without gone ends) && ends.may_pend;
+}
 
 -- the ends of the list of a process
 abbrev pub ends_at : List (ℕ × ListHead) → ℕ → ListHead
@@ -83,21 +105,24 @@ listing f from (suc count) = cons_option (f from) (listing f (from + 1) count)
 abbrev pub rows_of : (ℕ → Option RowNode) → List (ℕ × ℕ) → ℕ → List LwpData
 rows_of f es births = listing (born_row f es) 0 births
 
--- each number has a slot, each row has a number, and each row has its own birth number
+-- the slot to which a number leads, if it has the row with this number: it may have had it once
+abbrev pub node_named : (ℕ → Option RowNode) → List (ℕ × ℕ) → ℕ → Option RowNode
+node_named f es tid = option_and_then (λ slot. if slot.row.tid == tid then Some slot else None) (option_and_then f (lookup (nat_eq tid) es))
+
+-- each row's number leads to its slot, and each row has its own birth number
 pub record IsIndexed (f : ℕ → Option RowNode) (es : List (ℕ × ℕ)) (births : ℕ) : Type 0 where
   pub listed : (s : ℕ) (slot : RowNode) → f s ≡ Some slot → lookup (nat_eq slot.row.tid) es ≡ Some s
-  pub named : (tid s : ℕ) → lookup (nat_eq tid) es ≡ Some s → (slot : RowNode) × (f s ≡ Some slot) × (slot.row.tid ≡ tid)
   pub earlier : (s : ℕ) (slot : RowNode) → f s ≡ Some slot → slot.born < births
   pub apart : (i j : ℕ) (a b : RowNode) → f i ≡ Some a → f j ≡ Some b → a.born ≡ b.born → i ≡ j
 
 -- what a table maintains, where `may` tells of each process whether its rows may have pending signals
-pub record LwpTableInvariant (f : ℕ → Option RowNode) (es : List (ℕ × ℕ)) (hs : List (ℕ × ListHead)) (all : ListHead) (births : ℕ) (users : List ℕ) (may : ℕ → Bool) : Type 0 where
+pub record LwpTableInvariant (f : ℕ → Option RowNode) (es : List (ℕ × ℕ)) (hs : List (ℕ × ListHead)) (births : ℕ) (users : List ListHead) (may : ℕ → Bool) : Type 0 where
   pub indexed : IsIndexed f es births
   pub own : (pid : ℕ) → IsChain (seen_by own_node f) pid (ends_at hs pid).first (ends_at hs pid).last
-  pub whole : IsChain (seen_by all_node f) 0 all.first all.last
+  pub long : length users ≡ 64
+  pub user : (place : ℕ) → place < 64 → IsChain (seen_by user_node f) place (get_or users place empty_head).first (get_or users place empty_head).last
   pub counted : (pid : ℕ) → (ends_at hs pid).count ≡ count_by (is_of pid) (rows_of f es births)
-  pub total : all.count ≡ length (rows_of f es births)
-  pub homes : (place : ℕ) → place < 64 → slice_index users place ≡ count_by (is_at place) (rows_of f es births)
+  pub homes : (place : ℕ) → place < 64 → (get_or users place empty_head).count ≡ count_by (is_at place) (rows_of f es births)
   pub quiet : (s : ℕ) (slot : RowNode) → f s ≡ Some slot → may slot.row.pid ≡ false → slot.row.pending ≡ 0
 
 -- the rows from a link on

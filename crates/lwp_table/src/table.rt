@@ -1,42 +1,50 @@
 //! The table of all LWPs of a host.
 //!
-//! Links and birth numbers keep the order of birth. A removal changes at most four links. A walk over a process
-//! visits only the rows of that process. Birth numbers only rise, so a new row comes last in both lists. No walk
-//! reads them: they specify the order of the links.
+//! Links and birth numbers keep the order of birth, in a list of each process and in a list of each user. A removal
+//! changes at most four links, all of the same user's rows. A walk over a process or a user visits only the rows of
+//! that process or user. Birth numbers only rise, so a new row comes last in both lists. No walk reads them: they
+//! specify the order of the links.
+//!
+//! Entries stay in both indexes when their rows go, since most numbers are used again: `slots` then leads to a slot
+//! with another row or none, which a look-up sees, and `heads` to the ends of an empty list. So an index has at most an
+//! entry for each number that a row has had.
 
-ghost use Rattle.std.specs.Prelude.{◌≡◌, ◌==◌, ◌+◌, ◌<◌, ◌≤◌, ◌++◌, [], ◌∷◌, false, IsSome, IsSomeAnd, OnOk, IfOk, count_by, length, map, option_map, slice_get};
+ghost use Rattle.std.specs.Prelude.{◌≡◌, ◌==◌, ◌+◌, ◌<◌, ◌≤◌, ◌++◌, [], ◌∷◌, false, IsSome, IsSomeAnd, OnOk, IfOk, count_by, filter, map, option_map, slice_get};
 ghost use Rattle.pid_blocks.specs.Blocks.{tid_owner};
 ghost use Rattle.std.specs.Fn.{FnReturnsAt};
 ghost use Rattle.lwp_table.specs.Lwps.{lwp_of, lwps_of, first_lwp, next_lwp, has_lwp, with_lwp, without_lwp, own_lwp, KeepsNumbers, ComputesRows, LeavesQuiet, Differ};
 
 use crate::LwpData;
+use crate::hasher::NumberIndex;
+use crate::hints::Hints;
 use crate::links::{
-    Link, Links, ListHead, RowNode, close_up, ends_of, first_slot, mark, may_pend_with, note,
-    put_ends, set_link, user_place, without,
+    Link, Links, ListHead, RowNode, close_up, ends_of, join, join_user, leave, leave_user,
+    mark_change, may_pend_with, next_born, node_of, note, set_link, slot_of, user_ends,
 };
-use crate::walks::{Iter, OfProcess};
-use number_map::NumberMap;
+use crate::walks::{OfProcess, OfUser};
 use pid_blocks::{Pid, Tid, Uid};
 use slab::Slab;
 use std::alloc::{AllocError, Global};
+use std::hash::BuildHasherDefault;
 use std::marker::Model;
 
 /// The rows of LWPs in order of birth, each found by its number.
 ///
-/// Every operation but `at` takes the same time in a table of any length.
+/// Every operation but `at` takes the same time in a table of any length, whatever rows other users have.
 #[derive(Drop)]
 pub struct LwpTable {
     rows: Slab<RowNode>,
-    slots: NumberMap<usize>,
-    heads: NumberMap<ListHead>,
-    all: ListHead,
+    slots: NumberIndex<usize>,
+    hints: Hints,
+    heads: NumberIndex<ListHead>,
     births: usize,
-    users: [usize; 64],
+    users: Vec<ListHead>,
 }
 
 impl Model for LwpTable {
     ghost use Rattle.std.specs.Prelude.{◌-◌, min};
     ghost use Rattle.slab.specs.Slab.{slab_len, get};
+    ghost use Rattle.indexmap.specs.IndexMap.{spare};
     ghost use Rattle.lwp_table.specs.Lwps.{Lwps};
     ghost use Rattle.lwp_table.specs.Kept.{rows_of, may_pend, LwpTableInvariant};
 
@@ -44,10 +52,10 @@ impl Model for LwpTable {
 
     ghost view = { λ t. record {
       rows = rows_of (get t.rows) t.slots.entries t.births;
-      spare = min (min (t.rows.capacity - slab_len t.rows) t.slots.spare) (min t.heads.spare (18446744073709551615 - t.births));
+      spare = min (min (t.rows.capacity - slab_len t.rows) (spare t.slots)) (min (spare t.heads) (18446744073709551615 - t.births));
     } };
 
-    ghost invariant = { λ t. LwpTableInvariant (get t.rows) t.slots.entries t.heads.entries t.all t.births t.users (may_pend t.heads.entries) };
+    ghost invariant = { λ t. LwpTableInvariant (get t.rows) t.slots.entries t.heads.entries t.births t.users.items (may_pend t.heads.entries) };
 }
 
 impl Clone for LwpTable {
@@ -59,10 +67,10 @@ impl Clone for LwpTable {
         Ok(LwpTable {
             rows: self.rows.clone()?,
             slots: self.slots.clone()?,
+            hints: self.hints.clone()?,
             heads: self.heads.clone()?,
-            all: self.all,
             births: self.births,
-            users: self.users,
+            users: self.users.clone()?,
         })
     }
 }
@@ -73,12 +81,13 @@ impl LwpTable {
     pub fn new(alloc: Global) -> Result<LwpTable, AllocError>
         ensures { IfOk result (λ table. table.rows ≡ []) }
     {
-        let users = [0; 64];
+        let ends = [ListHead::empty(); 64];
+        let users = Vec::from_slice(alloc, &ends)?;
         Ok(LwpTable {
             rows: Slab::new(alloc),
-            slots: NumberMap::new(alloc)?,
-            heads: NumberMap::new(alloc)?,
-            all: ListHead::empty(),
+            slots: NumberIndex::with_hasher(alloc, BuildHasherDefault::new()),
+            hints: Hints::new(alloc)?,
+            heads: NumberIndex::with_hasher(alloc, BuildHasherDefault::new()),
             births: 0,
             users,
         })
@@ -105,40 +114,26 @@ impl LwpTable {
         ensures rows { self.new.rows ≡ self.old.rows ++ (row ∷ []) }
         ensures spare { self.old.spare ≤ self.new.spare + 1 }
     {
-        let tid = row.tid.get();
-        let pid = row.pid.get();
-        let own = ends_of(&self.heads, pid);
-        let all = self.all;
-        let slot = self.rows.insert_reserved(RowNode {
+        let slot = self.rows.vacant_key();
+        let own = Links {
+            prev: join(&mut self.heads, row.pid, slot, !row.pending.is_empty()),
+            next: None,
+        };
+        let user = Links {
+            prev: join_user(&mut self.users, row.tid, slot),
+            next: None,
+        };
+        self.rows.insert_reserved(RowNode {
             row,
             born: self.births,
-            own: Links {
-                prev: own.last,
-                next: None,
-            },
-            all: Links {
-                prev: all.last,
-                next: None,
-            },
+            own,
+            user,
         });
-        set_link(&mut self.rows, Link::NextOwn, own.last, Some(slot));
-        set_link(&mut self.rows, Link::NextAll, all.last, Some(slot));
-        self.slots.insert(tid, slot);
-        let ends = ListHead {
-            first: own.first.or(Some(slot)),
-            last: Some(slot),
-            count: own.count + 1,
-            may_pend: may_pend_with(own.may_pend, &row),
-        };
-        self.heads.insert(pid, ends);
-        self.all = ListHead {
-            first: all.first.or(Some(slot)),
-            last: Some(slot),
-            count: all.count + 1,
-            may_pend: false,
-        };
+        set_link(&mut self.rows, Link::NextOwn, own.prev, Some(slot));
+        set_link(&mut self.rows, Link::NextUser, user.prev, Some(slot));
+        self.slots.insert(row.tid.get(), slot).unwrap();
+        self.hints.note(row.tid.get(), slot);
         self.births += 1;
-        self.users[user_place(row.tid)] += 1;
     }
 
     /// Tests whether a row has this number.
@@ -156,8 +151,7 @@ impl LwpTable {
         ensures row { result ≡ lwp_of tid self.now.rows }
         ensures differ { Differ self.now.rows }
     {
-        let slot = self.slots.get(tid.get())?;
-        Some(self.rows[slot].row)
+        Some(node_of(&self.rows, &self.slots, &self.hints, tid)?.row)
     }
 
     /// Returns the process of the row with this number, if any.
@@ -166,8 +160,7 @@ impl LwpTable {
         ensures process { result ≡ option_map (λ l. l.pid) (lwp_of tid self.now.rows) }
         ensures differ { Differ self.now.rows }
     {
-        let place = self.slots.get(tid.get())?;
-        Some(self.rows[place].row.pid)
+        Some(node_of(&self.rows, &self.slots, &self.hints, tid)?.row.pid)
     }
 
     /// Replaces the row with the same number, which is of the same process.
@@ -177,11 +170,9 @@ impl LwpTable {
         ensures spare { self.new.spare ≡ self.old.spare }
     {
         note(&mut self.heads, &row);
-        let number = row.tid.get();
-        let slot = self.slots.get(number).unwrap();
-        let mut place = self.rows[slot];
+        let slot = slot_of(&self.rows, &self.slots, &self.hints, row.tid);
+        let place = &mut self.rows[slot];
         place.row = row;
-        self.rows[slot] = place;
     }
 
     /// Changes each row of this process in its place. A row keeps its number and its process.
@@ -192,15 +183,16 @@ impl LwpTable {
         ensures rows { (change : LwpData → LwpData) → ComputesRows (FnReturnsAt F.Fn edit) self.old.rows change → self.new.rows ≡ map (own_lwp pid change) self.old.rows }
         ensures spare { self.new.spare ≡ self.old.spare }
     {
+        let ends = ends_of(&self.heads, pid);
         let mut may_pend = false;
-        let mut link = first_slot(&self.heads, pid.get());
+        let mut link = ends.first;
         while let Some(at) = link {
             let slot = &mut self.rows[at];
             slot.row = edit(&slot.row);
             may_pend = may_pend_with(may_pend, &slot.row);
             link = slot.own.next;
         }
-        mark(&mut self.heads, pid.get(), may_pend);
+        mark_change(&mut self.heads, pid, ends.may_pend, may_pend);
     }
 
     /// Changes each row of this process in its place, by a change that leaves rows without pending signals as they are.
@@ -212,7 +204,7 @@ impl LwpTable {
         ensures rows { (change : LwpData → LwpData) → ComputesRows (FnReturnsAt F.Fn edit) self.old.rows change → LeavesQuiet change → self.new.rows ≡ map (own_lwp pid change) self.old.rows }
         ensures spare { self.new.spare ≡ self.old.spare }
     {
-        if ends_of(&self.heads, pid.get()).may_pend {
+        if ends_of(&self.heads, pid).may_pend {
             self.edit_of(pid, edit);
         }
     }
@@ -223,24 +215,24 @@ impl LwpTable {
         ensures rows { self.new.rows ≡ without_lwp tid self.old.rows }
         ensures spare { self.old.spare ≤ self.new.spare }
     {
-        let number = tid.get();
-        let slot = self.slots.get(number).unwrap();
-        self.slots.remove(number);
+        let slot = slot_of(&self.rows, &self.slots, &self.hints, tid);
         let gone = self.rows.remove(slot);
+        leave(&mut self.heads, &gone);
+        leave_user(&mut self.users, &gone);
         close_up(&mut self.rows, &gone);
-        let pid = gone.row.pid.get();
-        let own = ends_of(&self.heads, pid);
-        put_ends(&mut self.heads, pid, without(own, gone.own));
-        self.all = without(self.all, gone.all);
-        self.users[user_place(tid)] -= 1;
     }
 
-    /// Returns the row at this place in order of birth, by a walk from the first.
+    /// Returns the row at this place in order of birth, by a pass over all slots for each row before it. Meant for
+    /// tests: walks over a user or a process need no place.
     pub fn at(&self, place: usize) -> Option<LwpData>
         ensures row { result ≡ slice_get self.now.rows place }
         ensures differ { Differ self.now.rows }
     {
-        self.iter().nth(place)
+        let mut slot = next_born(&self.rows, 0, self.births)?;
+        for _ in 0..place {
+            slot = next_born(&self.rows, self.rows[slot].born + 1, self.births)?;
+        }
+        Some(self.rows[slot].row)
     }
 
     /// Returns the first row of this process, if any.
@@ -248,7 +240,7 @@ impl LwpTable {
         ensures row { result ≡ first_lwp pid self.now.rows }
         ensures differ { Differ self.now.rows }
     {
-        let slot = first_slot(&self.heads, pid.get())?;
+        let slot = ends_of(&self.heads, pid).first?;
         Some(self.rows[slot].row)
     }
 
@@ -258,8 +250,7 @@ impl LwpTable {
         ensures row { result ≡ next_lwp pid after self.now.rows }
         ensures differ { Differ self.now.rows }
     {
-        let number = after.get();
-        let at = self.slots.get(number).unwrap();
+        let at = slot_of(&self.rows, &self.slots, &self.hints, after);
         let slot = self.rows[at].own.next?;
         Some(self.rows[slot].row)
     }
@@ -270,7 +261,6 @@ impl LwpTable {
         ensures rows { result ≡ lwps_of pid self.now.rows }
         ensures differ { Differ self.now.rows }
     {
-        let pid = pid.get();
         OfProcess {
             rows: &self.rows,
             slots: &self.slots,
@@ -280,17 +270,19 @@ impl LwpTable {
         }
     }
 
-    /// Returns an iterator over all rows, in order of birth.
+    /// Returns an iterator over the rows whose numbers are this user's, in order of birth.
     #[tactic(auto, using(crate::proofs::KeptLemmas::differ_seen, crate::proofs::WalkLemmas::first_laws))]
-    pub fn iter(&self) -> Iter<'_>
-        ensures rows { result ≡ self.now.rows }
+    pub fn of_user(&self, uid: Uid) -> OfUser<'_>
+        ensures rows { result ≡ filter (λ l. tid_owner l.tid == uid) self.now.rows }
         ensures differ { Differ self.now.rows }
     {
-        Iter {
+        let place = uid.slot();
+        OfUser {
             rows: &self.rows,
             slots: &self.slots,
             births: self.births,
-            link: self.all.first,
+            place,
+            link: user_ends(&self.users, place).first,
         }
     }
 
@@ -299,7 +291,7 @@ impl LwpTable {
         ensures count { result ≡ count_by (λ l. l.pid == pid) self.now.rows }
         ensures differ { Differ self.now.rows }
     {
-        ends_of(&self.heads, pid.get()).count
+        ends_of(&self.heads, pid).count
     }
 
     /// Returns the number of rows whose numbers are this user's.
@@ -307,14 +299,6 @@ impl LwpTable {
         ensures count { result ≡ count_by (λ l. tid_owner l.tid == uid) self.now.rows }
         ensures differ { Differ self.now.rows }
     {
-        self.users[uid.slot()]
-    }
-
-    /// Returns the number of rows.
-    pub fn len(&self) -> usize
-        ensures len { result ≡ length self.now.rows }
-        ensures differ { Differ self.now.rows }
-    {
-        self.all.count
+        user_ends(&self.users, uid.slot()).count
     }
 }

@@ -1,8 +1,9 @@
 //! Walks over the rows of a table.
 
 use crate::LwpData;
+use crate::hasher::NumberIndex;
 use crate::links::RowNode;
-use number_map::NumberMap;
+use pid_blocks::Pid;
 use slab::Slab;
 use std::marker::Model;
 
@@ -10,9 +11,9 @@ use std::marker::Model;
 #[derive(Drop)]
 pub struct OfProcess<'a> {
     pub(crate) rows: &'a Slab<RowNode>,
-    pub(crate) slots: &'a NumberMap<usize>,
+    pub(crate) slots: &'a NumberIndex<usize>,
     pub(crate) births: usize,
-    pub(crate) pid: u32,
+    pub(crate) pid: Pid,
     pub(crate) link: Option<usize>,
 }
 
@@ -45,29 +46,30 @@ impl<'a> Iterator for OfProcess<'a> {
     }
 }
 
-/// An iterator over all rows of a table in order of birth. Contracts see the list of rows that are left.
+/// An iterator over the rows of one user in order of birth. Contracts see the list of rows that are left.
 #[derive(Drop)]
-pub struct Iter<'a> {
+pub struct OfUser<'a> {
     pub(crate) rows: &'a Slab<RowNode>,
-    pub(crate) slots: &'a NumberMap<usize>,
+    pub(crate) slots: &'a NumberIndex<usize>,
     pub(crate) births: usize,
+    pub(crate) place: usize,
     pub(crate) link: Option<usize>,
 }
 
-impl<'a> Model for Iter<'a> {
-    ghost use Rattle.std.specs.Prelude.{List};
+impl<'a> Model for OfUser<'a> {
+    ghost use Rattle.std.specs.Prelude.{List, filter};
     ghost use Rattle.slab.specs.Slab.{get};
     ghost use Rattle.lwp_table.specs.declared.LwpData.{LwpData};
-    ghost use Rattle.lwp_table.specs.Kept.{all_node, rows_from, IsWalk};
+    ghost use Rattle.lwp_table.specs.Kept.{user_node, is_at, rows_from, IsWalk};
 
     ghost Value = { List LwpData };
 
-    ghost view = { λ it. rows_from (get it.rows.now) it.slots.now.entries it.births it.link };
+    ghost view = { λ it. filter (is_at it.place) (rows_from (get it.rows.now) it.slots.now.entries it.births it.link) };
 
-    ghost invariant = { λ it. IsWalk (get it.rows.now) it.slots.now.entries it.births all_node 0 it.link };
+    ghost invariant = { λ it. IsWalk (get it.rows.now) it.slots.now.entries it.births user_node it.place it.link };
 }
 
-impl<'a> Iterator for Iter<'a> {
+impl<'a> Iterator for OfUser<'a> {
     type Item = LwpData;
 
     ghost use Rattle.std.specs.Iterator.{YieldsFirst, item_count};
@@ -78,7 +80,7 @@ impl<'a> Iterator for Iter<'a> {
 
     fn next(&mut self) -> Option<LwpData> {
         let slot = self.rows[self.link?];
-        self.link = slot.all.next;
+        self.link = slot.user.next;
         Some(slot.row)
     }
 }

@@ -1,1 +1,2 @@
+mod Owned
 mod WalkLemmas

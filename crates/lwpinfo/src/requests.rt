@@ -1,5 +1,5 @@
-ghost use Rattle.std.specs.Prelude.{◌≡◌, IfOk, IfSome, option_map};
-ghost use Rattle.lwp_table.specs.Lwps.{lwp_of};
+ghost use Rattle.std.specs.Prelude.{◌≡◌, IfOk, option_map};
+ghost use Rattle.lwp_table.specs.Lwps.{lwp_of, lwps_of};
 ghost use Rattle.proc_table.specs.Fresh.{lwp_count};
 ghost use Rattle.proc_table.specs.Processes.{reporting, is_this};
 ghost use Rattle.lwpinfo.specs.Info.{info_of, lwp_info, lwp_list};
@@ -10,16 +10,26 @@ use pid_blocks::{Pid, Tid};
 use proc_table::{ProcData, State, Tables};
 use std::alloc::{AllocError, Global};
 
-/// Returns what PT_LWPINFO of ptrace(2) shows of an LWP of the process, or `None` if no process or no LWP has the
-/// number. The LWP, if there is one, must not be another process's.
+/// Returns what PT_LWPINFO of ptrace(2) shows of an LWP of the process, or `None` if no process has the number or the
+/// process has no such LWP.
+#[tactic(auto, using(crate::proofs::Owned::of_info))]
 pub fn info(tables: &Tables, pid: Pid, tid: Tid) -> Option<LwpInfo>
-    requires own { IfSome (lwp_of tid tables.now.rows.lwps) (λ l. l.pid ≡ pid) }
     ensures { result ≡ info_of pid tid tables.now.rows }
 {
     match tables.process(pid) {
-        Some(process) => reported_info(reports(&process, tid), tables.lwp(tid)),
+        Some(process) => reported_info(reports(&process, tid), lwp_of_process(tables, pid, tid)),
         None => None,
     }
+}
+
+/// Returns the process's LWP with the number, if there is one.
+#[tactic(auto, using(crate::proofs::Owned::of_process))]
+fn lwp_of_process(tables: &Tables, pid: Pid, tid: Tid) -> Option<LwpData>
+    ensures { result ≡ lwp_of tid (lwps_of pid tables.now.rows.lwps) }
+{
+    tables.assert_invariant();
+    let lwp = tables.lwp(tid)?;
+    if lwp.pid == pid { Some(lwp) } else { None }
 }
 
 /// Tests whether the LWP reports the process's stop.

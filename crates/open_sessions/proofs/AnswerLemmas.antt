@@ -2,8 +2,8 @@
 use Rattle.std.{proofs.{Common.{arith, ◌≡◌, ◌≢◌, ◌<◌, ℕ, ◌-◌, ◌+◌, List, Option, Some, refl, ap, ◌∙◌, length, slice_set, slice_index}, lemmas.List.get_or-set_same}, specs.Prelude.{Result, Ok}}
 use Rattle.{std.specs.Prelude.{Err, OnOk}, pid_blocks.specs.Users.IsUser, requests.specs.{Hosts.Steps as HostSteps, Machine.Machine}}
 use Rattle.step_types.specs.{Plain.UserStep, Plain.PlainStep, declared.Reply.Reply}
-use Rattle.{visibility.proofs.Steps.did, scenario_text.specs.{declared.fault.Fault.{Fault, TheVariants.Memory}, OneStep.{IsStep, AnswersBy}}, scenario.specs.declared.style.Style.Style}
-use Rattle.{scenario.specs.Lines.{Answered, line}, open_sessions.specs.{Answers.{LineReply, step, refused, answer_text}, Calls.{OpenSession, Steps, Answers}}}
+use Rattle.{visibility.proofs.Steps.did, scenario_text.specs.{declared.fault.Fault.{Fault, TheVariants.Memory}, OneStep.{IsStep, AnswersBy}}, scenario_runs.specs.declared.style.Style.Style}
+use Rattle.{scenario_runs.specs.Lines.{Answered, line}, open_sessions.specs.{Answers.{LineReply, step, refused, answer_text}, Calls.{OpenSession, Steps, Answers}}}
 
 -- a step of the host, with the count at the user's place raised and the reply kept
 pub steps : (u : ℕ) (p : PlainStep) (s : OpenSession) (k : Machine) (r : Reply) (place : ℕ) → IsUser u → HostSteps u p s.host k r → place ≡ u - 1001 → place < length s.made

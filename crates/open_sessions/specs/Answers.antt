@@ -2,8 +2,8 @@
 use Rattle.std.specs.Prelude.{unwrap_or, option_map, ℕ, ◌-◌, ◌+◌, List, [], ◌∷◌, ◌++◌, Option, Some, None, Result, Ok, Err, codes, take, drop, length, slice_index, slice_set}
 use Rattle.{pid_blocks.specs.Users.IsUser, requests.specs.{Machine.Machine}, visibility.specs.Runs.{reply_given, MakesStep}}
 use Rattle.step_types.specs.{Plain.UserStep, declared.Reply.Reply, declared.Reply.TheVariants.Lwps, declared.Reply.TheVariants.Pids}
-use Rattle.{reply_json.specs.{Objects.json_text, Replies.refusal_value}, scenario_text.specs.{declared.fault.Fault.Fault, Faults.fault_name, OneStep.IsStep}, scenario.specs.declared.style.Style.Style}
-use Rattle.scenario.specs.{declared.style.Style.TheVariants.{Text, Json}, Lines.{Answered, line}}
+use Rattle.{reply_json.specs.{Objects.json_text, Replies.refusal_value}, scenario_text.specs.{declared.fault.Fault.Fault, Faults.fault_name, OneStep.IsStep}, scenario_runs.specs.declared.style.Style.Style}
+use Rattle.scenario_runs.specs.{declared.style.Style.TheVariants.{Text, Json}, Lines.{Answered, line}}
 
 -- the answer to a line: a reply to a user, or the fault for which the line is not a step
 abbrev pub LineReply : Type 0

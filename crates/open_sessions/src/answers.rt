@@ -4,7 +4,7 @@ ghost use Rattle.open_sessions.specs.Answers.{last_numbers, last_reply, line_rep
 
 use pid_blocks::Uid;
 use requests::Reply;
-use scenario::Fault;
+use scenario_runs::Fault;
 use std::alloc::{AllocError, Global};
 
 /// An answer: a reply to a user, or the fault for which a line is not a step.

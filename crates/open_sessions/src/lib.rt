@@ -3,6 +3,7 @@
 
 mod answers;
 mod fault;
+pub mod laws;
 mod session;
 mod texts;
 

@@ -14,7 +14,7 @@ use crate::fault::SessionFault;
 use crate::texts::push_last;
 use pid_blocks::Uid;
 use requests::{Host, PlainStep, Reply};
-use scenario::{Fault, StepReader, Style, USERS};
+use scenario_runs::{Fault, StepReader, Style, USERS};
 use std::alloc::{AllocError, Global};
 use std::marker::Model;
 use stop_handlers::ByPolicy;

@@ -1,11 +1,11 @@
 //! The text of an answer.
 ghost use Rattle.std.specs.Prelude.{◌≡◌, ◌++◌, OnOk, string_bytes, option_map};
-ghost use Rattle.scenario.specs.declared.style.Style.TheVariants as style;
+ghost use Rattle.scenario_runs.specs.declared.style.Style.TheVariants as style;
 ghost use Rattle.open_sessions.specs.Answers.{answer_text, line_reply, refusal};
 
 use crate::answers::LineAnswer;
 use reply_json::refusal_json;
-use scenario::{Fault, ObjectWriter, Style, USERS, push_line};
+use scenario_runs::{Fault, ObjectWriter, Style, USERS, push_line};
 use std::alloc::{AllocError, Global};
 
 /// Adds a refusal as text: the line that names the fault for which a line is not a step.

@@ -52,32 +52,34 @@ pub fn owner_of_tid(number: u32) -> Option<Uid>
 }
 
 /// Returns the first number that isn't taken: from the cursor to the block's end, and then from the block's
-/// first number up to the cursor. Returns `None` if all numbers of the block are taken.
+/// first number up to the cursor. Returns `None` if all numbers of the block are taken. If the block reaches
+/// beyond `u32::MAX`, its numbers are those up to there.
 pub fn next_free<F: Fn(u32) -> bool>(block: Block, cursor: u32, taken: F) -> Option<u32>
-    requires fits { block.first + block.size < 2 ^ 32 }
     requires within { InBlock block cursor }
     requires callable { F.IsAlwaysCallable taken }
     // the result of the definition, for any test that the closure decides on the block
-    ensures exact { (test : ℕ → Bool) → Decides (F.post taken) block.first (block.first + block.size) test → result ≡ next_free block cursor test }
+    ensures exact { block.first + block.size ≤ 2 ^ 32 → (test : ℕ → Bool) → Decides (F.post taken) block.first (block.first + block.size) test → result ≡ next_free block cursor test }
     ensures home { IfSome result (InBlock block) }
     ensures free { IfSome result (λ n. F.post taken n false) }
-    ensures full { IfNone result ((n : ℕ) → InBlock block n → F.post taken n true) }
+    ensures full { IfNone result ((n : ℕ) → InBlock block n → n < 2 ^ 32 → F.post taken n true) }
 {
-    match first_free(cursor, block.first + block.size, &taken) {
+    match first_free(cursor, block.end().min(1 << 32), &taken) {
         Some(number) => Some(number),
-        None => first_free(block.first, cursor, &taken),
+        None => first_free(block.first, u64::from(cursor), &taken),
     }
 }
 
 /// Returns the first number from `from` to below `end` that isn't taken.
-fn first_free<F: Fn(u32) -> bool>(from: u32, end: u32, taken: &F) -> Option<u32>
+fn first_free<F: Fn(u32) -> bool>(from: u32, end: u64, taken: &F) -> Option<u32>
+    requires numbers { end ≤ 2 ^ 32 }
     requires callable { F.IsAlwaysCallable taken.now }
     ensures exact { (test : ℕ → Bool) → Decides (F.post taken.now) from end test → result ≡ first_free test (end - from) from }
     ensures home { IfSome result (λ n. (from ≤ n) × (n < end)) }
     ensures free { IfSome result (λ n. F.post taken.now n false) }
     ensures full { IfNone result ((n : ℕ) → from ≤ n → n < end → F.post taken.now n true) }
 {
-    for number in from..end {
+    for number in u64::from(from)..end {
+        let number = number as u32;
         if !taken(number) {
             return Some(number);
         }
@@ -86,13 +88,21 @@ fn first_free<F: Fn(u32) -> bool>(from: u32, end: u32, taken: &F) -> Option<u32>
 }
 
 /// Returns where the search for a free number begins after `number` was given out: at the next number, or
-/// at the block's first number after its last one.
+/// at the block's first number after its last one. No number is above `u32::MAX`.
 pub fn cursor_after(block: Block, number: u32) -> u32
-    requires fits { block.first + block.size < 2 ^ 32 }
-    ensures { result ≡ cursor_after block number }
+    ensures { block.first + block.size ≤ 2 ^ 32 → result ≡ cursor_after block number }
 {
     match number.checked_add(1) {
-        Some(next) if next < block.first + block.size => next,
+        Some(next) if u64::from(next) < block.end() => next,
         _ => block.first,
+    }
+}
+
+impl Block {
+    /// Returns the number after the block's last one.
+    fn end(self) -> u64
+        ensures { result ≡ self.first + self.size }
+    {
+        u64::from(self.first) + u64::from(self.size)
     }
 }

@@ -27,7 +27,7 @@ pub use Rattle.proc_table.specs.Keep.{keep}
 pub use Rattle.proc_table.specs.Kept.{AllAbove, InOwnBlock, InOwnersBlock, IsRow, Named, Rise, TableInvariant, drop_lwp, drop_process, put_process, set_lwp, set_process}
 pub use Rattle.proc_table.specs.Laws.{CountsSeeOwn, FreshSeesOwn, LeastOrNone, LwpSeesOwn, NextChildLeast, NextOfLeast, NextSeesOwn, NextTraceeLeast, NumberSeesOwn, ProcessSeesOwn, SeesOwn, only_of}
 pub use Rattle.proc_table.specs.Links.{IsLinked, IsNext, Node, at_least, backward, forward, hung, keys, members}
-pub use Rattle.proc_table.specs.ListNodes.{AreLinked, IsFirst, IsHead, IsTied, find_named, links_in, list_owner, next_named, node_of, nodes_of, other, parent_named, pick, put_links, rows_of, unlinked}
+pub use Rattle.proc_table.specs.ListNodes.{AreLinked, IsFirst, IsHead, IsTied, find_named, links_in, list_owner, next_named, node_of, nodes_of, other, parent_named, pick, put_links, rows_of, slot_named, unlinked}
 pub use Rattle.proc_table.specs.Processes.{is_this, of_user, placed, process_of, traces}
 pub use Rattle.proc_table.specs.Rows.{Rows, by_owner, change, change_lwp, change_process, is_numbered, remove_lwp}
 pub use Rattle.proc_table.specs.Seen.{owns, seen_lwp}

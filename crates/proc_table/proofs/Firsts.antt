@@ -1,7 +1,7 @@
 -- A walk along a list to the first row that passes a test, and that row among all rows.
-use Rattle.proc_table.proofs.CommonNames.{◌≡◌, ◌≢◌, ℕ, ◌<◌, ◌≤◌, Bool, true, false, List, [], ◌∷◌, Option, Some, None, refl, sym, ap, ◌∙◌, arith, nat_eq, rules, ◌&&◌, ltb, find, AllByRecursion}
-use Rattle.proc_table.proofs.CommonNames.{lookup, option_map, cases_Bool, cases_lt, nat_tests, same_Some, ProcData, ListKind, Children, RowNode, IsChain, Node, anywhere, above, keys, IsNext, members}
-use Rattle.proc_table.proofs.CommonNames.{IsLinked, process_of, is_this, DecidesRows, find_child, list_owner, node_of, nodes_of, rows_of, find_named, IsTied, IsFirst, all_rows, look, InOwnBlock, Rise}
+use Rattle.proc_table.proofs.CommonNames.{◌≡◌, ◌≢◌, ℕ, ◌<◌, ◌≤◌, Bool, true, false, List, [], ◌∷◌, Option, Some, None, refl, sym, ap, ◌∙◌, arith, rules, ◌&&◌, ltb, find, AllByRecursion}
+use Rattle.proc_table.proofs.CommonNames.{option_map, cases_Bool, cases_lt, nat_tests, same_Some, ProcData, ListKind, Children, RowNode, IsChain, Node, anywhere, above, keys, IsNext, members}
+use Rattle.proc_table.proofs.CommonNames.{IsLinked, process_of, is_this, DecidesRows, find_child, list_owner, node_of, nodes_of, rows_of, slot_named, find_named, IsTied, IsFirst, all_rows, look, InOwnBlock, Rise}
 use Rattle.proc_table.proofs.Rows.{same_number}
 use Rattle.proc_table.proofs.Finds.{equal_or_not}
 use Rattle.proc_table.proofs.Tied.{key-of-row, list_owner-of, this-is, row-of, home-of}
@@ -78,9 +78,9 @@ module _ {f : ℕ → Option RowNode} {es : List (ℕ × ℕ)} {counts : List �
   pub first-none : IsFirst f kin t returns None → find_named kin t test rows ≡ None
   first-none none = search (rules, next-none (λ p. is_this t (list_owner kin p) && test p) 0, whole, up, passer, cases_Bool, nat_tests)
 
-  -- no row names a number that has no slot
-  pub first-unnamed : lookup (nat_eq t) es ≡ None → find_named kin t test rows ≡ None
-  first-unnamed none = first-none (λ j other there names. let head = tied.are_linked.headed kin j other t there names in absurd (cc (none, head.1)))
+  -- no row names a number that no row has
+  pub first-unnamed : slot_named f es t ≡ None → find_named kin t test rows ≡ None
+  first-unnamed none = first-none (λ j other there names. let head = tied.are_linked.headed kin j other t there names in absurd (grind (arith, nat_tests, none, head.1, head.2)))
 
   pub first-some : (s : ℕ) (slot : RowNode) → f s ≡ Some slot → IsFirst f kin t returns (Some s) → find_named kin t test rows ≡ Some slot.row
   first-some s slot is first =

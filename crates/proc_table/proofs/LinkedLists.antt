@@ -1,6 +1,7 @@
 -- The lists of both kinds after a row has moved from one to another.
 use Rattle.proc_table.proofs.CommonNames.{nat_tests, ◌≡◌, ◌≢◌, ℕ, List, Option, Some, None, sym, ap, ◌∙◌, inl, inr, nat_eq, cond, ◌<◌, arith, rules, lookup, option_map, cases_eq, ListKind, Tracees}
 use Rattle.proc_table.proofs.CommonNames.{RowNode, IsLinked, keys, other, node_of, nodes_of, rows_of, AreLinked, IsHead}
+use Rattle.proc_table.proofs.Every.{some_and}
 use Rattle.proc_table.proofs.Births.{IsLinked-same, IsLinked-born, IsLinked-gone}
 use Rattle.proc_table.proofs.ListNodes.{slot_at, row_slot}
 
@@ -53,7 +54,7 @@ are_linked-same f g es same are_linked = record {
 }
 
 -- a slot more, or one less
-module _ (f g : ℕ → Option RowNode) (es es' : List (ℕ × ℕ)) (q : ℕ) (are_linked : AreLinked f es) (others : (s : ℕ) → s ≢ q → g s ≡ f s) where
+module _ (f g : ℕ → Option RowNode) (es : List (ℕ × ℕ)) (q : ℕ) (are_linked : AreLinked f es) (others : (s : ℕ) → s ≢ q → g s ≡ f s) where
   node_of_others : (k : ListKind) (s : ℕ) → s ≢ q → nodes_of k g s ≡ nodes_of k f s
   node_of_others k s apart = ap (option_map (node_of k)) (others s apart)
 
@@ -62,28 +63,33 @@ module _ (f g : ℕ → Option RowNode) (es es' : List (ℕ × ℕ)) (q : ℕ) (
     pub head-apart : IsHead f h t → IsHead g h t
     head-apart there = rw (others h apart) there
 
-  pub are_linked-born : (new : RowNode) → f q ≡ None → g q ≡ Some new → ((k : ListKind) → (node_of k new).list_owner ≡ None) → ((k : ListKind) → (node_of k new).first ≡ None) → ((k : ListKind) → (node_of k new).last ≡ None) → 0 < new.row.pid
-      → lookup (nat_eq new.row.pid) es ≡ None → ((pid : ℕ) → lookup (nat_eq pid) es' ≡ cond (nat_eq new.row.pid pid) (Some q) (lookup (nat_eq pid) es)) → AreLinked g es'
-  are_linked-born new vacant has free no_first no_last positive fresh change = record {
-    listed = λ s slot is. grind (arith, nat_tests, others s, are_linked.listed s, change slot.row.pid);
+  pub are_linked-born : (es' : List (ℕ × ℕ)) (new : RowNode) → f q ≡ None → g q ≡ Some new → ((k : ListKind) → (node_of k new).list_owner ≡ None) → ((k : ListKind) → (node_of k new).first ≡ None) → ((k : ListKind) → (node_of k new).last ≡ None) → 0 < new.row.pid
+      → ((s : ℕ) (slot : RowNode) → f s ≡ Some slot → slot.row.pid ≢ new.row.pid) → ((pid : ℕ) → lookup (nat_eq pid) es' ≡ cond (nat_eq new.row.pid pid) (Some q) (lookup (nat_eq pid) es)) → AreLinked g es'
+  are_linked-born es' new vacant has free no_first no_last positive fresh change = record {
+    listed = λ s slot is. grind (arith, nat_tests, others s, fresh s slot, are_linked.listed s, change slot.row.pid);
     linked = λ k. IsLinked-born (nodes_of k f) (nodes_of k g) q (node_of_others k) (node_of k new) (are_linked.linked k) (ap (option_map (node_of k)) vacant) (ap (option_map (node_of k)) has) (free k) (no_first k) (no_last k) positive
-        (λ s node there same. let slot = slot_at k f s node there in grind (arith, nat_tests, fresh, are_linked.listed s slot.0 slot.1))
-        (λ s node there names. let slot = slot_at k f s node there in grind (arith, nat_tests, fresh, are_linked.headed k s slot.0 new.row.pid slot.1));
+        (λ s node there same. let slot = slot_at k f s node there in grind (arith, nat_tests, fresh s slot.0 slot.1, slot.2))
+        (λ s node there names. let slot = slot_at k f s node there in unheaded k s slot.0 slot.1 (grind (arith, nat_tests, slot.2)));
     headed = λ k s slot t is its.
         let apart : s ≢ q = grind (arith, nat_tests, has, free k) in
         let head = are_linked.headed k s slot t (sym (others s apart) ∙ is) its in
-        (head.0, grind (arith, nat_tests, change t, head.1), grind (arith, nat_tests, others head.0, head.2));
+        (head.0, grind (arith, nat_tests, change t, head.1, unheaded k s slot (sym (others s apart) ∙ is)), grind (arith, nat_tests, others head.0, head.2));
   }
+    where
+      unheaded : (k : ListKind) (s : ℕ) (slot : RowNode) → f s ≡ Some slot → (node_of k slot).list_owner ≢ Some new.row.pid
+      unheaded k s slot is names =
+          let head = are_linked.headed k s slot new.row.pid is names in
+          let its = some_and (λ (x : RowNode). x.row.pid ≡ new.row.pid) (f head.0) head.2 in fresh head.0 its.0 its.1 its.2
 
   pub are_linked-gone : (old : RowNode) → f q ≡ Some old → g q ≡ None → ((k : ListKind) → (node_of k old).list_owner ≡ None) → ((k : ListKind) (s : ℕ) (slot : RowNode) → f s ≡ Some slot → (node_of k slot).list_owner ≢ Some old.row.pid)
-      → ((pid : ℕ) → lookup (nat_eq pid) es' ≡ cond (nat_eq old.row.pid pid) None (lookup (nat_eq pid) es)) → AreLinked g es'
-  are_linked-gone old was vacant free unnamed change = record {
-    listed = λ s slot is. grind (arith, nat_tests, others s, are_linked.listed s slot, are_linked.listed q old was, change slot.row.pid);
+      → AreLinked g es
+  are_linked-gone old was vacant free unnamed = record {
+    listed = λ s slot is. grind (arith, nat_tests, others s, are_linked.listed s slot);
     linked = λ k. IsLinked-gone (nodes_of k f) (nodes_of k g) q (node_of_others k) (node_of k old) (are_linked.linked k) (ap (option_map (node_of k)) was) (free k) (ap (option_map (node_of k)) vacant);
     headed = λ k s slot t is its.
         let there : f s ≡ Some slot = grind (arith, nat_tests, others s) in
         let head = are_linked.headed k s slot t there its in
-        (head.0, grind (arith, nat_tests, change t, head.1, unnamed k s slot there), grind (arith, nat_tests, others head.0, head.2, unnamed k s slot there));
+        (head.0, head.1, grind (arith, nat_tests, others head.0, head.2, was, unnamed k s slot there));
   }
 
 -- no slot

@@ -1,9 +1,9 @@
 -- What a write of links does to what the lists and the table's rows see of a slot.
 use Rattle.proc_table.proofs.CommonNames.{nat_tests, ◌≡◌, ◌≢◌, ℕ, Option, Some, None, IsSome, IfSome, ap, rules, arith, option_map, cases_eq, same_Some}
 use Rattle.proc_table.proofs.CommonNames.{ProcData, ListKind, ListLinks, RowNode, IsNearest, IsChain, Node, members, IsLinked, forward, backward, hung, links_in, put_links, other, node_of, nodes_of, rows_of}
-use Rattle.proc_table.proofs.CommonNames.{IsHead}
+use Rattle.proc_table.proofs.CommonNames.{List, lookup, nat_eq, slot_named, IsHead}
 use Rattle.lwp_table.specs.Chain.{Node as Member}
-use Rattle.proc_table.proofs.Every.{some_and}
+use Rattle.proc_table.proofs.Every.{some_of, some_and}
 use Rattle.proc_table.proofs.Rows.{same_number, other_number}
 use Rattle.proc_table.proofs.Linked.{as_member, node-of, list-of}
 
@@ -49,6 +49,13 @@ slot_at kin f s node there = search (rules, same_Some)
 
 pub row_slot : (f : ℕ → Option RowNode) (s : ℕ) (row : ProcData) → rows_of f s ≡ Some row → (slot : RowNode) × (f s ≡ Some slot) × (slot.row ≡ row)
 row_slot f s row there = search (rules, same_Some)
+
+-- the slot that a number finds has the row with the number
+pub slot_named-head : (f : ℕ → Option RowNode) (es : List (ℕ × ℕ)) (n s : ℕ) → slot_named f es n ≡ Some s → IsHead f s n
+slot_named-head f es n s is =
+    let at = some_of (lookup (nat_eq n) es) (grind (arith, nat_tests)) in
+    let slot = some_of (f at.0) (grind (arith, nat_tests, at.1)) in
+    grind (arith, nat_tests, at.1, slot.1)
 
 -- the list of a number whose row is in a slot
 pub list-at : (kin : ListKind) (f : ℕ → Option RowNode) → IsLinked (nodes_of kin f) → (head t : ℕ) → IsHead f head t

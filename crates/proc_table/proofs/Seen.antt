@@ -1,5 +1,5 @@
 -- Look-ups by a number that elements have once, with a further test.
-use Rattle.proc_table.proofs.CommonNames.{nat_tests, ◌≡◌, ℕ, ◌<◌, ◌≤◌, Bool, true, false, List, [], ◌∷◌, Option, Some, None, refl, sym, ap, ◌∙◌, nat_eq, cond, arith, is_some, rules, ◌&&◌, find}
+use Rattle.proc_table.proofs.CommonNames.{nat_tests, ◌≡◌, ℕ, ◌<◌, ◌≤◌, Bool, true, false, List, [], ◌∷◌, Option, Some, None, refl, sym, ap, ◌∙◌, nat_eq, cond, arith, is_some, rules, ◌&&◌, filter, find}
 use Rattle.proc_table.proofs.CommonNames.{count_by, option_eq, AllByRecursion, list_any, cases_Bool, sum_by-cons, LwpData, Lacks, Once, Differ, lwp_of, ProcData, process_of, seen_lwp, owns, Rows}
 use Rattle.proc_table.proofs.CommonNames.{keep, Rise, InOwnersBlock, TableInvariant}
 use Rattle.std.specs.Prelude.{option_map}
@@ -49,6 +49,13 @@ module _ (u : ℕ) (rows : Rows) (kept : TableInvariant rows) where
       counted (l ∷ ls) all =
           sum_by-cons (λ k. cond (nat_eq (tid_owner k.tid) u) 1 0) l ls ∙ omega (arith, counted ls all.1, ap {B = ℕ} (λ b. cond b 1 0) (same_owner l all.0), sum_by-cons (λ k. cond (owns u k.pid rows.processes) 1 0) l ls)
 
+  pub lwps-chosen : filter (λ l. nat_eq (tid_owner l.tid) u) rows.lwps ≡ filter (λ l. owns u l.pid rows.processes) rows.lwps
+  lwps-chosen = chosen rows.lwps kept.in_owners_block
+    where
+      chosen : (ls : List LwpData) → AllByRecursion (InOwnersBlock rows) ls → filter (λ l. nat_eq (tid_owner l.tid) u) ls ≡ filter (λ l. owns u l.pid rows.processes) ls
+      chosen [] all = refl
+      chosen (l ∷ ls) all = rw (same_owner l all.0, chosen ls all.1) refl
+
   -- no LWP has a number outside all blocks
   pub lwp-within : (n : ℕ) (l : LwpData) → lwp_of n rows.lwps ≡ Some l → (100000 ≤ l.tid) × (l.tid < 356000)
   lwp-within n l found = search (rules, every_found)
@@ -91,4 +98,6 @@ pub ruleset owner_laws = (owns-kept, eq-kept)
 
 pub ruleset home_laws = (seen_lwp-kept, home-none, home-own, home-other, home-outside)
 
-pub ruleset has_laws = (any-found, has_row)
+pub ruleset has_laws = (any-found, has_row, home-outside)
+
+pub ruleset number_laws = (has_row, pid-outside)

@@ -1,17 +1,17 @@
 -- What is kept of rows, lists and counts together.
-use Rattle.proc_table.proofs.CommonNames.{◌≡◌, ◌≢◌, ℕ, ◌+◌, ◌-◌, ◌<◌, true, false, List, [], Option, Some, None, is_some, refl, sym, ap, ◌∙◌, ◌∷◌, nat_eq, cond, arith, length, get_or, set, map}
+use Rattle.proc_table.proofs.CommonNames.{◌≡◌, ◌≢◌, ℕ, ◌+◌, ◌-◌, ◌<◌, true, false, List, [], Option, Some, None, IsSome, subst, refl, sym, ap, ◌∙◌, ◌∷◌, nat_eq, cond, arith, length, get_or, set, map}
 use Rattle.proc_table.proofs.CommonNames.{replicate, rules, filter, not, ltb, ◌&&◌, IsSomeAnd, list_any, lookup, option_map, cases_Bool, nat_tests, same_Some, IsUser, slot, ProcData, ListKind}
 use Rattle.proc_table.proofs.CommonNames.{Tracees, Children, RowNode, process_of, placed, is_this, next_child, Rows, InOwnBlock, Named, IsRow, put_process, all_rows, look, keys, IsNext, pick}
-use Rattle.proc_table.proofs.CommonNames.{parent_named, list_owner, node_of, nodes_of, rows_of, AreLinked, IsTied, next_named, unlinked}
+use Rattle.proc_table.proofs.CommonNames.{parent_named, list_owner, node_of, nodes_of, rows_of, slot_named, AreLinked, IsTied, next_named, unlinked}
 use Rattle.proc_table.proofs.Every.{some_of, some_and, every_found, every_untested}
 use Rattle.proc_table.proofs.Rows.{same_number, row_found, found_row}
 use Rattle.proc_table.proofs.Finds.{equal_or_not}
-use Rattle.proc_table.proofs.Listing.{find-all_rows, Rise-all_rows}
+use Rattle.proc_table.proofs.Listing.{Rise-all_rows}
 use Rattle.proc_table.proofs.NextOf.{next-found, next-none}
-use Rattle.proc_table.proofs.Slots.{finds, slot_of, look-slot, IsSlotted-added, IsSlotted-set, IsSlotted-removed, IsSlotted-none}
+use Rattle.proc_table.proofs.Slots.{finds, row_there, row_listed, IsSlotted-added, IsSlotted-set, IsSlotted-removed, IsSlotted-none}
 use Rattle.proc_table.proofs.Linked.{key_node}
-use Rattle.proc_table.proofs.ListNodes.{slot_at, row_slot}
-use Rattle.proc_table.proofs.LinkedLists.{HasHead, each_kin, head-apart, are_linked-same, are_linked-born, are_linked-gone, are_linked-none}
+use Rattle.proc_table.proofs.ListNodes.{slot_at}
+use Rattle.proc_table.proofs.LinkedLists.{HasHead, each_kin, are_linked-same, are_linked-born, are_linked-gone, are_linked-none}
 
 pub this-is : (n : ℕ) (o : Option ℕ) → is_this n o ≡ true → o ≡ Some n
 this-is n o h = grind (arith, nat_tests)
@@ -40,27 +40,30 @@ pub record IsRehung (f g : ℕ → Option RowNode) (es : List (ℕ × ℕ)) (at 
   pub others : (k : ListKind) (s : ℕ) → s ≢ at → keys (nodes_of k g) s ≡ keys (nodes_of k f) s
 
 -- what is kept once the row with the number, of this user, is gone
-pub record IsWithout (f : ℕ → Option RowNode) (es : List (ℕ × ℕ)) (counts : List ℕ) (pid uid : ℕ) (g : ℕ → Option RowNode) (es' : List (ℕ × ℕ)) : Type 0 where
+pub record IsWithout (f : ℕ → Option RowNode) (es : List (ℕ × ℕ)) (counts : List ℕ) (pid uid : ℕ) (g : ℕ → Option RowNode) : Type 0 where
   pub user : IsUser uid
   pub some : 0 < get_or counts (slot uid) 0
-  pub tied : IsTied g es' (set counts (slot uid) (get_or counts (slot uid) 0 - 1))
-  pub rows : all_rows (look (rows_of g) es') ≡ filter (λ p. not (nat_eq p.pid pid)) (all_rows (look (rows_of f) es))
+  pub tied : IsTied g es (set counts (slot uid) (get_or counts (slot uid) 0 - 1))
+  pub rows : all_rows (look (rows_of g) es) ≡ filter (λ p. not (nat_eq p.pid pid)) (all_rows (look (rows_of f) es))
 
 module _ {f : ℕ → Option RowNode} {es : List (ℕ × ℕ)} {counts : List ℕ} (tied : IsTied f es counts) where
-  -- a row's number has a slot
+  -- a row's number leads to its slot
   pub head-row : (t : ℕ) → list_any (λ p. nat_eq p.pid t) (all_rows (look (rows_of f) es)) ≡ true → HasHead f es t
-  head-row t any = search (rules, row_found, some_of, slot_of, is_some, find-all_rows, finds, row_slot)
-
-  -- and a number that no row has has none
-  pub no-slot : (t : ℕ) → list_any (λ p. nat_eq p.pid t) (all_rows (look (rows_of f) es)) ≡ false → lookup (nat_eq t) es ≡ None
-  no-slot t none = grind (arith, nat_tests, found_row t, find-all_rows (look (rows_of f) es) (finds (rows_of f) es counts tied.slotted) t, tied.slotted.stored.named t)
+  head-row t any =
+      let row = row_found t _ any in
+      let at = row_there (rows_of f) es counts tied.slotted t row.0 row.1 in
+      (at.0, at.1, grind (arith, nat_tests, at.2, at.3))
 
   -- a slot's row is in the list of all
   pub row-of : (s : ℕ) (slot : RowNode) → f s ≡ Some slot → process_of slot.row.pid (all_rows (look (rows_of f) es)) ≡ Some slot.row
-  row-of s slot is = search (rules, find-all_rows, finds, look-slot)
+  row-of s slot is = row_listed (rows_of f) es counts tied.slotted s slot.row (ap (option_map (λ (x : RowNode). x.row)) is)
+
+  -- so no slot's row has a number that no row in the list has
+  pub no-row : (t : ℕ) → list_any (λ p. nat_eq p.pid t) (all_rows (look (rows_of f) es)) ≡ false → (s : ℕ) (slot : RowNode) → f s ≡ Some slot → slot.row.pid ≢ t
+  no-row t none s slot is same = grind (arith, nat_tests, found_row t, row-of s slot is, same)
 
   pub home-of : (s : ℕ) (slot : RowNode) → f s ≡ Some slot → InOwnBlock slot.row
-  home-of s slot is = tied.slotted.stored.home slot.row.pid slot.row (look-slot (rows_of f) es slot.row.pid s (tied.are_linked.listed s slot is) ∙ ap (option_map (λ (x : RowNode). x.row)) is)
+  home-of s slot is = tied.slotted.stored.home s slot.row (ap (option_map (λ (x : RowNode). x.row)) is)
 
   pub below : (s : ℕ) (slot : RowNode) → f s ≡ Some slot → slot.row.pid < 65000
   below s slot is = let home = home-of s slot is in omega (arith, home.block.1, home.user.0, home.user.1)
@@ -68,8 +71,8 @@ module _ {f : ℕ → Option RowNode} {es : List (ℕ × ℕ)} {counts : List �
   -- a row that names t is a member of its list
   pub key-of-row : (kin : ListKind) (t : ℕ) (r : ProcData) → process_of r.pid (all_rows (look (rows_of f) es)) ≡ Some r → list_owner kin r ≡ Some t → (s : ℕ) × (keys (nodes_of kin f) s ≡ Some (r.pid, Some t))
   key-of-row kin t r there names =
-      let at = some_of _ (slot_of (rows_of f) es r.pid (ap is_some (sym (find-all_rows _ (finds (rows_of f) es counts tied.slotted) r.pid) ∙ there))) in
-      (at.0, grind (arith, nat_tests, tied.list_owners kin at.0, find-all_rows, finds, at.1))
+      let at = row_there (rows_of f) es counts tied.slotted r.pid r there in
+      (at.0, grind (arith, nat_tests, tied.list_owners kin at.0, at.2))
 
   pub list_owner-of : (kin : ListKind) (s : ℕ) (slot : RowNode) (t : ℕ) → f s ≡ Some slot → (node_of kin slot).list_owner ≡ Some t → list_owner kin slot.row ≡ Some t
   list_owner-of kin s slot t is names = grind (arith, nat_tests, tied.list_owners kin s)
@@ -87,12 +90,13 @@ module _ {f : ℕ → Option RowNode} {es : List (ℕ × ℕ)} {counts : List �
         (ap (is_this t) names ∙ same_number t) (grind (arith, nat_tests, next.1, next.2))
         (λ r at test more. let key = key-of-row kin t r at (this-is t (list_owner kin r) test) in grind (arith, nat_tests, next.1, next.3 key.0 r.pid key.1 more))
 
-    -- no row names a number that has no slot
-    pub unnamed-slot : lookup (nat_eq t) es ≡ None → next_named kin t after (all_rows (look (rows_of f) es)) ≡ None
+    -- no row names a number that no row has
+    pub unnamed-slot : slot_named f es t ≡ None → next_named kin t after (all_rows (look (rows_of f) es)) ≡ None
     unnamed-slot none = walk-none (λ j p there.
         let node = key_node (nodes_of kin f) j p (Some t) there in
         let its = slot_at kin f j node.0 node.1 in
-        grind (arith, nat_tests, tied.are_linked.headed kin j its.0 t its.1))
+        let head = tied.are_linked.headed kin j its.0 t its.1 in
+        grind (arith, nat_tests, head))
 
   -- where no row names a number, no slot's list is its
   pub nobody-names : (kin : ListKind) (t : ℕ) → next_named kin t 0 (all_rows (look (rows_of f) es)) ≡ None → (s : ℕ) (slot : RowNode) → f s ≡ Some slot → (node_of kin slot).list_owner ≢ Some t
@@ -109,11 +113,15 @@ module _ {f : ℕ → Option RowNode} {es : List (ℕ × ℕ)} {counts : List �
   -- a row more: its slot is taken, and then linked
   module _ {f1 : ℕ → Option RowNode} {es' : List (ℕ × ℕ)} {at : ℕ} {new : ProcData} (born : IsBorn f es new at f1 es') where
     pub added-are_linked : AreLinked f1 es'
-    added-are_linked = are_linked-born f f1 es es' at tied.are_linked born.others (unlinked new) born.vacant born.has (each_kin (λ k. (node_of k (unlinked new)).list_owner ≡ None) Tracees refl refl)
-        (each_kin (λ k. (node_of k (unlinked new)).first ≡ None) Tracees refl refl) (each_kin (λ k. (node_of k (unlinked new)).last ≡ None) Tracees refl refl) (omega (arith, born.home.block.0)) (no-slot new.pid born.fresh) born.change
+    added-are_linked = are_linked-born f f1 es at tied.are_linked born.others es' (unlinked new) born.vacant born.has (each_kin (λ k. (node_of k (unlinked new)).list_owner ≡ None) Tracees refl refl)
+        (each_kin (λ k. (node_of k (unlinked new)).first ≡ None) Tracees refl refl) (each_kin (λ k. (node_of k (unlinked new)).last ≡ None) Tracees refl refl) (omega (arith, born.home.block.0)) (no-row new.pid born.fresh) born.change
 
     pub added-head : (t : ℕ) → HasHead f es t → HasHead f1 es' t
-    added-head t head = grind (arith, nat_tests, some_and, no-slot, head-apart)
+    added-head t head =
+        let its = some_and (λ (slot : RowNode). slot.row.pid ≡ t) _ head.2 in
+        let other : t ≢ new.pid = λ same. no-row new.pid born.fresh head.0 its.0 its.1 (its.2 ∙ same) in
+        let apart : head.0 ≢ at = λ same. absurd (cc (its.1, ap f same, born.vacant)) in
+        (head.0, grind (arith, nat_tests, born.change t, head.1, other), rw (born.others head.0 apart) head.2)
 
     pub added : {g : ℕ → Option RowNode} {tracer parent : Option ℕ} → IsRehung f1 g es' at tracer parent → tracer ≡ new.tracer → parent ≡ parent_named new.parent → length counts ≡ 64
         → IsTied g es' (set counts (slot new.uid) (get_or counts (slot new.uid) 0 + 1)) × (all_rows (look (rows_of g) es') ≡ placed new (all_rows (look (rows_of f) es)))
@@ -129,25 +137,37 @@ module _ {f : ℕ → Option RowNode} {es : List (ℕ × ℕ)} {counts : List �
           all.1,
         )
 
+  -- the row that a number finds, in the slot to which it leads
+  pub own-row : (f1 : ℕ → Option RowNode) {at : ℕ} {mid : RowNode} (pid : ℕ) (row : ProcData) → ((s : ℕ) → rows_of f1 s ≡ rows_of f s) → f1 at ≡ Some mid → lookup (nat_eq pid) es ≡ Some at
+      → process_of pid (all_rows (look (rows_of f) es)) ≡ Some row → (mid.row ≡ row) × (row.pid ≡ pid)
+  own-row f1 {at} {mid} pid row rows has number there =
+      let its = row_there (rows_of f) es counts tied.slotted pid row there in
+      (grind (arith, nat_tests, same_Some, rows at, its.1, its.2), its.3)
+
+  pub taken : (f1 : ℕ → Option RowNode) (pid at : ℕ) → ((s : ℕ) → rows_of f1 s ≡ rows_of f s) → IsSome (process_of pid (all_rows (look (rows_of f) es))) → lookup (nat_eq pid) es ≡ Some at → IsSome (f1 at)
+  taken f1 pid at rows there number =
+      let row = some_of _ there in
+      let its = row_there (rows_of f) es counts tied.slotted pid row.0 row.1 in
+      grind (arith, nat_tests, same_Some, rows at, its.1, its.2)
+
   -- another row in a number's slot, which was linked anew
   module _ {f1 g : ℕ → Option RowNode} {at : ℕ} {new : ProcData} {mid : RowNode} {tracer parent : Option ℕ} (rehung : IsRehung f f1 es at tracer parent) (traced : tracer ≡ new.tracer) (parted : parent ≡ parent_named new.parent)
-      (has1 : f1 at ≡ Some mid) (has : g at ≡ Some (record mid { row = new })) (others : (s : ℕ) → s ≢ at → g s ≡ f1 s) (number : lookup (nat_eq new.pid) es ≡ Some at) where
-    same_pid : mid.row.pid ≡ new.pid
-    same_pid = grind (arith, nat_tests, same_Some)
-
+      (has1 : f1 at ≡ Some mid) (has : g at ≡ Some (record mid { row = new })) (others : (s : ℕ) → s ≢ at → g s ≡ f1 s) (number : mid.row.pid ≡ new.pid) where
     set-nodes_of : (k : ListKind) (s : ℕ) → nodes_of k g s ≡ nodes_of k f1 s
-    set-nodes_of k s = grind (arith, nat_tests, same_pid)
+    set-nodes_of k s = grind (arith, nat_tests, number)
 
     pub written : IsSomeAnd (process_of new.pid (all_rows (look (rows_of f) es))) (λ was. was.uid ≡ new.uid) → IsTied g es counts × (all_rows (look (rows_of g) es) ≡ map (put_process new) (all_rows (look (rows_of f) es)))
     written there =
         let before = some_and _ _ there in
         let row_at : rows_of g at ≡ Some new = grind (arith, nat_tests, has) in
         let row_off : (s : ℕ) → s ≢ at → rows_of g s ≡ rows_of f s = λ s apart. grind (arith, nat_tests, rehung.rows s, others s) in
-        let all = IsSlotted-set (rows_of f) es counts tied.slotted (rows_of g) es at row_off new row_at number refl before.0 before.1 before.2 in (
+        let row_was : rows_of f at ≡ Some mid.row = grind (arith, nat_tests, rehung.rows at) in
+        let was : mid.row ≡ before.0 = same_Some mid.row before.0 (sym (subst (λ n. process_of n (all_rows (look (rows_of f) es)) ≡ Some mid.row) number (row_listed (rows_of f) es counts tied.slotted at mid.row row_was)) ∙ before.1) in
+        let all = IsSlotted-set (rows_of f) es counts tied.slotted (rows_of g) es at row_off mid.row row_was new row_at number (ap (λ (p : ProcData). p.uid) was ∙ before.2) in (
           record {
             slotted = all.0;
             are_linked = are_linked-same f1 g es set-nodes_of rehung.are_linked;
-            list_owners = λ k s. grind (arith, nat_tests, set-nodes_of k s, rehung.rows at, rehung.here k, rehung.others k s, tied.list_owners k s, picked new tracer parent traced parted k, row_off s, same_pid);
+            list_owners = λ k s. grind (arith, nat_tests, set-nodes_of k s, rehung.rows at, rehung.here k, rehung.others k s, tied.list_owners k s, picked new tracer parent traced parted k, row_off s, number);
           },
           all.1,
         )
@@ -158,38 +178,38 @@ module _ {f : ℕ → Option RowNode} {es : List (ℕ × ℕ)} {counts : List �
     in_place = grind (arith, nat_tests)
 
     pub pending-written : IsTied g es counts × (all_rows (look (rows_of g) es) ≡ map (put_process (record mid.row { pending = pending })) (all_rows (look (rows_of f) es)))
-    pending-written = written in_place refl refl has has' others (tied.are_linked.listed at mid has) (rw (row-of at mid has) refl)
+    pending-written = written in_place refl refl has has' others refl (rw (row-of at mid has) refl)
 
     pub pending-listed : (pid : ℕ) (row : ProcData) → lookup (nat_eq pid) es ≡ Some at → process_of pid (all_rows (look (rows_of f) es)) ≡ Some row
         → all_rows (look (rows_of g) es) ≡ map (put_process (record row { pending = pending })) (all_rows (look (rows_of f) es))
-    pending-listed pid row number there = grind (arith, nat_tests, same_Some, look-slot, find-all_rows, finds, pending-written)
+    pending-listed pid row number there =
+        let its = row_there (rows_of f) es counts tied.slotted pid row there in
+        let was : mid.row ≡ row = grind (arith, nat_tests, same_Some, its.1, its.2) in
+        rw was at pending-written.1
 
   -- one row less, which was taken out of its lists and whose number no row names
-  pub removed : {f1 g : ℕ → Option RowNode} {es' : List (ℕ × ℕ)} {at : ℕ} {mid : RowNode} (pid : ℕ) → IsRehung f f1 es at None None → f1 at ≡ Some mid → g at ≡ None → ((s : ℕ) → s ≢ at → g s ≡ f1 s) → lookup (nat_eq pid) es ≡ Some at
-      → ((n : ℕ) → lookup (nat_eq n) es' ≡ cond (nat_eq pid n) None (lookup (nat_eq n) es)) → ((k : ListKind) → next_named k pid 0 (all_rows (look (rows_of f) es)) ≡ None) → length counts ≡ 64
-      → IsWithout f es counts pid mid.row.uid g es'
-  removed {f1} {g} {es'} {at} {mid} pid rehung has1 gone others number change unnamed long =
+  pub removed : {f1 g : ℕ → Option RowNode} {at : ℕ} {mid : RowNode} → IsRehung f f1 es at None None → f1 at ≡ Some mid → g at ≡ None → ((s : ℕ) → s ≢ at → g s ≡ f1 s)
+      → ((k : ListKind) → next_named k mid.row.pid 0 (all_rows (look (rows_of f) es)) ≡ None) → length counts ≡ 64 → IsWithout f es counts mid.row.pid mid.row.uid g
+  removed {f1} {g} {at} {mid} rehung has1 gone others unnamed long =
       let row_off : (s : ℕ) → s ≢ at → rows_of g s ≡ rows_of f s = λ s apart. grind (arith, nat_tests, rehung.rows s, others s) in
       let row_was : rows_of f at ≡ Some mid.row = grind (arith, nat_tests, rehung.rows at) in
-      let all = IsSlotted-removed (rows_of f) es counts tied.slotted (rows_of g) es' at row_off pid mid.row row_was number change long in
-      let own = tied.slotted.stored.named pid at number in
-      let its : mid.row.pid ≡ pid = grind (arith, nat_tests, own.1, own.2, row_was) in
+      let all = IsSlotted-removed (rows_of f) es counts tied.slotted (rows_of g) es at row_off mid.row row_was (ap (option_map (λ (x : RowNode). x.row)) gone) long in
       let free : (k : ListKind) → (node_of k mid).list_owner ≡ None = λ k. grind (arith, nat_tests, rehung.here k, rehung.rows at) in
       let unnamed1 : (k : ListKind) (s : ℕ) (x : RowNode) → f1 s ≡ Some x → (node_of k x).list_owner ≢ Some mid.row.pid =
-      λ k s x is names. grind (arith, nat_tests, free k, rehung.others k s, nobody-key k pid (unnamed k) s x.row.pid, its) in record {
+      λ k s x is names. grind (arith, nat_tests, free k, rehung.others k s, nobody-key k mid.row.pid (unnamed k) s x.row.pid) in record {
         user = all.0;
         some = all.1;
         tied = record {
           slotted = all.2;
-          are_linked = are_linked-gone f1 g es es' at rehung.are_linked others mid has1 gone free unnamed1 (λ n. rw its (change n));
+          are_linked = are_linked-gone f1 g es at rehung.are_linked others mid has1 gone free unnamed1;
           list_owners = λ k s. grind (arith, nat_tests, others s, rehung.others k s, tied.list_owners k s, row_off s);
         };
         rows = all.3;
       }
 
 -- no slot
-pub tied-none : (f : ℕ → Option RowNode) (es : List (ℕ × ℕ)) → ((s : ℕ) → f s ≡ None) → es ≡ [] → IsTied f es (replicate 64 0) × (all_rows (look (rows_of f) es) ≡ [])
-tied-none f es vacant none = grind (arith, nat_tests, IsSlotted-none (rows_of f) es none, are_linked-none f es vacant)
+pub tied-none : (f : ℕ → Option RowNode) (es : List (ℕ × ℕ)) → ((s : ℕ) → f s ≡ None) → IsTied f es (replicate 64 0) × (all_rows (look (rows_of f) es) ≡ [])
+tied-none f es vacant = grind (arith, nat_tests, IsSlotted-none (rows_of f) es (λ s. ap (option_map (λ (x : RowNode). x.row)) (vacant s)), are_linked-none f es vacant, vacant)
 
 -- each process that a row names is a row
 pub named_list_owners : (rows : Rows) (p : ProcData) → Named rows p → (k : ListKind) (t : ℕ) → list_owner k p ≡ Some t → IsRow rows t

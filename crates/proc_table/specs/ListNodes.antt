@@ -1,6 +1,6 @@
 -- What the lists of each kind see of a slot, and what the table's rows see of it.
 use Rattle.std.specs.Prelude.{◌≡◌, ◌<◌, ◌==◌, ◌&&◌, if◌then◌else◌}
-use Rattle.proc_table.specs.CommonNames.{ℕ, Bool, true, false, List, Option, Some, None, nat_eq, ltb, find, lookup, option_map, IsSomeAnd, ProcData, ListKind, Tracees, Children, ListLinks, RowNode}
+use Rattle.proc_table.specs.CommonNames.{ℕ, Bool, true, false, List, Option, Some, None, nat_eq, ltb, find, lookup, option_and_then, option_map, IsSomeAnd, ProcData, ListKind, Tracees, Children, ListLinks, RowNode}
 use Rattle.proc_table.specs.Links.{Node, IsLinked, keys}
 use Rattle.proc_table.specs.Slots.{IsSlotted}
 use Rattle.proc_table.specs.Processes.{is_this}
@@ -43,6 +43,10 @@ nodes_of kin f s = option_map (node_of kin) (f s)
 
 abbrev pub rows_of : (ℕ → Option RowNode) → ℕ → Option ProcData
 rows_of f s = option_map (λ slot. slot.row) (f s)
+
+-- the slot to which a number leads, if its row has the number: it may have had it once
+abbrev pub slot_named : (ℕ → Option RowNode) → List (ℕ × ℕ) → ℕ → Option ℕ
+slot_named f es n = option_and_then (λ s. option_and_then (λ slot. if slot.row.pid == n then Some s else None) (f s)) (lookup (nat_eq n) es)
 
 -- the slot has the row with this number
 abbrev pub IsHead : (ℕ → Option RowNode) → ℕ → ℕ → Type 0

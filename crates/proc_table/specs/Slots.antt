@@ -1,6 +1,7 @@
 -- How slots contain the rows of processes: a slot for each number, and a row in each slot.
 use Rattle.std.specs.Prelude.{◌≡◌, ◌==◌}
 use Rattle.proc_table.specs.CommonNames.{ℕ, List, Option, Some, nat_eq, count_by, get_or, option_and_then, lookup, IsUser, slot, listing, ProcData}
+use Rattle.proc_table.specs.Keep.{keep}
 use Rattle.proc_table.specs.Kept.{InOwnBlock}
 
 -- what contracts see of the processes alone: the rows by rising number, and how many more fit without allocation
@@ -17,14 +18,14 @@ pid_count = 64000
 abbrev pub all_rows : (ℕ → Option ProcData) → List ProcData
 all_rows f = listing f 1000 pid_count
 
--- the row that a number finds through its slot
+-- the row in the slot to which a number leads, if it has the number: it may have had it once
 abbrev pub look : (ℕ → Option ProcData) → List (ℕ × ℕ) → ℕ → Option ProcData
-look slots es pid = option_and_then slots (lookup (nat_eq pid) es)
+look slots es pid = keep (λ row. row.pid == pid) (option_and_then slots (lookup (nat_eq pid) es))
 
--- each number's slot contains the row with the number, which is at home
+-- each row's number leads to its slot, and the row is at home
 pub record IsStored (slots : ℕ → Option ProcData) (es : List (ℕ × ℕ)) : Type 0 where
-  pub named : (pid slot : ℕ) → lookup (nat_eq pid) es ≡ Some slot → (row : ProcData) × (slots slot ≡ Some row) × (row.pid ≡ pid)
-  pub home : (pid : ℕ) (row : ProcData) → look slots es pid ≡ Some row → InOwnBlock row
+  pub listed : (s : ℕ) (row : ProcData) → slots s ≡ Some row → lookup (nat_eq row.pid) es ≡ Some s
+  pub home : (s : ℕ) (row : ProcData) → slots s ≡ Some row → InOwnBlock row
 
 -- the number of each user's rows
 abbrev pub IsTally : List ℕ → List ProcData → Type 0

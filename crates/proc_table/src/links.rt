@@ -2,17 +2,17 @@
 //! order of pid, with links both ways. A walk visits only the rows of one list, and a change allocates nothing.
 //! A row leaves its list, or joins one at the end, in the same time whatever the length of the list.
 
-ghost use Rattle.std.specs.Prelude.{◌≡◌, ◌≢◌, ℕ, ◌<◌, Some, None, IsSomeAnd, IfSome, nat_eq};
+ghost use Rattle.std.specs.Prelude.{◌≡◌, ◌≢◌, ℕ, ◌<◌, Some, None, IsSome, IsSomeAnd, IfSome, nat_eq};
 ghost use Rattle.std.specs.Option.{option_map};
 ghost use Rattle.std.specs.Map.{lookup};
 ghost use Rattle.slab.specs.Slab.{get, slab_len, ContainsKey};
 ghost use Rattle.proc_table.specs.Links.{keys, IsNext, IsLinked, members, at_least, forward, backward, hung};
 ghost use Rattle.lwp_table.specs.Chain.{IsNearest, up, down, below};
 ghost use Rattle.std.specs.Fn.{FnReturnsAt};
-ghost use Rattle.proc_table.specs.ListNodes.{links_in, put_links, no_links, other, pick, node_of, nodes_of, rows_of, AreLinked, IsHead, IsFirst};
+ghost use Rattle.proc_table.specs.ListNodes.{links_in, put_links, no_links, other, pick, node_of, nodes_of, rows_of, slot_named, AreLinked, IsHead, IsFirst};
 
 use crate::ProcData;
-use number_map::NumberMap;
+use lwp_table::{Hints, NumberIndex};
 use slab::Slab;
 
 /// How rows name a process: as their tracer, or as their parent.
@@ -64,6 +64,56 @@ impl ListLinks {
             prev: None,
             next: None,
         }
+    }
+}
+
+/// Returns the slot of the row with this number, if any: the hinted one, or else the one to which the index leads.
+#[inline(always)]
+pub fn slot_of(
+    nodes: &Slab<RowNode>,
+    slots: &NumberIndex<usize>,
+    hints: &Hints,
+    number: u32,
+) -> Option<usize>
+    requires { (s : ℕ) (slot : RowNode) → get nodes.now s ≡ Some slot → lookup (nat_eq slot.row.pid) slots.now.entries ≡ Some s }
+    ensures { result ≡ slot_named (get nodes.now) slots.now.entries number }
+{
+    let hint = hints.slot(number);
+    match nodes.get(hint) {
+        Some(node) if node.row.pid.get() == number => Some(hint),
+        _ => indexed_slot(nodes, slots, number),
+    }
+}
+
+/// Returns the slot to which the index leads from this number, if its row has the number: it may have had it once.
+#[inline(never)]
+fn indexed_slot(nodes: &Slab<RowNode>, slots: &NumberIndex<usize>, number: u32) -> Option<usize>
+    ensures { result ≡ slot_named (get nodes.now) slots.now.entries number }
+{
+    let slot = *slots.get(&number)?;
+    if nodes.get(slot)?.row.pid.get() == number {
+        Some(slot)
+    } else {
+        None
+    }
+}
+
+/// Returns the slot to which this number leads, which is one.
+#[inline(always)]
+pub fn known_slot(
+    nodes: &Slab<RowNode>,
+    slots: &NumberIndex<usize>,
+    hints: &Hints,
+    number: u32,
+) -> usize
+    requires listed { (s : ℕ) (slot : RowNode) → get nodes.now s ≡ Some slot → lookup (nat_eq slot.row.pid) slots.now.entries ≡ Some s }
+    requires there { IsSome (lookup (nat_eq number) slots.now.entries) }
+    ensures { lookup (nat_eq number) slots.now.entries ≡ Some result }
+{
+    let hint = hints.slot(number);
+    match nodes.get(hint) {
+        Some(node) if node.row.pid.get() == number => hint,
+        _ => *slots.get(&number).unwrap(),
     }
 }
 
@@ -257,7 +307,7 @@ fn unlink(nodes: &mut Slab<RowNode>, kin: ListKind, head: usize, list_owner: u32
 }
 
 /// Removes the row in `slot` from the list that contains it, if any.
-fn leave(nodes: &mut Slab<RowNode>, slots: &NumberMap<usize>, kin: ListKind, slot: usize)
+fn leave(nodes: &mut Slab<RowNode>, slots: &NumberIndex<usize>, kin: ListKind, slot: usize)
     requires are_linked { AreLinked (get nodes.old) slots.now.entries }
     requires there { ContainsKey nodes.old slot }
     ensures are_linked { AreLinked (get nodes.new) slots.now.entries }
@@ -269,7 +319,7 @@ fn leave(nodes: &mut Slab<RowNode>, slots: &NumberMap<usize>, kin: ListKind, slo
     ensures capacity { nodes.new.capacity ≡ nodes.old.capacity }
 {
     if let Some(list_owner) = links_of(kin, &nodes[slot]).list_owner {
-        let head = slots.get(list_owner).unwrap();
+        let head = slots[&list_owner];
         unlink(nodes, kin, head, list_owner, slot);
     }
 }
@@ -277,7 +327,7 @@ fn leave(nodes: &mut Slab<RowNode>, slots: &NumberMap<usize>, kin: ListKind, slo
 /// Adds the row in `slot`, which is in no list, to the list of `list_owner`, if any.
 fn join(
     nodes: &mut Slab<RowNode>,
-    slots: &NumberMap<usize>,
+    slots: &NumberIndex<usize>,
     kin: ListKind,
     slot: usize,
     list_owner: Option<u32>,
@@ -294,7 +344,7 @@ fn join(
     ensures capacity { nodes.new.capacity ≡ nodes.old.capacity }
 {
     if let Some(list_owner) = list_owner {
-        let head = slots.get(list_owner).unwrap();
+        let head = slots[&list_owner];
         link(nodes, kin, head, list_owner, slot);
     }
 }
@@ -303,7 +353,7 @@ fn join(
 #[inline(never)]
 fn move_to_list(
     nodes: &mut Slab<RowNode>,
-    slots: &NumberMap<usize>,
+    slots: &NumberIndex<usize>,
     kin: ListKind,
     slot: usize,
     list_owner: Option<u32>,
@@ -327,7 +377,7 @@ fn move_to_list(
 #[inline(always)]
 pub fn update_list(
     nodes: &mut Slab<RowNode>,
-    slots: &NumberMap<usize>,
+    slots: &NumberIndex<usize>,
     kin: ListKind,
     slot: usize,
     list_owner: Option<u32>,
@@ -351,7 +401,7 @@ pub fn update_list(
 /// Moves the row in `slot` to the lists of its tracer and of its parent, or to none.
 pub fn update_lists(
     nodes: &mut Slab<RowNode>,
-    slots: &NumberMap<usize>,
+    slots: &NumberIndex<usize>,
     slot: usize,
     tracer: Option<u32>,
     parent: Option<u32>,
@@ -372,9 +422,11 @@ pub fn update_lists(
 
 /// Returns the slot of the first row above `after` in the list of `list_owner`: by the link of `after` if that is
 /// in the list, and else by a walk of the list.
+#[inline(always)]
 pub fn next_slot(
     nodes: &Slab<RowNode>,
-    slots: &NumberMap<usize>,
+    slots: &NumberIndex<usize>,
+    hints: &Hints,
     kin: ListKind,
     head: usize,
     list_owner: u32,
@@ -382,14 +434,13 @@ pub fn next_slot(
 ) -> Option<usize>
     requires are_linked { AreLinked (get nodes.now) slots.now.entries }
     requires there { IsHead (get nodes.now) head list_owner }
-    requires at { (n h : ℕ) → lookup (nat_eq n) slots.now.entries ≡ Some h → IsHead (get nodes.now) h n }
     requires below { (s : ℕ) (slot : RowNode) → get nodes.now s ≡ Some slot → slot.row.pid < 65000 }
     ensures { IsNext (keys (nodes_of kin (get nodes.now))) list_owner after result }
 {
     if after == 0 {
         return links_of(kin, &nodes[head]).first;
     }
-    if let Some(at) = slots.get(after) {
+    if let Some(at) = slot_of(nodes, slots, hints, after) {
         let links = links_of(kin, &nodes[at]);
         if links.list_owner == Some(list_owner) {
             return links.next;

@@ -9,12 +9,15 @@ ghost use Rattle.proc_table.specs.Walks.{next_tracee, next_child, find_tracee, f
 ghost use Rattle.proc_table.specs.Kept.{InOwnBlock, put_process};
 
 use crate::ProcData;
-use crate::links::{ListKind, ListLinks, RowNode, first_slot, next_slot, update_lists};
-use number_map::NumberMap;
+use crate::links::{
+    ListKind, ListLinks, RowNode, first_slot, known_slot, next_slot, slot_of, update_lists,
+};
+use lwp_table::{Hints, NumberIndex};
 use pid_blocks::{Pid, Uid};
 use signals::SigSet;
 use slab::Slab;
 use std::alloc::{AllocError, Global};
+use std::hash::BuildHasherDefault;
 use std::marker::Model;
 
 /// Returns the process whose list of tracees contains the row.
@@ -57,17 +60,19 @@ fn with_row(slot: &RowNode, row: ProcData) -> RowNode
     }
 }
 
-/// The rows of processes by rising number. Each is in a slot, which its number finds.
+/// The rows of processes by rising number. Each is in a slot, to which its number leads.
 #[derive(Drop)]
 pub struct Processes {
     nodes: Slab<RowNode>,
-    slots: NumberMap<usize>,
+    slots: NumberIndex<usize>,
+    hints: Hints,
     counts: [usize; 64],
 }
 
 impl Model for Processes {
     ghost use Rattle.std.specs.Prelude.{◌-◌, min};
     ghost use Rattle.slab.specs.Slab.{slab_len, get};
+    ghost use Rattle.indexmap.specs.IndexMap.{spare};
     ghost use Rattle.proc_table.specs.Slots.{ProcRows, all_rows, look};
     ghost use Rattle.proc_table.specs.ListNodes.{rows_of, IsTied};
 
@@ -75,7 +80,7 @@ impl Model for Processes {
 
     ghost view = { λ t. record {
       rows = all_rows (look (rows_of (get t.nodes)) t.slots.entries);
-      spare = min (t.nodes.capacity - slab_len t.nodes) t.slots.spare;
+      spare = min (t.nodes.capacity - slab_len t.nodes) (spare t.slots);
     } };
 
     ghost invariant = { λ t. IsTied (get t.nodes) t.slots.entries t.counts };
@@ -89,6 +94,7 @@ impl Clone for Processes {
         Ok(Processes {
             nodes: self.nodes.clone()?,
             slots: self.slots.clone()?,
+            hints: self.hints.clone()?,
             counts: self.counts,
         })
     }
@@ -102,7 +108,8 @@ impl Processes {
         let counts = [0; 64];
         Ok(Processes {
             nodes: Slab::new(alloc),
-            slots: NumberMap::new(alloc)?,
+            slots: NumberIndex::with_hasher(alloc, BuildHasherDefault::new()),
+            hints: Hints::new(alloc)?,
             counts,
         })
     }
@@ -123,7 +130,7 @@ impl Processes {
     pub fn find(&self, number: u32) -> Option<&ProcData>
         ensures { option_copied result ≡ process_of number self.now.rows }
     {
-        let slot = self.slots.get(number)?;
+        let slot = slot_of(&self.nodes, &self.slots, &self.hints, number)?;
         Some(&self.nodes[slot].row)
     }
 
@@ -141,25 +148,27 @@ impl Processes {
         Some(self.find(number)?.uid)
     }
 
-    /// Tests whether a row has this number.
-    #[tactic(auto, using(crate::proofs::Seen::has_row))]
-    pub fn has(&self, number: u32) -> bool
-        ensures { result ≡ list_any (λ p. p.pid == number) self.now.rows }
-    {
-        self.get(number).is_some()
-    }
-
     /// Returns the first row above a number that names this process.
+    #[inline(always)]
     fn next_named(&self, kin: ListKind, pid: Pid, after: u32) -> Option<ProcData>
         ensures { result ≡ next_named kin pid after self.now.rows }
     {
         let number = pid.get();
-        let head = self.slots.get(number)?;
-        let slot = next_slot(&self.nodes, &self.slots, kin, head, number, after)?;
+        let head = slot_of(&self.nodes, &self.slots, &self.hints, number)?;
+        let slot = next_slot(
+            &self.nodes,
+            &self.slots,
+            &self.hints,
+            kin,
+            head,
+            number,
+            after,
+        )?;
         Some(self.nodes[slot].row)
     }
 
     /// Returns the first row above a number that this process traces.
+    #[inline(always)]
     pub fn next_tracee(&self, pid: Pid, after: u32) -> Option<ProcData>
         ensures { result ≡ next_tracee pid after self.now.rows }
     {
@@ -168,6 +177,7 @@ impl Processes {
 
     /// Returns the first row above a number whose parent is this process.
     #[tactic(auto, using(crate::proofs::Tied::children_named))]
+    #[inline(always)]
     pub fn next_child(&self, pid: Pid, after: u32) -> Option<ProcData>
         ensures { result ≡ next_child pid after self.now.rows }
     {
@@ -187,7 +197,7 @@ impl Processes {
         ensures { (t : ProcData → Bool) → DecidesRows (FnReturnsAt F.Fn test) self.now.rows t → result ≡ find_named kin pid t self.now.rows }
     {
         let number = pid.get();
-        let head = self.slots.get(number)?;
+        let head = slot_of(&self.nodes, &self.slots, &self.hints, number)?;
         let slot = first_slot(&self.nodes, kin, head, number, test)?;
         Some(self.nodes[slot].row)
     }
@@ -228,7 +238,8 @@ impl Processes {
         let tracer = tracer_of(&row);
         let parent = parent_of(&row);
         let slot = self.nodes.insert_reserved(unlinked(row));
-        self.slots.insert(row.pid.get(), slot);
+        self.slots.insert(row.pid.get(), slot).unwrap();
+        self.hints.note(row.pid.get(), slot);
         update_lists(&mut self.nodes, &self.slots, slot, tracer, parent);
         self.counts[row.uid.slot()] += 1;
     }
@@ -242,7 +253,7 @@ impl Processes {
         ensures spare { self.new.spare ≡ self.old.spare }
     {
         let number = row.pid.get();
-        let slot = self.slots.get(number).unwrap();
+        let slot = known_slot(&self.nodes, &self.slots, &self.hints, number);
         update_lists(
             &mut self.nodes,
             &self.slots,
@@ -259,7 +270,7 @@ impl Processes {
         ensures rows { (row : ProcData) → process_of pid self.old.rows ≡ Some row → self.new.rows ≡ map (put_process (record row { pending = pending })) self.old.rows }
         ensures spare { self.new.spare ≡ self.old.spare }
     {
-        let at = self.slots.get(pid.get()).unwrap();
+        let at = known_slot(&self.nodes, &self.slots, &self.hints, pid.get());
         let slot = &mut self.nodes[at];
         slot.row.pending = pending;
     }
@@ -272,9 +283,9 @@ impl Processes {
         ensures spare { self.old.spare ≤ self.new.spare }
     {
         let number = pid.get();
-        let slot = self.slots.get(number).unwrap();
+        // the number keeps its entry, which a row with the number takes again
+        let slot = known_slot(&self.nodes, &self.slots, &self.hints, number);
         update_lists(&mut self.nodes, &self.slots, slot, None, None);
-        self.slots.remove(number);
         let gone = self.nodes.remove(slot);
         self.counts[gone.row.uid.slot()] -= 1;
     }

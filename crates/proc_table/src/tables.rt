@@ -1,6 +1,6 @@
 //! The tables of a host: its processes, its LWPs, and where the search for each user's next number begins.
 
-ghost use Rattle.std.specs.Prelude.{◌≡◌, ℕ, ◌+◌, ◌-◌, ◌*◌, ◌<◌, ◌≤◌, ◌^◌, ◌==◌, Bool, true, false, None, IsSome, IsSomeAnd, OnOk, IfOk, IfSome, count_by, ltb, length, get_or, map, option_map, slice_get};
+ghost use Rattle.std.specs.Prelude.{◌≡◌, ℕ, ◌+◌, ◌-◌, ◌*◌, ◌<◌, ◌≤◌, ◌^◌, ◌==◌, Bool, true, false, None, IsSome, IsSomeAnd, OnOk, IfOk, IfSome, count_by, ltb, filter, length, get_or, map, option_map, slice_get};
 ghost use Rattle.pid_blocks.specs.Users.{IsUser};
 ghost use Rattle.pid_blocks.specs.Blocks.{slot, users, pid_block, tid_block, first_free, next_free, InBlock};
 ghost use Rattle.lwp_table.specs.Lwps.{first_lwp, lwp_of, next_lwp, put_lwp, ComputesRows, LeavesQuiet};
@@ -16,7 +16,7 @@ ghost use Rattle.proc_table.specs.Kept.{TableInvariant, IsRow, InOwnBlock, Named
 use crate::ProcData;
 use crate::processes::Processes;
 use bit_sets::NumberSet;
-use lwp_table::{LwpData, LwpTable};
+use lwp_table::{LwpData, LwpTable, OfUser};
 use pid_blocks::{
     FIRST_PID, FIRST_TID, PIDS, Pid, TIDS, Tid, Uid, cursor_after, next_free, pid_block, tid_block,
 };
@@ -165,12 +165,20 @@ impl Tables {
         self.lwps.next_of(pid, after)
     }
 
-    /// Returns the LWP at this place in order of birth, if any.
+    /// Returns the LWP at this place in order of birth, if any, by as many passes over all rows as the place is far on.
     pub fn lwp_at(&self, place: usize) -> Option<LwpData>
         ensures row { result ≡ slice_get self.now.rows.lwps place }
         ensures kept { TableInvariant self.now.rows }
     {
         self.lwps.at(place)
+    }
+
+    /// Returns an iterator over the LWPs of the user's processes, in order of birth. It looks at no other row.
+    pub fn lwps_of_user(&self, uid: Uid) -> OfUser<'_>
+        ensures rows { result ≡ filter (λ l. owns uid l.pid self.now.rows.processes) self.now.rows.lwps }
+        ensures kept { TableInvariant self.now.rows }
+    {
+        self.lwps.of_user(uid)
     }
 
     /// Returns the user's process with this number, if any.
@@ -196,11 +204,13 @@ impl Tables {
         ensures row { result ≡ seen_lwp uid number self.now.rows }
         ensures kept { TableInvariant self.now.rows }
     {
-        let pid = self.lwp_process(number)?;
-        if !self.owns(uid, pid) {
-            return None;
+        let _ = &self.lwps;
+        let row = self.lwps.get(Tid::new(number)?)?;
+        if self.owns(uid, row.pid) {
+            Some(row)
+        } else {
+            None
         }
-        self.lwps.get(Tid::new(number)?)
     }
 
     /// Returns the number if it is that of one of the user's processes.
@@ -248,6 +258,7 @@ impl Tables {
     }
 
     /// Returns the user's first process above a number, if any.
+    #[inline(always)]
     #[tactic(auto, using(crate::proofs::NextOf::next_of_numbered))]
     pub fn next_of(&self, uid: Uid, after: u32) -> Option<ProcData>
         ensures row { result ≡ next_of uid after self.now.rows.processes }
@@ -258,6 +269,7 @@ impl Tables {
     }
 
     /// Returns the first process above a number that this process traces, if any.
+    #[inline(always)]
     pub fn next_tracee(&self, pid: Pid, after: u32) -> Option<ProcData>
         ensures row { result ≡ next_tracee pid after self.now.rows.processes }
         ensures kept { TableInvariant self.now.rows }
@@ -266,6 +278,7 @@ impl Tables {
     }
 
     /// Returns the first process above a number whose parent is this process, if any.
+    #[inline(always)]
     pub fn next_child(&self, pid: Pid, after: u32) -> Option<ProcData>
         ensures row { result ≡ next_child pid after self.now.rows.processes }
         ensures kept { TableInvariant self.now.rows }
@@ -346,10 +359,11 @@ impl Tables {
     }
 
     /// Tests whether a process has the number.
+    #[tactic(auto, using(crate::proofs::Seen::number_laws))]
     fn is_process(&self, number: u32) -> bool
         ensures { result ≡ is_process self.now.rows number }
     {
-        self.processes.has(number)
+        number >= FIRST_PID && self.pids.contains(number - FIRST_PID)
     }
 
     /// Tests whether an LWP has the number.
@@ -357,7 +371,10 @@ impl Tables {
     fn is_lwp(&self, number: u32) -> bool
         ensures { result ≡ is_lwp self.now.rows number }
     {
-        self.lwp_process(number).is_some()
+        match Tid::new(number) {
+            Some(tid) => self.lwps.has(tid),
+            None => false,
+        }
     }
 
     /// Returns the number for the user's next process, or `None` if all of the user's process numbers are taken.

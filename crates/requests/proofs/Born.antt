@@ -1,7 +1,7 @@
 -- The empty host is sound, and spawning keeps a host sound.
 use Rattle.requests.proofs.CommonNames.{nat_tests, ◌≡◌, ℕ, true, Option, Some, None, IfSome, arith, IsUser, born, spawned, Rows, Settings, IsSound, both, sound_rows-from, Numbers, room_for_process}
 use Rattle.requests.proofs.CommonNames.{spawn, spawn_with, Machine, empty, sound, step, Due, Step}
-use Rattle.trace_stop.proofs.SoundAfterSpawn.{born_sound}
+use Rattle.trace_rows.proofs.SoundAfterSpawn.{born_sound}
 use Rattle.requests.proofs.Room.{ProcessRoom, process_room}
 use Rattle.requests.proofs.SoundWithoutEnded.{rows_sound, after_sound}
 use Rattle.requests.proofs.IsolationOfHosts.{at_slot}

@@ -25,22 +25,22 @@ pub use Rattle.proc_table.proofs.Every.{every_found, every_untested, found_teste
 pub use Rattle.proc_table.proofs.Rows.{found_row, is_process-map, lwp_of-map, lwp_of-tid, other_number, process_of-pid, row_found, same_number}
 pub use Rattle.proc_table.proofs.Seen.{lwp-within, owns-kept, seen_lwp-kept}
 pub use Rattle.proc_table.proofs.Stays.{changed-pid, changed_lwp-keeps, lwp_there, named-same, own_lwp-keeps, process-set, process_there}
-pub use Rattle.trace_stop.specs.Before.{FitButPending, FitLwpButPending, FitOrReady, IsSoundButPending, MayStop, Ready}
-pub use Rattle.trace_stop.specs.Facts.{FitLwp, FitProcess, IsLiveChild, IsLiveOf, IsSound, Linked, Standing, MidStepInvariant, WithOwner, waited_for}
-pub use Rattle.trace_stop.proofs.SoundAfterEdit.{Beside, Holds, KeptLwp, KeptRow, Leaves, Like, Row, Same, Stay, edit_holds, found_number, holds_sound, kept_all, kept_lwp, kept_row, like_self}
-pub use Rattle.trace_stop.proofs.SoundAfterEdit.{lwps_alone, no_ring, nobody, none_gone, row_is, same_lwp, sound_holds, stay, stay_where}
-pub use Rattle.trace_stop.proofs.ProcessEdits.{changed_own, changed_row, changes_hold}
-pub use Rattle.trace_stop.proofs.Edited.{If_more, count_edit, edit_none, find_edit, if_at, one_gone, some_is}
-pub use Rattle.trace_stop.proofs.Every.{All-any, All-append, All-both, All-filter, All-from_list_all, All-imply, and_left, and_right, any_holds, any_more, both, by_bool, choose, choose_both}
-pub use Rattle.trace_stop.proofs.Every.{count-cons, find_some, list_all-from_All, not_some, or_left, any_forward, or_true}
-pub use Rattle.trace_stop.proofs.FromSound.{IsSound-from, sound_rows-from, user_at, zip_users}
-pub use Rattle.trace_stop.proofs.Numbers.{one_row, own_lwps, the_lwp, the_row}
-pub use Rattle.trace_stop.proofs.Passes.{found_above, own_rows, process_edited, rise_edited, filter_map_twice}
-pub use Rattle.trace_stop.proofs.SoundAfterSettle.{live_fits, live_state, pending_fits}
-pub use Rattle.trace_stop.proofs.SoundAfterPost.{detach_sound, end_at, post_sound, resume_sound}
-pub use Rattle.trace_stop.proofs.Settling.{disposed_sound, redisposed_lwp, settle_sound, zero_apart}
-pub use Rattle.trace_stop.proofs.Single.{OneLwp, OneProcess, lwp_sound, process_sound}
-pub use Rattle.trace_stop.proofs.SoundAfterStop.{find_passes, may_stop, run_quiet, sound_ready, stopped_sound}
+pub use Rattle.trace_rows.specs.Before.{FitButPending, FitLwpButPending, FitOrReady, IsSoundButPending, MayStop, Ready}
+pub use Rattle.trace_rows.specs.Facts.{FitLwp, FitProcess, IsLiveChild, IsLiveOf, IsSound, Linked, Standing, MidStepInvariant, WithOwner, waited_for}
+pub use Rattle.trace_rows.proofs.SoundAfterEdit.{Beside, Holds, KeptLwp, KeptRow, Leaves, Like, Row, Same, Stay, edit_holds, found_number, holds_sound, kept_all, kept_lwp, kept_row, like_self}
+pub use Rattle.trace_rows.proofs.SoundAfterEdit.{lwps_alone, no_ring, nobody, none_gone, row_is, same_lwp, sound_holds, stay, stay_where}
+pub use Rattle.trace_rows.proofs.ProcessEdits.{changed_own, changed_row, changes_hold}
+pub use Rattle.trace_rows.proofs.Edited.{If_more, count_edit, edit_none, find_edit, if_at, one_gone, some_is}
+pub use Rattle.trace_rows.proofs.Every.{All-any, All-append, All-both, All-filter, All-from_list_all, All-imply, and_left, and_right, any_holds, any_more, both, by_bool, choose, choose_both}
+pub use Rattle.trace_rows.proofs.Every.{count-cons, find_some, list_all-from_All, not_some, or_left, any_forward, or_true}
+pub use Rattle.trace_rows.proofs.FromSound.{IsSound-from, sound_rows-from, user_at, zip_users}
+pub use Rattle.trace_rows.proofs.Numbers.{one_row, own_lwps, the_lwp, the_row}
+pub use Rattle.trace_rows.proofs.Passes.{found_above, own_rows, process_edited, rise_edited, filter_map_twice}
+pub use Rattle.trace_rows.proofs.SoundAfterSettle.{live_fits, live_state, pending_fits}
+pub use Rattle.trace_rows.proofs.SoundAfterPost.{detach_sound, end_at, post_sound, resume_sound}
+pub use Rattle.trace_rows.proofs.Settling.{disposed_sound, redisposed_lwp, settle_sound, zero_apart}
+pub use Rattle.trace_rows.proofs.Single.{OneLwp, OneProcess, lwp_sound, process_sound}
+pub use Rattle.trace_rows.proofs.SoundAfterStop.{find_passes, may_stop, run_quiet, sound_ready, stopped_sound}
 pub use Rattle.row_isolation.proofs.IsolationOfEdits.{Stays, branch_rows, change_same, kin_of, lwp_added_same, lwp_removed_same, lwp_same_after, process_added_same, process_same_after, put_at}
 pub use Rattle.row_isolation.proofs.IsolationOfEdits.{slots_differ, stays_if}
 pub use Rattle.row_isolation.proofs.FilteredLists.{All-where, any_only, every, filter-all, filter_only, filter_same}

@@ -6,7 +6,7 @@ use Rattle.requests.proofs.CommonNames.{own_lwp, is_own, named, lwp_query, proce
 use Rattle.requests.proofs.CommonNames.{tid_in_block, owns_owner}
 use Rattle.std.proofs.Math.Path.{fun_ext}
 use Rattle.row_isolation.proofs.FilteredLists.{find_some}
-use Rattle.trace_stop.proofs.Placed.{process_of-placed}
+use Rattle.trace_rows.proofs.Placed.{process_of-placed}
 
 -- Branches
 

@@ -8,6 +8,8 @@ use Rattle.requests.proofs.CommonNames.{sigaction, collect_reply, wait, is_which
 use Rattle.requests.proofs.CommonNames.{resumes, signal_alone, no_events, Stepping, switched, shows_info, does, commands_stopped, commands, is_attach, about, target_of, is_trace_me, ptrace, decided, view_of, done, handles_stop}
 use Rattle.requests.proofs.CommonNames.{handles_status, handles, no_options, GoodProc, GoodLwp, All-where, Sim, own, row_query, rows_query, lwp_query, lwps_query, process_same, If_more, branch_rows}
 use Rattle.requests.proofs.CommonNames.{process_same_after, lwp_same_after, and_left, and_right, pid_in_block, tid_in_block, AllByRecursion, Reply, option_map}
+use Rattle.lwp_table.specs.Lwps.{lwps_of}
+use Rattle.proc_table.specs.Processes.{is_this, reporting}
 use Rattle.row_isolation.proofs.FilteredLists.{find_some}
 use Rattle.row_isolation.proofs.IsolationOfSignals.{settle_same, own_some}
 use Rattle.row_isolation.proofs.IsolationOfEnds.{meets_same, post_same, stop_same, resume_same, detach_same}
@@ -83,45 +85,48 @@ set_mask_same s mask n here = process_same_after s n here (λ p. record p { mask
 pub resumes_same : {u : ℕ} {start c v : Rows} → Sim u start c v → (settings : Settings) (adds : EventMask) (stepping : Stepping) (sig : ℕ) (p : ProcData) → pid_owner p.pid ≡ u → Same u start (resumes settings adds stepping sig p c) (resumes settings adds stepping sig p v)
 resumes_same s settings adds stepping sig p here = answered (resume_same s settings (record { adds = adds; stepping = stepping; pass = sig }) p.pid here) _
 
+lwps_of_same : {u : ℕ} {start c v : Rows} → Sim u start c v → (n : ℕ) → pid_owner n ≡ u → lwps_of n c.lwps ≡ lwps_of n v.lwps
+lwps_of_same s n here = lwps_query s (λ l. l.pid == n) (λ l well is. ap pid_owner (eqb-true l.pid n is) ∙ here)
+
 pub lwp_of_same : {u : ℕ} {start c v : Rows} → Sim u start c v → (tid : ℕ) → tid_owner tid ≡ u → lwp_of tid c.lwps ≡ lwp_of tid v.lwps
 lwp_of_same s tid here = lwp_query s (λ l. l.tid == tid) (λ l well is. sym well.block ∙ ap tid_owner (eqb-true l.tid tid is) ∙ here)
 
-does_same : {u : ℕ} {start c v : Rows} → Sim u start c v → (settings : Settings) (r : Request) («data» tid : ℕ) (p : ProcData) → pid_owner p.pid ≡ u → tid_owner tid ≡ u → Same u start (does settings r «data» tid p c) (does settings r «data» tid p v)
-does_same s settings Request.Continue «data» tid p here t = resumes_same s settings no_events Stepping.Nobody «data» p here
-does_same s settings Request.Step «data» tid p here t = resumes_same s settings no_events (Stepping.Only tid) «data» p here
-does_same s settings Request.Suspend «data» tid p here t = answered (lwp_same_after s tid t (λ l. record l { suspended = true }) (λ l well is. (refl, record { block = well.block; waits = well.waits }))) _
-does_same s settings Request.Resume «data» tid p here t = answered (lwp_same_after s tid t (λ l. record l { suspended = false }) (λ l well is. (refl, record { block = well.block; waits = well.waits }))) _
-does_same s settings Request.Detach «data» tid p here t = answered (detach_same s settings p.pid «data» here) _
-does_same s settings Request.Kill «data» tid p here t = answered (resume_same s settings (signal_alone SIGKILL) p.pid here) _
-does_same s settings Request.SetEventMask «data» tid p here t = answered (set_mask_same s (λ mask. record { 0 = «data» }) p.pid here) _
-does_same {u} {start} {c} {v} s settings Request.LwpInfo «data» tid p here t = subst (λ o. Same u start (shows_info (info p tid c) c) (shows_info o v)) (ap (option_map (lwp_info _)) (lwp_of_same s tid t)) (grind (arith, nat_tests, answered))
-does_same s settings Request.GetNumLwps «data» tid p here t = record { rows = s; reply = ap Reply.Number (lwp_count_same s p.pid here) }
-does_same s settings Request.GetLwpList «data» tid p here t = record { rows = s; reply = ap (λ ls. Reply.Lwps (take «data» (map (λ l. l.tid) ls))) (lwps_query s (λ l. l.pid == p.pid) (λ l well is. ap pid_owner (eqb-true l.pid p.pid is) ∙ here)) }
-does_same s settings Request.ToSce «data» tid p here t = resumes_same s settings PTRACE_SCE Stepping.Nobody «data» p here
-does_same s settings Request.ToScx «data» tid p here t = resumes_same s settings PTRACE_SCX Stepping.Nobody «data» p here
-does_same s settings Request.Syscall «data» tid p here t = resumes_same s settings (mask_with PTRACE_SCE PTRACE_SCX) Stepping.Nobody «data» p here
-does_same s settings Request.FollowFork «data» tid p here t = answered (set_mask_same s (switched PTRACE_FORK «data») p.pid here) _
-does_same s settings Request.LwpEvents «data» tid p here t = answered (set_mask_same s (switched PTRACE_LWP «data») p.pid here) _
-does_same s settings r «data» tid p here t = answered s _
+does_same : {u : ℕ} {start c v : Rows} → Sim u start c v → (settings : Settings) (r : Request) (arg tid : ℕ) (p : ProcData) → pid_owner p.pid ≡ u → tid_owner tid ≡ u → Same u start (does settings r arg tid p c) (does settings r arg tid p v)
+does_same s settings Request.Continue arg tid p here t = resumes_same s settings no_events Stepping.Nobody arg p here
+does_same s settings Request.Step arg tid p here t = resumes_same s settings no_events (Stepping.Only tid) arg p here
+does_same s settings Request.Suspend arg tid p here t = answered (lwp_same_after s tid t (λ l. record l { suspended = true }) (λ l well is. (refl, record { block = well.block; waits = well.waits }))) _
+does_same s settings Request.Resume arg tid p here t = answered (lwp_same_after s tid t (λ l. record l { suspended = false }) (λ l well is. (refl, record { block = well.block; waits = well.waits }))) _
+does_same s settings Request.Detach arg tid p here t = answered (detach_same s settings p.pid arg here) _
+does_same s settings Request.Kill arg tid p here t = answered (resume_same s settings (signal_alone SIGKILL) p.pid here) _
+does_same s settings Request.SetEventMask arg tid p here t = answered (set_mask_same s (λ mask. record { 0 = arg }) p.pid here) _
+does_same {u} {start} {c} {v} s settings Request.LwpInfo arg tid p here t = subst (λ o. Same u start (shows_info (info p tid c) c) (shows_info o v)) (ap (λ ls. option_map (lwp_info (is_this tid (reporting p))) (lwp_of tid ls)) (lwps_of_same s p.pid here)) (grind (arith, nat_tests, answered))
+does_same s settings Request.GetNumLwps arg tid p here t = record { rows = s; reply = ap Reply.Number (lwp_count_same s p.pid here) }
+does_same s settings Request.GetLwpList arg tid p here t = record { rows = s; reply = ap (λ ls. Reply.Lwps (take arg (map (λ l. l.tid) ls))) (lwps_of_same s p.pid here) }
+does_same s settings Request.ToSce arg tid p here t = resumes_same s settings PTRACE_SCE Stepping.Nobody arg p here
+does_same s settings Request.ToScx arg tid p here t = resumes_same s settings PTRACE_SCX Stepping.Nobody arg p here
+does_same s settings Request.Syscall arg tid p here t = resumes_same s settings (mask_with PTRACE_SCE PTRACE_SCX) Stepping.Nobody arg p here
+does_same s settings Request.FollowFork arg tid p here t = answered (set_mask_same s (switched PTRACE_FORK arg) p.pid here) _
+does_same s settings Request.LwpEvents arg tid p here t = answered (set_mask_same s (switched PTRACE_LWP arg) p.pid here) _
+does_same s settings r arg tid p here t = answered s _
 
-commands_stopped_same : {u : ℕ} {start c v : Rows} → Sim u start c v → (settings : Settings) (r : Request) (target «data» : ℕ) (p : ProcData) → pid_owner p.pid ≡ u → (leb target 99999 ≡ false → tid_owner target ≡ u) → (o : Option ℕ) → IfSome o (λ t. tid_owner t ≡ u) → Same u start (commands_stopped settings r target «data» p c o) (commands_stopped settings r target «data» p v o)
-commands_stopped_same s settings r target «data» p here lwp None g = answered s _
-commands_stopped_same {u} s settings r target «data» p here lwp (Some tid) g = branch (bad_argument r «data») _ refl (λ b. answered s _) (λ b. does_same s settings r «data» (if leb target 99999 then tid else target) p here (grind (arith, nat_tests, g, lwp)))
+commands_stopped_same : {u : ℕ} {start c v : Rows} → Sim u start c v → (settings : Settings) (r : Request) (target arg : ℕ) (p : ProcData) → pid_owner p.pid ≡ u → (leb target 99999 ≡ false → tid_owner target ≡ u) → (o : Option ℕ) → IfSome o (λ t. tid_owner t ≡ u) → Same u start (commands_stopped settings r target arg p c o) (commands_stopped settings r target arg p v o)
+commands_stopped_same s settings r target arg p here lwp None g = answered s _
+commands_stopped_same {u} s settings r target arg p here lwp (Some tid) g = branch (bad_argument r arg) _ refl (λ b. answered s _) (λ b. does_same s settings r arg (if leb target 99999 then tid else target) p here (grind (arith, nat_tests, g, lwp)))
 
 abbrev pub Target : ℕ → ℕ → ProcData → Type 0
 Target u target p = GoodProc p × (p.uid ≡ u) × (leb target 99999 ≡ false → tid_owner target ≡ u)
 
-commands_same : {u : ℕ} {start c v : Rows} → Sim u start c v → (settings : Settings) (me : ProcData) (r : Request) (target «data» : ℕ) (p : ProcData) → Target u target p → Same u start (commands settings me r target «data» p c) (commands settings me r target «data» p v)
-commands_same {u} s settings me r target «data» p g =
+commands_same : {u : ℕ} {start c v : Rows} → Sim u start c v → (settings : Settings) (me : ProcData) (r : Request) (target arg : ℕ) (p : ProcData) → Target u target p → Same u start (commands settings me r target arg p c) (commands settings me r target arg p v)
+commands_same {u} s settings me r target arg p g =
     branch (not (is_some p.tracer)) _ refl (λ b. answered s _) (λ b.
     branch (not (traces me.pid p)) _ refl (λ b. answered s _) (λ b.
-    commands_stopped_same s settings r target «data» p (g.0.block ∙ g.1) g.2 (reported_stop p.state) (grind (arith, nat_tests))))
+    commands_stopped_same s settings r target arg p (g.0.block ∙ g.1) g.2 (reported_stop p.state) (grind (arith, nat_tests))))
 
-about_same : {u : ℕ} {start c v : Rows} → Sim u start c v → (settings : Settings) (me : ProcData) (r : Request) (target «data» : ℕ) → pid_owner me.pid ≡ u → (o : Option ProcData) → IfSome o (Target u target) → Same u start (about settings me r target «data» o c) (about settings me r target «data» o v)
-about_same s settings me r target «data» by None g = answered s _
-about_same s settings me r target «data» by (Some p) g =
+about_same : {u : ℕ} {start c v : Rows} → Sim u start c v → (settings : Settings) (me : ProcData) (r : Request) (target arg : ℕ) → pid_owner me.pid ≡ u → (o : Option ProcData) → IfSome o (Target u target) → Same u start (about settings me r target arg o c) (about settings me r target arg o v)
+about_same s settings me r target arg by None g = answered s _
+about_same s settings me r target arg by (Some p) g =
     branch (not (is_live p)) _ refl (λ b. answered s _) (λ b.
-    branch (is_attach r) _ refl (λ b. attach_same s me p by (g.0.block ∙ g.1)) (λ b. commands_same s settings me r target «data» p g))
+    branch (is_attach r) _ refl (λ b. attach_same s me p by (g.0.block ∙ g.1)) (λ b. commands_same s settings me r target arg p g))
 
 find_facts : {u : ℕ} {start c v : Rows} → Sim u start c v → (target : ℕ) → IfSome (find_seen u target c) (λ n. (pid_owner n ≡ u) × (leb target 99999 ≡ false → tid_owner target ≡ u))
 find_facts s target = grind (arith, nat_tests, seen_some s target, seen_lwp_some s target)
@@ -129,9 +134,9 @@ find_facts s target = grind (arith, nat_tests, seen_some s target, seen_lwp_some
 target_same : {u : ℕ} {start c v : Rows} → Sim u start c v → (target : ℕ) → target_of u target c ≡ target_of u target v
 target_same s target = grind (arith, nat_tests, process_same, find_facts s target, seen_same s target, seen_lwp_same s target)
 
-pub ptrace_same : {u : ℕ} {start c v : Rows} → Sim u start c v → (settings : Settings) (me : ProcData) (r : Request) (target «data» : ℕ) → GoodProc me → me.uid ≡ u → Same u start (ptrace settings u me r target «data» c) (ptrace settings u me r target «data» v)
-ptrace_same {u} {start} {c} {v} s settings me r target «data» good mine = branch (is_trace_me r) _ refl (λ b. (grind (arith, nat_tests, branch, answered, meets_same, eq-eqb, process_same_after))) (λ b.
-    subst (λ o. Same u start (about settings me r target «data» (target_of u target c) c) (about settings me r target «data» o v)) (target_same s target) (about_same s settings me r target «data» (good.block ∙ mine) (target_of u target c) (grind (arith, nat_tests, find_facts s target, own_some s))))
+pub ptrace_same : {u : ℕ} {start c v : Rows} → Sim u start c v → (settings : Settings) (me : ProcData) (r : Request) (target arg : ℕ) → GoodProc me → me.uid ≡ u → Same u start (ptrace settings u me r target arg c) (ptrace settings u me r target arg v)
+ptrace_same {u} {start} {c} {v} s settings me r target arg good mine = branch (is_trace_me r) _ refl (λ b. (grind (arith, nat_tests, branch, answered, meets_same, eq-eqb, process_same_after))) (λ b.
+    subst (λ o. Same u start (about settings me r target arg (target_of u target c) c) (about settings me r target arg o v)) (target_same s target) (about_same s settings me r target arg (good.block ∙ mine) (target_of u target c) (grind (arith, nat_tests, find_facts s target, own_some s))))
 
 -- Handlers
 

@@ -152,13 +152,13 @@ turn_fair settings u tid a rows =
 
 -- The requests of a debugger
 
-commands_fair : (settings : Settings) (caller : ProcData) (r : Request) (target «data» : ℕ) (p : ProcData) (rows : Rows) → Fair (may_end (Step.Ptrace caller.pid r target «data»)) rows (commands settings caller r target «data» p rows)
-commands_fair settings caller r target «data» p rows = grind (arith, nat_tests, choose, left, by_option, excepted)
+commands_fair : (settings : Settings) (caller : ProcData) (r : Request) (target arg : ℕ) (p : ProcData) (rows : Rows) → Fair (may_end (Step.Ptrace caller.pid r target arg)) rows (commands settings caller r target arg p rows)
+commands_fair settings caller r target arg p rows = grind (arith, nat_tests, choose, left, by_option, excepted)
 
-pub ptrace_fair : (settings : Settings) (u : ℕ) (caller : ProcData) (r : Request) (target «data» : ℕ) (rows : Rows) → Fair (may_end (Step.Ptrace caller.pid r target «data»)) rows (ptrace settings u caller r target «data» rows)
-ptrace_fair settings u caller r target «data» rows = choose (is_trace_me r) _ _ (Fair (may_end (Step.Ptrace caller.pid r target «data»)) rows) (search (rules, choose, left, excepted))
-    (by_option (target_of u target rows) (λ o. Fair (may_end (Step.Ptrace caller.pid r target «data»)) rows (about settings caller r target «data» o rows)) (left _ rows (Reply.Errno ESRCH) refl) (λ p.
-    choose (not (is_live p)) _ _ (Fair (may_end (Step.Ptrace caller.pid r target «data»)) rows) (left _ rows (Reply.Errno ESRCH) refl) (choose (is_attach r) _ _ (Fair (may_end (Step.Ptrace caller.pid r target «data»)) rows) (search (rules, choose, left, excepted)) (commands_fair settings caller r target «data» p rows))))
+pub ptrace_fair : (settings : Settings) (u : ℕ) (caller : ProcData) (r : Request) (target arg : ℕ) (rows : Rows) → Fair (may_end (Step.Ptrace caller.pid r target arg)) rows (ptrace settings u caller r target arg rows)
+ptrace_fair settings u caller r target arg rows = choose (is_trace_me r) _ _ (Fair (may_end (Step.Ptrace caller.pid r target arg)) rows) (search (rules, choose, left, excepted))
+    (by_option (target_of u target rows) (λ o. Fair (may_end (Step.Ptrace caller.pid r target arg)) rows (about settings caller r target arg o rows)) (left _ rows (Reply.Errno ESRCH) refl) (λ p.
+    choose (not (is_live p)) _ _ (Fair (may_end (Step.Ptrace caller.pid r target arg)) rows) (left _ rows (Reply.Errno ESRCH) refl) (choose (is_attach r) _ _ (Fair (may_end (Step.Ptrace caller.pid r target arg)) rows) (search (rules, choose, left, excepted)) (commands_fair settings caller r target arg p rows))))
 
 -- The other calls
 

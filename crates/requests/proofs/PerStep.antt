@@ -59,7 +59,7 @@ calls_sound u (Step.Kill n which s) p m user fits is c = after_sound m (kill m.s
 calls_sound u (Step.Wait4 n which options) p m user fits is c = after_sound m (wait p which options m.rows) is (wait_rows p which options m.rows (rows_sound m is))
 calls_sound u (Step.Install n policy) p m user fits is c = installed_sound m u p policy user is c
 calls_sound u (Step.Handle n) p m user fits is c = after_sound m (handle u p m) is (handles_sound m.settings p.pid (policies_of u p m) m.rows (rows_sound m is) (reported p.pid (negsuc 0) no_options m.rows) refl (collect p.pid (negsuc 0) no_options m.rows))
-calls_sound u (Step.Ptrace n r target «data») p m user fits is c = after_sound m (ptrace m.settings u p r target «data» m.rows) is (ptrace_rows m.settings u p r target «data» m.rows (rows_sound m is) c)
+calls_sound u (Step.Ptrace n r target arg) p m user fits is c = after_sound m (ptrace m.settings u p r target arg m.rows) is (ptrace_rows m.settings u p r target arg m.rows (rows_sound m is) c)
 calls_sound u (Step.Turn tid a) p m user fits is c = turn_sound m u tid a fits is
 
 -- one that is refused changes nothing, none is out of memory, and it ends none but the processes that it may end
@@ -71,7 +71,7 @@ calls_fair u (Step.Kill caller which s) p m = hosted _ m (kill m.settings u p.pi
 calls_fair u (Step.Wait4 caller which options) p m = hosted _ m (wait p which options m.rows) (wait_fair p which options m.rows)
 calls_fair u (Step.Install caller policy) p m = install_fair u caller p policy m
 calls_fair u (Step.Handle caller) p m = hosted _ m (handle u p m) (handle_fair m.settings (policies_of u p m) p.pid m.rows)
-calls_fair u (Step.Ptrace caller r target «data») p m = hosted _ m (ptrace m.settings u p r target «data» m.rows) (ptrace_fair m.settings u p r target «data» m.rows)
+calls_fair u (Step.Ptrace caller r target arg) p m = hosted _ m (ptrace m.settings u p r target arg m.rows) (ptrace_fair m.settings u p r target arg m.rows)
 calls_fair u (Step.Turn tid a) p m = hosted _ m (turn m.settings u tid a m.rows) (turn_fair m.settings u tid a m.rows)
 
 -- it does the same on what its user sees of the host
@@ -89,5 +89,5 @@ calls_same {u} {m} {k} user apart t (Step.Handle caller) p good mine live =
   where
     at : Settings → List (List Rule) → Outcome
     at z policies = handles z policies k.rows (rows_after p.pid (negsuc 0) no_options k.rows) (reported p.pid (negsuc 0) no_options k.rows) (collect p.pid (negsuc 0) no_options k.rows)
-calls_same {u} {m} {k} user apart t (Step.Ptrace caller r target «data») p good mine live = subst (λ z. Stepped u m (calls u (Step.Ptrace caller r target «data») p m) (after k (ptrace z u p r target «data» k.rows))) t.settings (after_same user apart t _ _ (ptrace_same t.rows m.settings p r target «data» good mine))
+calls_same {u} {m} {k} user apart t (Step.Ptrace caller r target arg) p good mine live = subst (λ z. Stepped u m (calls u (Step.Ptrace caller r target arg) p m) (after k (ptrace z u p r target arg k.rows))) t.settings (after_same user apart t _ _ (ptrace_same t.rows m.settings p r target arg good mine))
 calls_same {u} {m} {k} user apart t (Step.Turn tid a) p good mine live = subst (λ z. Stepped u m (calls u (Step.Turn tid a) p m) (after k (turn z u tid a k.rows))) t.settings (after_same user apart t _ _ (turn_same t.rows m.settings tid a))

@@ -5,8 +5,8 @@ use Rattle.requests.proofs.CommonNames.{process_of, Rows, by_owner, each, change
 use Rattle.requests.proofs.CommonNames.{every_untested, found_tested, released, IsLiveChild, Standing, WithOwner, IsSound, All-imply, All-both, any_holds, find_some, the_row, the_lwp, own_lwps}
 use Rattle.requests.proofs.CommonNames.{IsActing, HasLwp, settle, in_mode, exec_rows, not, ◌==◌, if◌then◌else◌}
 use Rattle.proc_table.specs.Edits.{own_lwp}
-use Rattle.trace_stop.proofs.Children.{child_test, child_from}
-use Rattle.process_end.proofs.LwpEdits.{filter_within, filter_all, released-tid, released-pid}
+use Rattle.trace_rows.proofs.Children.{child_test, child_from}
+use Rattle.trace_stop.proofs.LwpEdits.{filter_within, filter_all, released-tid, released-pid}
 use Rattle.requests.proofs.Actors.{has-process_changed, has-lwps_mapped}
 use Rattle.requests.specs.Programs.{is_other, only_lwp, parent_freed}
 use Rattle.std.proofs.lemmas.List.Sums.{length-filter, count_by-le-length}

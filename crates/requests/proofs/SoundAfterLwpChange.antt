@@ -4,7 +4,7 @@ use Rattle.requests.proofs.CommonNames.{rules, leb-false, IsUser, PL_FLAG_EXITED
 use Rattle.requests.proofs.CommonNames.{lwp_count, InOwnBlock, Settings, StopInfo, stop, is_due, mode_fits, IsLiveChild, FitProcess, waited_for, FitLwp, IsSound, and_left, by_bool, find_some, choose}
 use Rattle.requests.proofs.CommonNames.{some_is, one_gone, Row, Beside, Same, Like, Stay, KeptRow, KeptLwp, nobody, holds_sound, sound_holds, row_is, like_self, kept_row, kept_all, kept_lwp}
 use Rattle.requests.proofs.CommonNames.{none_gone, no_ring, stay_where, edit_holds, lwps_alone, own_lwps, zero_apart, Outcome, due_stop, in_mode, due_at_birth, exits_lwp, nat_tests, Due, find-append}
-use Rattle.trace_stop.proofs.SoundAfterThread.{joined_sound}
+use Rattle.trace_rows.proofs.SoundAfterThread.{joined_sound}
 use Rattle.requests.proofs.Acting.{Acting, its_live, its_quiet, lwp_fit, lwp_stands, acting_lwp, acting_stops}
 use Rattle.requests.proofs.Room.{LwpRoom}
 use Rattle.requests.proofs.SoundAfterSignal.{end_sound}

@@ -6,11 +6,11 @@ use Rattle.requests.proofs.CommonNames.{change_process, Ready, FitOrReady, MaySt
 use Rattle.requests.proofs.CommonNames.{plain, closes_chain, traced_by, trace_me, stop_first, attach, ◌&&◌, list_any, PTRACE_SCE, PTRACE_SCX, PTRACE_FORK, PTRACE_LWP, mask_with, SIGKILL, owns}
 use Rattle.requests.proofs.CommonNames.{seen_lwp, find_seen, and_left, and_right, both, if_at, found_number, one_row, find_passes, detach_sound, Outcome, bad_argument, switched, does, signal_alone, no_events, Stepping}
 use Rattle.requests.proofs.CommonNames.{commands_stopped, commands, IsCaller}
-use Rattle.trace_stop.proofs.StoppedByOwnLwp.{IsStopped-from}
-use Rattle.trace_stop.proofs.SoundAfterLink.{Traced, linked_holds, linked_row}
+use Rattle.trace_rows.proofs.StoppedByOwnLwp.{IsStopped-from}
+use Rattle.trace_rows.proofs.SoundAfterLink.{Traced, linked_holds, linked_row}
 use Rattle.requests.proofs.SoundAfterCall.{caller_live, live_caller}
 use Rattle.requests.proofs.SoundAfterMask.{Tracee, OwnLwp, named_lwp, suspend_sound, set_mask_sound, resumes_sound, continues_sound}
-use Rattle.trace_stop.proofs.SoundAfterStop as stops
+use Rattle.trace_rows.proofs.SoundAfterStop as stops
 use Rattle.lwp_table.proofs.CountLemmas.{count-none}
 
 pub told_reports : (s : State) (tid : ℕ) → reported_stop s ≡ Some tid → named_by s ≡ Some tid
@@ -34,10 +34,10 @@ pub reporting_own : (rows : Rows) (p : ProcData) (tid : ℕ) → IsSound rows �
 reporting_own rows p tid s at told = grind (arith, nat_tests, told_reports, IsStopped-from p.pid tid rows p s.stands at, some_is, told)
 
 -- a request about a tracee of the caller, in a stop that was reported to it
-pub asks_tracee : (settings : Settings) (u : ℕ) (caller : ProcData) (r : Request) (target «data» : ℕ) (rows : Rows) (p : ProcData) (tid : ℕ)
+pub asks_tracee : (settings : Settings) (u : ℕ) (caller : ProcData) (r : Request) (target arg : ℕ) (rows : Rows) (p : ProcData) (tid : ℕ)
     → is_trace_me r ≡ false → target_of u target rows ≡ Some p → is_live p ≡ true → is_attach r ≡ false → is_some p.tracer ≡ true → traces caller.pid p ≡ true → reported_stop p.state ≡ Some tid
-    → ptrace settings u caller r target «data» rows ≡ command settings r «data» (if leb target 99999 then tid else target) p rows
-asks_tracee settings u caller r target «data» rows p tid me at live new traced mine told = rw (me, at, live, new, traced, mine, told) refl
+    → ptrace settings u caller r target arg rows ≡ command settings r arg (if leb target 99999 then tid else target) p rows
+asks_tracee settings u caller r target arg rows p tid me at live new traced mine told = rw (me, at, live, new, traced, mine, told) refl
 
 -- a process that a number finds is found by its own
 pub own_row : (n : ℕ) (ps : List ProcData) (o : Option ProcData) → o ≡ process_of n ps → IfSome o (λ p. process_of p.pid ps ≡ Some p)
@@ -105,37 +105,37 @@ owned_uid u m rows p s own at = grind (arith, nat_tests, eqb-true p.uid u (((fin
 
 -- Requests about a stopped tracee
 
-pub does_sound : (settings : Settings) (r : Request) («data» tid : ℕ) (p : ProcData) (rows : Rows) → Tracee rows p → OwnLwp rows p tid → IsSound (does settings r «data» tid p rows).rows
-does_sound settings Request.Continue «data» tid p rows t o = continues_sound rows p t settings no_events Stepping.Nobody «data»
-does_sound settings Request.Step «data» tid p rows t o = continues_sound rows p t settings no_events (Stepping.Only tid) «data»
-does_sound settings Request.Suspend «data» tid p rows t o = suspend_sound rows p t tid o true
-does_sound settings Request.Resume «data» tid p rows t o = suspend_sound rows p t tid o false
-does_sound settings Request.Detach «data» tid p rows t o = detach_sound settings rows p.pid p t.sound t.home t.live t.traced «data»
-does_sound settings Request.Kill «data» tid p rows t o = resumes_sound rows p t settings (signal_alone SIGKILL)
-does_sound settings Request.SetEventMask «data» tid p rows t o = set_mask_sound rows p t (λ mask. record { 0 = «data» })
-does_sound settings Request.LwpInfo «data» tid p rows t o = search (rules)
-does_sound settings Request.ToSce «data» tid p rows t o = continues_sound rows p t settings PTRACE_SCE Stepping.Nobody «data»
-does_sound settings Request.ToScx «data» tid p rows t o = continues_sound rows p t settings PTRACE_SCX Stepping.Nobody «data»
-does_sound settings Request.Syscall «data» tid p rows t o = continues_sound rows p t settings (mask_with PTRACE_SCE PTRACE_SCX) Stepping.Nobody «data»
-does_sound settings Request.FollowFork «data» tid p rows t o = set_mask_sound rows p t (switched PTRACE_FORK «data»)
-does_sound settings Request.LwpEvents «data» tid p rows t o = set_mask_sound rows p t (switched PTRACE_LWP «data»)
-does_sound settings r «data» tid p rows t o = t.sound
+pub does_sound : (settings : Settings) (r : Request) (arg tid : ℕ) (p : ProcData) (rows : Rows) → Tracee rows p → OwnLwp rows p tid → IsSound (does settings r arg tid p rows).rows
+does_sound settings Request.Continue arg tid p rows t o = continues_sound rows p t settings no_events Stepping.Nobody arg
+does_sound settings Request.Step arg tid p rows t o = continues_sound rows p t settings no_events (Stepping.Only tid) arg
+does_sound settings Request.Suspend arg tid p rows t o = suspend_sound rows p t tid o true
+does_sound settings Request.Resume arg tid p rows t o = suspend_sound rows p t tid o false
+does_sound settings Request.Detach arg tid p rows t o = detach_sound settings rows p.pid p t.sound t.home t.live t.traced arg
+does_sound settings Request.Kill arg tid p rows t o = resumes_sound rows p t settings (signal_alone SIGKILL)
+does_sound settings Request.SetEventMask arg tid p rows t o = set_mask_sound rows p t (λ mask. record { 0 = arg })
+does_sound settings Request.LwpInfo arg tid p rows t o = search (rules)
+does_sound settings Request.ToSce arg tid p rows t o = continues_sound rows p t settings PTRACE_SCE Stepping.Nobody arg
+does_sound settings Request.ToScx arg tid p rows t o = continues_sound rows p t settings PTRACE_SCX Stepping.Nobody arg
+does_sound settings Request.Syscall arg tid p rows t o = continues_sound rows p t settings (mask_with PTRACE_SCE PTRACE_SCX) Stepping.Nobody arg
+does_sound settings Request.FollowFork arg tid p rows t o = set_mask_sound rows p t (switched PTRACE_FORK arg)
+does_sound settings Request.LwpEvents arg tid p rows t o = set_mask_sound rows p t (switched PTRACE_LWP arg)
+does_sound settings r arg tid p rows t o = t.sound
 
-module _ (settings : Settings) (u : ℕ) (caller : ProcData) (r : Request) (target «data» : ℕ) (rows : Rows) (s : IsSound rows) (c : IsCaller u caller rows) where
+module _ (settings : Settings) (u : ℕ) (caller : ProcData) (r : Request) (target arg : ℕ) (rows : Rows) (s : IsSound rows) (c : IsCaller u caller rows) where
   module _ (m : ℕ) (seen : find_seen u target rows ≡ Some m) (p : ProcData) (at : process_of m rows.processes ≡ Some p) (live : is_live p ≡ true) where
     home : process_of p.pid rows.processes ≡ Some p
     home = subst (λ n. process_of n rows.processes ≡ Some p) (sym (found_number m rows.processes p at)) at
 
-    tracee_sound : is_some p.tracer ≡ true → (o : Option ℕ) → reported_stop p.state ≡ o → IsSound (commands_stopped settings r target «data» p rows o).rows
+    tracee_sound : is_some p.tracer ≡ true → (o : Option ℕ) → reported_stop p.state ≡ o → IsSound (commands_stopped settings r target arg p rows o).rows
     tracee_sound traced None told = s
-    tracee_sound traced (Some tid) told = choose (bad_argument r «data») _ _ (λ (x : Outcome). IsSound x.rows) (λ e. s)
-        (λ e. does_sound settings r «data» (if leb target 99999 then tid else target) p rows (record { sound = s; home = home; live = live; traced = traced }) (search (rules, named_lwp, if_at, told_reports, seen_lwp_owned, (found_number m rows.processes p at), find_some, some_is)))
+    tracee_sound traced (Some tid) told = choose (bad_argument r arg) _ _ (λ (x : Outcome). IsSound x.rows) (λ e. s)
+        (λ e. does_sound settings r arg (if leb target 99999 then tid else target) p rows (record { sound = s; home = home; live = live; traced = traced }) (search (rules, named_lwp, if_at, told_reports, seen_lwp_owned, (found_number m rows.processes p at), find_some, some_is)))
 
     tracer : IsLiveOf rows p.uid caller.pid
     tracer = search (rules, owned_uid, live_caller, find_some, find_passes, both, eq-eqb, and_right, seen_lwp_owned, some_is)
 
-    pub live_sound : IsSound (if is_attach r then attach caller p rows else commands settings caller r target «data» p rows).rows
+    pub live_sound : IsSound (if is_attach r then attach caller p rows else commands settings caller r target arg p rows).rows
     live_sound = choose (is_attach r) _ _ (λ (x : Outcome). IsSound x.rows) (λ e. attach_sound rows caller p s home live tracer) (λ e. (search (rules, choose, tracee_sound)))
 
-  pub ptrace_rows : IsSound (ptrace settings u caller r target «data» rows).rows
+  pub ptrace_rows : IsSound (ptrace settings u caller r target arg rows).rows
   ptrace_rows = choose (is_trace_me r) _ _ (λ (x : Outcome). IsSound x.rows) (λ e. trace_me_sound rows caller s c.at (caller_live u rows caller c) c.runs) (λ e. (search (rules, live_sound)))

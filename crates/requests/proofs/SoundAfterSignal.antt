@@ -4,8 +4,8 @@ use Rattle.requests.proofs.CommonNames.{bit, without, SIGTRAP, is_signal, maskab
 use Rattle.requests.proofs.CommonNames.{Settings, unwanted, notified, end, stop, is_end, Linked, FitProcess, FitLwp, IsSound, both, by_bool, find_some, choose, changed_own, process_sound}
 use Rattle.requests.proofs.CommonNames.{pending_fits, end_at, post_sound, Outcome, next_signal, without_signal, plain, takes_by_default, takes_untraced, takes, computes, raises}
 use Rattle.signals.proofs.Members.{lowest-some}
-use Rattle.trace_stop.proofs.Bits.{without_apart, without_less}
-use Rattle.trace_stop.proofs.SoundAfterNotify.{live_told, notified_sound}
+use Rattle.trace_rows.proofs.Bits.{without_apart, without_less}
+use Rattle.trace_rows.proofs.SoundAfterNotify.{live_told, notified_sound}
 use Rattle.requests.proofs.Acting.{Acting, its_live, its_quiet, its_fit, lwp_stands, lwp_fit, acting_lwp, acting_process, acting_stops}
 use Rattle.requests.proofs.SoundAfterMask.{stepless_fits}
 

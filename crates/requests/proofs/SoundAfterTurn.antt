@@ -8,16 +8,16 @@ use Rattle.requests.proofs.CommonNames.{born, Trace, change_process, change_lwp,
 use Rattle.requests.proofs.CommonNames.{and_left, by_bool, zero_apart, find_passes, sound_ready, stopped_sound, Numbers, forked, child_stop, with_child, Due, find_some, ◌*◌, ◌||◌, not, Mode, InCall}
 use Rattle.requests.proofs.CommonNames.{VforkWait, is_run, seen_lwp, Settings, status_fits, mode_fits, IsSignal, Act, Outcome, room_for_lwp, room_for_process, in_mode, exit_stop, forks, due_at_birth}
 use Rattle.requests.proofs.CommonNames.{makes_lwp, leaves, waits, due_stop, without_signal, acts, signal_or_act, due_or_more, turn_of, turn, Machine, sound, step, act_fits, Step, Reply}
-use Rattle.trace_stop.proofs.Settling.{redisposed as redisposed_fits}
-use Rattle.trace_stop.proofs.SoundAfterEnds.{released_same, released_flags, released_fits, released_waits}
+use Rattle.trace_rows.proofs.Settling.{redisposed as redisposed_fits}
+use Rattle.trace_rows.proofs.SoundAfterEnds.{released_same, released_flags, released_fits, released_waits}
 use Rattle.requests.proofs.Acting.{Acting, owner_is, its_live, lwp_fit, seen_acting, its_fit, stops_or_sound, entry_may, exit_may, goes_on, same_may, exit_word}
 use Rattle.requests.proofs.SoundAfterMask.{changed_process, changed_lwp}
 use Rattle.requests.proofs.SoundAfterSignal.{Alike, alike_of, end_sound, taken_alike, next_is_signal, takes_sound, raise_sound, block_sound, compute_sound}
 use Rattle.requests.proofs.SoundAfterLwpChange.{its_number, quiet_lwp, quiet_row, find_more, its_user, in_mode_acting, due_sound, exits_lwp_sound, joined_acting}
 use Rattle.std.specs.Option.{IsSomeAnd}
-use Rattle.trace_stop.proofs.Children.{child_test, child_passes}
-use Rattle.trace_stop.proofs.Placed.{process_of-other, process_of-placed}
-use Rattle.trace_stop.proofs.SoundAfterSpawn.{born_sound}
+use Rattle.trace_rows.proofs.Children.{child_test, child_passes}
+use Rattle.trace_rows.proofs.Placed.{process_of-other, process_of-placed}
+use Rattle.trace_rows.proofs.SoundAfterSpawn.{born_sound}
 use Rattle.requests.proofs.Room.{ProcessRoom, LwpRoom, lwp_room, process_room}
 use Rattle.requests.proofs.SoundAfterCall.{live_row}
 use Rattle.requests.proofs.SoundWithoutEnded.{rows_sound, after_sound}

@@ -4,8 +4,8 @@ use Rattle.requests.proofs.CommonNames.{IsSomeAnd, nat_tests, EventMask, LwpData
 use Rattle.requests.proofs.CommonNames.{lwp_count, lwp_count_of, owns, Rise, IsRow, InOwnBlock, set_lwp, owns-kept, found_row, lwp_of-tid, every_found, some_and, change_process-at, change_lwp-at}
 use Rattle.requests.proofs.CommonNames.{lwp_there, IsSound, count_edit, changed_row, edit_none, Reply, Outcome, answers, set_mask}
 use Rattle.requests.proofs.CommonNames.{with_signal}
-use Rattle.trace_stop.specs.Reports.{IsStopped}
-use Rattle.trace_stop.proofs.StoppedByOwnLwp.{IsStopped-from}
+use Rattle.trace_rows.specs.Reports.{IsStopped}
+use Rattle.trace_rows.proofs.StoppedByOwnLwp.{IsStopped-from}
 use Rattle.requests.proofs.SoundAfterMask.{Tracee, OwnLwp}
 
 -- A process with a number is found with its change
@@ -40,8 +40,8 @@ set_mask_as mask rows p up at = grind (arith, nat_tests, change_process-at p.pid
 
 -- Arguments that are a signal's number or 0
 
-pub signalled : (f : ℕ → Rows → Rows) («data» pass : ℕ) (r : Reply) (rows rows1 rows2 to : Rows) → («data» ≤ 31) × (pass ≡ «data») → rows1 ≡ to → rows2 ≡ f pass rows1 → rows2 ≡ (with_signal «data» (answers r (f «data» to)) rows).rows
-signalled f «data» pass r rows rows1 rows2 to few same done = search (rules, nat_tests)
+pub signalled : (f : ℕ → Rows → Rows) (arg pass : ℕ) (r : Reply) (rows rows1 rows2 to : Rows) → (arg ≤ 31) × (pass ≡ arg) → rows1 ≡ to → rows2 ≡ f pass rows1 → rows2 ≡ (with_signal arg (answers r (f arg to)) rows).rows
+signalled f arg pass r rows rows1 rows2 to few same done = search (rules, nat_tests)
 
 pub gives_as : {o o' : Outcome} {rows : Rows} {r : Reply} → o ≡ o' → Gives o rows r → Gives o' rows r
 gives_as {rows = rows} {r = r} same g = subst (λ x. Gives x rows r) same g

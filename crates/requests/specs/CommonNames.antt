@@ -32,15 +32,15 @@ pub use Rattle.proc_table.specs.Seen.{find_seen, owns, seen_lwp, visible_process
 pub use Rattle.proc_table.specs.declared.ProcData.{ProcData}
 pub use Rattle.proc_table.specs.declared.State.{State}
 pub use Rattle.proc_table.specs.declared.State.TheVariants.{Job, Run, Trace}
-pub use Rattle.trace_stop.specs.End.{end, end_each, left_alone, lwp_after, meets, notifies_of, process_after, released, tracer_of}
-pub use Rattle.trace_stop.specs.Post.{continues, notified, notifies, posted, posted_lwp, posted_process, settle, settled_lwp, settled_process, unwanted}
-pub use Rattle.trace_stop.specs.Sound.{is_due, is_end, is_live_at, is_live_of, mode_fits, names_own, sound_rows, status_fits}
-pub use Rattle.trace_stop.specs.Stop.{detach, post, resume, stop, tracers}
+pub use Rattle.trace_rows.specs.End.{end, end_each, left_alone, lwp_after, meets, notifies_of, process_after, released, tracer_of}
+pub use Rattle.trace_rows.specs.Post.{continues, notified, notifies, posted, posted_lwp, posted_process, settle, settled_lwp, settled_process, unwanted}
+pub use Rattle.trace_rows.specs.Sound.{is_due, is_end, is_live_at, is_live_of, mode_fits, names_own, sound_rows, status_fits}
+pub use Rattle.trace_rows.specs.Stop.{detach, post, resume, stop, tracers}
 pub use Rattle.step_types.specs.{Plain.UserStep, Plain.caller_of, Plain.installs, Replies.is_listing, Replies.is_memory, Replies.is_refusal, Status.no_options}
 pub use Rattle.step_types.specs.{Events.event_name, Plain.PlainStep, Plain.bare, Plain.with_handler, Status.word, declared.Act.Act, declared.LwpInfo.LwpInfo}
 pub use Rattle.step_types.specs.{declared.Options.Options, declared.Reply.Reply, declared.Request.Request, declared.Settings.Settings, declared.StatusKind.StatusKind}
 pub use Rattle.step_types.specs.{declared.step.Step.Step}
-pub use Rattle.trace_stop.specs.{Detach.signal_alone, declared.Resumption.Resumption, declared.StopInfo.StopInfo, declared.Stepping.Stepping}
+pub use Rattle.trace_rows.specs.{Detach.signal_alone, declared.Resumption.Resumption, declared.StopInfo.StopInfo, declared.Stepping.Stepping}
 pub use Rattle.row_isolation.specs.Closed.{Closed, GoodLwp, GoodProc, LiveOwner, LiveRow}
 pub use Rattle.lwpinfo.specs.Info.{info, lwp_info, lwp_list}
 pub use Rattle.wait4.specs.Collect.{answer, candidates, collect, fits, is_child, reportable, reported, rows_after, told, without_report}

@@ -7,6 +7,6 @@ use Rattle.requests.specs.CommonNames.{Bool, true, false, SIGKILL, PlainStep, St
 abbrev pub may_end : PlainStep → Reply → Bool
 may_end (Step.Kill caller which s) r = s == SIGKILL
 may_end (Step.Handle caller) (Reply.Handled pid status view index decision) = true
-may_end (Step.Ptrace caller q target «data») Reply.Done = true
+may_end (Step.Ptrace caller q target arg) Reply.Done = true
 may_end (Step.Turn tid a) (Reply.Ended status) = true
 may_end s r = false

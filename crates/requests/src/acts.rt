@@ -6,7 +6,7 @@ ghost use Rattle.lwp_table.specs.Lwps.{lwp_of};
 ghost use Rattle.proc_table.specs.Processes.{is_run};
 ghost use Rattle.proc_table.specs.Rows.{change_lwp};
 ghost use Rattle.signals.specs.Table.{maskable};
-ghost use Rattle.trace_stop.specs.Facts.{IsSound};
+ghost use Rattle.trace_rows.specs.Facts.{IsSound};
 ghost use Rattle.requests.specs.Outcome.{Gives};
 ghost use Rattle.requests.specs.Actors.{IsActing};
 ghost use Rattle.requests.specs.Turn.{computes, raises, enters, acts};
@@ -17,9 +17,9 @@ use event_masks::{Call, entry_flags};
 use lwp_table::{LwpData, Mode};
 use pid_blocks::Errno;
 use proc_table::{ProcData, Tables};
-use process_end::post_lwp;
 use signals::{SigSet, Signal};
-use trace_stop::Settings;
+use trace_rows::Settings;
+use trace_stop::post_lwp;
 
 /// Clears the LWP's stepping flag.
 fn stop_stepping(tables: &mut Tables, l: &LwpData)

@@ -3,7 +3,7 @@
 ghost use Rattle.std.specs.Prelude.{◌≡◌, Some, None, true, if◌then◌else◌};
 ghost use Rattle.signals.specs.Table.{set_disposition};
 ghost use Rattle.proc_table.specs.Processes.{process_of};
-ghost use Rattle.trace_stop.specs.Facts.{IsSound};
+ghost use Rattle.trace_rows.specs.Facts.{IsSound};
 ghost use Rattle.wait4.specs.declared.Collected.{Collected};
 ghost use Rattle.requests.specs.Outcome.{Gives};
 ghost use Rattle.requests.specs.Calls.{is_refused, sigaction, wait, collect_reply};
@@ -12,7 +12,7 @@ use crate::Reply;
 use pid_blocks::Errno;
 use proc_table::{ProcData, Tables};
 use signals::{Disposition, Dispositions, Signal};
-use trace_stop::settle;
+use trace_rows::settle;
 use wait4::{Collected, Options, collect};
 
 /// Returns the dispositions with a new one for the signal; `None` where sigaction(2) refuses that.

@@ -8,9 +8,9 @@ ghost use Rattle.lwp_table.specs.Lwps.{lwp_of};
 ghost use Rattle.proc_table.specs.Kept.{TableInvariant};
 ghost use Rattle.proc_table.specs.Processes.{process_of, reporting};
 ghost use Rattle.signals.specs.Table.{SIGKILL};
-ghost use Rattle.trace_stop.specs.Detach.{signal_alone};
-ghost use Rattle.trace_stop.specs.Stop.{resume, detach};
-ghost use Rattle.trace_stop.specs.Facts.{IsSound};
+ghost use Rattle.trace_rows.specs.Detach.{signal_alone};
+ghost use Rattle.trace_rows.specs.Stop.{resume, detach};
+ghost use Rattle.trace_rows.specs.Facts.{IsSound};
 ghost use Rattle.lwpinfo.specs.Info.{info, lwp_list};
 ghost use Rattle.step_types.specs.declared.Reply.TheVariants as reply;
 ghost use Rattle.requests.specs.Outcome.{Gives, answers, refuses};
@@ -25,11 +25,11 @@ use lwp_table::LwpData;
 use lwpinfo::{info, lwp_count, lwp_list};
 use pid_blocks::{Errno, Pid, Tid, Uid};
 use proc_table::{ProcData, State, Tables};
-use process_end::{detach, resume};
 use signals::Pass;
 use std::alloc::{AllocError, Global};
-use trace_stop::Stepping::{Nobody, Only};
-use trace_stop::{Resumption, Settings, Stepping};
+use trace_rows::Stepping::{Nobody, Only};
+use trace_rows::{Resumption, Settings, Stepping};
+use trace_stop::{detach_process, resume_process};
 
 /// Makes a request of ptrace(2) by a process that runs. A target up to 99999 names a process, and its LWP that reports
 /// a stop. A greater one names an LWP, and its process. Refused as the manual page says. An error means out of memory
@@ -43,11 +43,11 @@ pub fn ptrace(
     caller: &ProcData,
     request: Request,
     target: u32,
-    data: u32,
+    arg: u32,
 ) -> Result<Reply, AllocError>
     requires sound { IsSound tables.old.rows }
     requires caller { IsCaller user caller.now tables.old.rows }
-    ensures { let outcome = ptrace settings user caller.now request target «data» tables.old.rows in
+    ensures { let outcome = ptrace settings user caller.now request target arg tables.old.rows in
         Attempts (lists request) outcome tables.old.rows tables.new.rows result }
 {
     if is_trace_me(request) {
@@ -72,7 +72,7 @@ pub fn ptrace(
         return Ok(Reply::Errno(Errno::EBUSY));
     };
     let lwp = named_lwp(target, reporting);
-    command(tables, alloc, settings, request, data, lwp, &process)
+    command(tables, alloc, settings, request, arg, lwp, &process)
 }
 
 fn is_trace_me(request: Request) -> bool
@@ -111,7 +111,7 @@ fn named_lwp(target: u32, reporting: Tid) -> Tid
     }
 }
 
-/// Makes a request of the tracer about an LWP of its stopped tracee. Refused with EINVAL where `data` is wrong. An
+/// Makes a request of the tracer about an LWP of its stopped tracee. Refused with EINVAL where `arg` is wrong. An
 /// error means out of memory for a list of LWPs.
 #[tactic(auto, using(std::proofs::lemmas::Bool::Decides::nat_tests, crate::proofs::Tracees::few_own, crate::proofs::Tracees::given, crate::proofs::Tracees::gives_as))]
 fn command(
@@ -119,7 +119,7 @@ fn command(
     alloc: Global,
     settings: Settings,
     request: Request,
-    data: u32,
+    arg: u32,
     lwp: Tid,
     process: &ProcData,
 ) -> Result<Reply, AllocError>
@@ -127,7 +127,7 @@ fn command(
     requires at { process_of process.now.pid tables.old.rows.processes ≡ Some process.now }
     requires stopped { is_some (reporting process.now) ≡ true }
     requires own { IsSomeAnd (lwp_of lwp tables.old.rows.lwps) (λ l. l.pid ≡ process.now.pid) }
-    ensures { let outcome = command settings request «data» lwp process.now tables.old.rows in
+    ensures { let outcome = command settings request arg lwp process.now tables.old.rows in
         Attempts (lists request) outcome tables.old.rows tables.new.rows result }
 {
     let pid = process.pid;
@@ -138,45 +138,45 @@ fn command(
     match request {
         Request::TraceMe => Ok(Reply::Errno(Errno::EINVAL)),
         Request::Attach => Ok(Reply::Errno(Errno::EBUSY)),
-        Request::Continue => Ok(resume_with(tables, settings, process, none, Nobody, data)),
-        Request::ToSce => Ok(resume_with(tables, settings, process, entry, Nobody, data)),
-        Request::ToScx => Ok(resume_with(tables, settings, process, exit, Nobody, data)),
+        Request::Continue => Ok(resume_with(tables, settings, process, none, Nobody, arg)),
+        Request::ToSce => Ok(resume_with(tables, settings, process, entry, Nobody, arg)),
+        Request::ToScx => Ok(resume_with(tables, settings, process, exit, Nobody, arg)),
         Request::Syscall => {
             let both = entry.with(exit);
-            Ok(resume_with(tables, settings, process, both, Nobody, data))
+            Ok(resume_with(tables, settings, process, both, Nobody, arg))
         }
-        Request::Step => Ok(resume_with(tables, settings, process, none, Only(lwp), data)),
+        Request::Step => Ok(resume_with(tables, settings, process, none, Only(lwp), arg)),
         Request::Suspend => Ok(suspend(tables, lwp, true)),
         Request::Resume => Ok(suspend(tables, lwp, false)),
-        Request::Detach => Ok(detach_with(tables, settings, process, data)),
+        Request::Detach => Ok(detach_with(tables, settings, process, arg)),
         Request::Kill => Ok(kill(tables, settings, process)),
-        Request::SetEventMask => Ok(set_events(tables, process, data)),
-        Request::FollowFork => Ok(switch(tables, process, EventMask::PTRACE_FORK, data)),
-        Request::LwpEvents => Ok(switch(tables, process, EventMask::PTRACE_LWP, data)),
+        Request::SetEventMask => Ok(set_events(tables, process, arg)),
+        Request::FollowFork => Ok(switch(tables, process, EventMask::PTRACE_FORK, arg)),
+        Request::LwpEvents => Ok(switch(tables, process, EventMask::PTRACE_LWP, arg)),
         Request::GetEventMask => Ok(Reply::Mask(mask)),
         Request::LwpInfo => Ok(show_lwp(tables, process, lwp)),
         Request::GetNumLwps => Ok(Reply::Number(lwp_count(tables, pid) as u32)),
-        Request::GetLwpList => list_lwps(tables, alloc, pid, data),
+        Request::GetLwpList => list_lwps(tables, alloc, pid, arg),
     }
 }
 
 /// PT_CONTINUE, PT_STEP, PT_TO_SCE, PT_TO_SCX and PT_SYSCALL: resumes the process with these events added to its mask,
-/// these LWPs stepping, and a signal or 0. Refused with EINVAL where `data` is above 31.
+/// these LWPs stepping, and a signal or 0. Refused with EINVAL where `arg` is above 31.
 fn resume_with(
     tables: &mut Tables,
     settings: Settings,
     process: &ProcData,
     adds: EventMask,
     stepping: Stepping,
-    data: u32,
+    arg: u32,
 ) -> Reply
     requires sound { IsSound tables.old.rows }
     requires at { process_of process.now.pid tables.old.rows.processes ≡ Some process.now }
     requires stopped { is_some (reporting process.now) ≡ true }
-    ensures { Gives (with_signal «data» (resumes settings adds stepping «data» process.now tables.old.rows)
+    ensures { Gives (with_signal arg (resumes settings adds stepping arg process.now tables.old.rows)
         tables.old.rows) tables.new.rows result }
 {
-    let Ok(pass) = Pass::new(data) else {
+    let Ok(pass) = Pass::new(arg) else {
         return Reply::Errno(Errno::EINVAL);
     };
     let how = Resumption {
@@ -184,7 +184,7 @@ fn resume_with(
         stepping,
         pass,
     };
-    resume(tables, settings, process, &how);
+    resume_process(tables, settings, process, &how);
     Reply::Done
 }
 
@@ -196,7 +196,7 @@ pub fn kill(tables: &mut Tables, settings: Settings, process: &ProcData) -> Repl
     ensures { Gives (answers reply.Done (resume settings (signal_alone SIGKILL) process.now.pid tables.old.rows))
         tables.new.rows result }
 {
-    resume(
+    resume_process(
         tables,
         settings,
         process,
@@ -218,18 +218,18 @@ fn suspend(tables: &mut Tables, lwp: Tid, suspended: bool) -> Reply
 }
 
 /// PT_DETACH: ends the tracing of the process, and resumes it with a signal or with 0. Refused with EINVAL where
-/// `data` is above 31.
-fn detach_with(tables: &mut Tables, settings: Settings, process: &ProcData, data: u32) -> Reply
+/// `arg` is above 31.
+fn detach_with(tables: &mut Tables, settings: Settings, process: &ProcData, arg: u32) -> Reply
     requires sound { IsSound tables.old.rows }
     requires at { process_of process.now.pid tables.old.rows.processes ≡ Some process.now }
     requires stopped { is_some (reporting process.now) ≡ true }
-    ensures { Gives (with_signal «data» (answers reply.Done
-        (detach settings process.now.pid «data» tables.old.rows)) tables.old.rows) tables.new.rows result }
+    ensures { Gives (with_signal arg (answers reply.Done
+        (detach settings process.now.pid arg tables.old.rows)) tables.old.rows) tables.new.rows result }
 {
-    let Ok(pass) = Pass::new(data) else {
+    let Ok(pass) = Pass::new(arg) else {
         return Reply::Errno(Errno::EINVAL);
     };
-    detach(tables, settings, process, pass);
+    detach_process(tables, settings, process, pass);
     Reply::Done
 }
 
@@ -283,7 +283,6 @@ fn set_mask(tables: &mut Tables, process: &ProcData, mask: EventMask)
 /// PT_LWPINFO.
 fn show_lwp(tables: &Tables, process: &ProcData, lwp: Tid) -> Reply
     requires at { process_of process.now.pid tables.now.rows.processes ≡ Some process.now }
-    requires own { IsSomeAnd (lwp_of lwp tables.now.rows.lwps) (λ l. l.pid ≡ process.now.pid) }
     ensures { result ≡ (shows_info (info process.now lwp tables.now.rows) tables.now.rows).reply }
 {
     match info(tables, process.pid, lwp) {

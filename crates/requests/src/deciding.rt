@@ -3,7 +3,7 @@
 ghost use Rattle.std.specs.Prelude.{◌≡◌, ◌≤◌, [], Some, true, is_some, length, get_or};
 ghost use Rattle.pid_blocks.specs.Blocks.{slot};
 ghost use Rattle.proc_table.specs.Processes.{process_of, reporting};
-ghost use Rattle.trace_stop.specs.Facts.{IsSound};
+ghost use Rattle.trace_rows.specs.Facts.{IsSound};
 ghost use Rattle.requests.specs.Outcome.{Gives};
 ghost use Rattle.requests.specs.Handle.{handled_by, handles_status, done, policies_in};
 
@@ -14,10 +14,10 @@ use event_masks::EventMask;
 use lwp_table::LwpData;
 use pid_blocks::{Errno, Pid, Tid, Uid};
 use proc_table::{ProcData, State, Tables};
-use process_end::{detach, resume};
 use signals::Signal;
 use stop_handlers::{Decider, Decision, StopView};
-use trace_stop::{Resumption, Settings, Stepping};
+use trace_rows::{Resumption, Settings, Stepping};
+use trace_stop::{detach_process, resume_process};
 use wait4::{Collected, Options, Status, collect};
 
 /// Carries out a decision about the trace stop of a process.
@@ -36,10 +36,10 @@ fn carry_out(tables: &mut Tables, settings: Settings, process: &ProcData, decisi
                 stepping: Stepping::Nobody,
                 pass,
             };
-            resume(tables, settings, process, &how);
+            resume_process(tables, settings, process, &how);
         }
         Decision::Detach(pass) => {
-            detach(tables, settings, process, pass);
+            detach_process(tables, settings, process, pass);
         }
         Decision::Kill => {
             kill(tables, settings, process);

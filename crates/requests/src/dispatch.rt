@@ -2,7 +2,7 @@
 
 ghost use Rattle.std.specs.Prelude.{◌≡◌, ◌≤◌, [], None, false, length, get_or};
 ghost use Rattle.pid_blocks.specs.Blocks.{slot};
-ghost use Rattle.trace_stop.specs.Facts.{IsSound};
+ghost use Rattle.trace_rows.specs.Facts.{IsSound};
 ghost use Rattle.requests.specs.Callers.{IsCaller};
 ghost use Rattle.requests.specs.Hosts.{machine_of};
 ghost use Rattle.requests.specs.Machine.{outcome_of};
@@ -24,7 +24,7 @@ use pid_blocks::Uid;
 use proc_table::{ProcData, Tables};
 use std::alloc::{AllocError, Global};
 use stop_handlers::Decider;
-use trace_stop::Settings;
+use trace_rows::Settings;
 
 /// Makes a step without a caller. An error means out of memory, and changes nothing.
 pub fn uncalled<F: Decider + Send + Drop, H>(
@@ -80,9 +80,9 @@ pub fn called<F: Decider + Send + Drop, H>(
         Step::Ptrace {
             request,
             target,
-            data,
+            arg,
             ..
-        } => ptrace(tables, alloc, settings, user, caller, request, target, data),
+        } => ptrace(tables, alloc, settings, user, caller, request, target, arg),
         Step::Turn { tid, act } => turn(tables, settings, user, tid, act),
     }
 }

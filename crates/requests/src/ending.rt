@@ -2,7 +2,7 @@
 
 ghost use Rattle.std.specs.Prelude.{◌≡◌, [], set, get_or, filter, if◌then◌else◌};
 ghost use Rattle.pid_blocks.specs.Blocks.{slot};
-ghost use Rattle.trace_stop.specs.Sound.{is_live_at};
+ghost use Rattle.trace_rows.specs.Sound.{is_live_at};
 ghost use Rattle.requests.specs.Ending.{may_end};
 ghost use Rattle.requests.specs.Memory.{attempted_reply};
 ghost use Rattle.step_types.specs.Plain.{bare};

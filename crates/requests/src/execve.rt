@@ -6,7 +6,7 @@ ghost use Rattle.signals.specs.Table.{after_exec};
 ghost use Rattle.proc_table.specs.Kept.{TableInvariant, IsRow};
 ghost use Rattle.proc_table.specs.Processes.{process_of};
 ghost use Rattle.proc_table.specs.Rows.{change_process};
-ghost use Rattle.trace_stop.specs.Facts.{IsSound};
+ghost use Rattle.trace_rows.specs.Facts.{IsSound};
 ghost use Rattle.step_types.specs.declared.Reply.TheVariants as reply;
 ghost use Rattle.requests.specs.Actors.{IsActing, HasLwp};
 ghost use Rattle.requests.specs.Programs.{is_other, only_lwp, parent_freed};
@@ -19,8 +19,8 @@ use event_masks::Call;
 use lwp_table::{LwpData, Mode};
 use pid_blocks::{Pid, Tid};
 use proc_table::{ProcData, Tables};
-use process_end::release;
-use trace_stop::settle;
+use trace_rows::settle;
+use trace_stop::release;
 
 /// Returns the oldest LWP of the process whose number differs from `tid`.
 #[tactic(auto, using(std::proofs::lemmas::Bool::Decides::nat_tests, crate::proofs::Programs::other_none, crate::proofs::Programs::other_first, crate::proofs::Programs::other_next))]

@@ -16,7 +16,7 @@ use pid_blocks::{Errno, Pid, Tid};
 use proc_table::{ProcData, State, Tables};
 use signals::{SigSet, Signal};
 use std::alloc::AllocError;
-use trace_stop::{StopInfo, stop};
+use trace_rows::{StopInfo, stop};
 
 /// Returns the row of a fork's child. If `followed`, the parent's tracer traces it.
 fn forked(followed: bool, p: &ProcData, pid: Pid) -> ProcData

@@ -2,7 +2,7 @@
 
 ghost use Rattle.std.specs.Prelude.{◌≡◌, ℕ, ◌≤◌, ◌<◌, ◌++◌, ◌∷◌, [], Some, None, map, filter, length, set, get_or, option_map, slice_get, OnOk, OnErr, IfOk};
 ghost use Rattle.pid_blocks.specs.Blocks.{slot, users};
-ghost use Rattle.trace_stop.specs.Sound.{is_live_at};
+ghost use Rattle.trace_rows.specs.Sound.{is_live_at};
 ghost use Rattle.requests.specs.Machine.{Installed};
 ghost use Rattle.requests.specs.Handle.{decided, is_decline, policies_in};
 

@@ -23,7 +23,7 @@ use proc_table::{ProcData, Tables};
 use std::alloc::{AllocError, Global};
 use std::marker::Model;
 use stop_handlers::{ByPolicy, Decider, Handler, Policy};
-use trace_stop::Settings;
+use trace_rows::Settings;
 
 /// For proofs: the code of an exit is a byte.
 fn fits<H>(step: &Step<H>)

@@ -2,8 +2,8 @@
 
 ghost use Rattle.std.specs.Prelude.{◌≡◌, ◌*◌, true};
 ghost use Rattle.proc_table.specs.Processes.{is_run};
-ghost use Rattle.trace_stop.specs.Facts.{IsSound};
-ghost use Rattle.trace_stop.specs.Sound.{is_live_at};
+ghost use Rattle.trace_rows.specs.Facts.{IsSound};
+ghost use Rattle.trace_rows.specs.Sound.{is_live_at};
 ghost use Rattle.requests.specs.Actors.{IsActing};
 ghost use Rattle.requests.specs.Outcome.{Gives, ends_with};
 ghost use Rattle.requests.specs.Leave.{exits_lwp, due_at_birth, room_for_lwp, makes_lwp, leaves};
@@ -18,9 +18,9 @@ use event_masks::{Call, EventMask, StopFlags};
 use lwp_table::{Due, LwpData, Mode};
 use pid_blocks::Errno;
 use proc_table::{ProcData, Tables};
-use process_end::end;
 use std::alloc::AllocError;
-use trace_stop::Settings;
+use trace_rows::Settings;
+use trace_stop::end;
 
 /// Exit: ends the process with the status that wait4(2) shows.
 fn exit(tables: &mut Tables, settings: Settings, status: u8, p: &ProcData) -> Reply

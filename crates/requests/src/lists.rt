@@ -18,8 +18,8 @@ fn pids_of(tables: &Tables, alloc: Global, user: Uid) -> Result<NumList, AllocEr
 {
     let mut pids = Vec::with_capacity(alloc, tables.process_count(user))?;
     let mut after = 0;
-    while let Some(p) = tables.next_of(user, after) {
-        after = p.pid.get();
+    while let Some(pid) = tables.next_pid(user, after) {
+        after = pid.get();
         pids.push(after)?;
     }
     Ok(NumList::of(pids))

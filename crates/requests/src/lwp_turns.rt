@@ -3,12 +3,12 @@
 ghost use Rattle.std.specs.Prelude.{◌≡◌, true, false, Some};
 ghost use Rattle.signals.specs.Table.{disposition_of};
 ghost use Rattle.lwp_table.specs.declared.Due.TheVariants as due;
-ghost use Rattle.trace_stop.specs.Sound.{is_live_at};
+ghost use Rattle.trace_rows.specs.Sound.{is_live_at};
 ghost use Rattle.event_masks.specs.Exits.{no_flags};
 ghost use Rattle.proc_table.specs.Kept.{IsRow};
 ghost use Rattle.proc_table.specs.Rows.{change_lwp};
 ghost use Rattle.proc_table.specs.Processes.{is_run};
-ghost use Rattle.trace_stop.specs.Facts.{IsSound};
+ghost use Rattle.trace_rows.specs.Facts.{IsSound};
 ghost use Rattle.step_types.specs.declared.Reply.TheVariants as reply;
 ghost use Rattle.requests.specs.Actors.{IsActing, HasLwp};
 ghost use Rattle.requests.specs.Turn.{without_signal, job_stops, takes, takes_untraced, next_signal, due_stop, waits, acts, turn_of, turn};
@@ -24,10 +24,10 @@ use event_masks::{Call, StopFlags};
 use lwp_table::{Due, LwpData, Mode};
 use pid_blocks::{Errno, Tid, Uid};
 use proc_table::{ProcData, State, Tables};
-use process_end::end;
 use signals::{Action, Disposition, Signal, default_action};
 use std::alloc::AllocError;
-use trace_stop::{Settings, StopInfo, post_sigchld};
+use trace_rows::{Settings, StopInfo, post_sigchld};
+use trace_stop::end;
 
 /// Returns whether an LWP waits for the child of its vfork.
 fn waits(mode: Mode) -> bool
@@ -102,7 +102,7 @@ fn job_stop(tables: &mut Tables, signal: Signal, p: &ProcData, l: &LwpData) -> R
     tables.set_process(ProcData {
         state: State::Job {
             sig: signal,
-            reported: false,
+            seen: false,
         },
         continued: false,
         ..row
@@ -112,7 +112,7 @@ fn job_stop(tables: &mut Tables, signal: Signal, p: &ProcData, l: &LwpData) -> R
 }
 
 /// Acts on a signal that an untraced process takes, by the signal's disposition.
-#[tactic(auto, using(trace_stop::proofs::Found::listed))]
+#[tactic(auto, using(trace_rows::proofs::Found::listed))]
 fn take_untraced(
     tables: &mut Tables,
     settings: Settings,

@@ -4,7 +4,7 @@ ghost use Rattle.std.specs.Prelude.{◌≡◌, ◌==◌, negsuc, filter, option_
 ghost use Rattle.proc_table.specs.Processes.{process_of, of_user};
 ghost use Rattle.proc_table.specs.Seen.{visible_process};
 ghost use Rattle.proc_table.specs.Kept.{TableInvariant};
-ghost use Rattle.trace_stop.specs.Facts.{IsSound};
+ghost use Rattle.trace_rows.specs.Facts.{IsSound};
 ghost use Rattle.requests.specs.Outcome.{Gives};
 ghost use Rattle.requests.specs.Reach.{reach, post_if_live, reached, kill, next_other};
 
@@ -12,9 +12,9 @@ use crate::Reply;
 use crate::handlers::is_live;
 use pid_blocks::{Errno, Pid, Uid};
 use proc_table::Tables;
-use process_end::post;
 use signals::Pass;
-use trace_stop::Settings;
+use trace_rows::Settings;
+use trace_stop::post;
 
 /// Posts the signal to the process with this number, if it exists and is live. Signal 0 is not posted.
 #[tactic(auto, using(crate::proofs::Sending::dead_posts))]

@@ -6,7 +6,7 @@ ghost use Rattle.lwp_table.specs.declared.Due.TheVariants as due;
 ghost use Rattle.proc_table.specs.Processes.{spawned};
 ghost use Rattle.proc_table.specs.Fresh.{fresh_pid, is_process, is_lwp, process_count};
 ghost use Rattle.step_types.specs.declared.Reply.TheVariants as reply;
-ghost use Rattle.trace_stop.specs.Limits.{max_processes};
+ghost use Rattle.trace_rows.specs.Limits.{max_processes};
 ghost use Rattle.requests.specs.Leave.{room_for_lwp};
 ghost use Rattle.requests.specs.Calls.{spawn};
 ghost use Rattle.requests.specs.Memory.{Attempts};

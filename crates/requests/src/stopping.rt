@@ -14,7 +14,7 @@ use lwp_table::{LwpData, Mode};
 use pid_blocks::{Pid, Tid};
 use proc_table::{ProcData, Tables};
 use signals::Signal;
-use trace_stop::{StopInfo, stop};
+use trace_rows::{StopInfo, stop};
 
 /// Returns a stop that shows only a signal.
 pub fn plain(signal: Signal) -> StopInfo

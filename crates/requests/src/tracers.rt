@@ -13,9 +13,9 @@ use crate::{MAX_PROCESSES, Reply};
 use event_masks::default_mask;
 use pid_blocks::{Errno, Pid};
 use proc_table::{ProcData, Tables};
-use process_end::tracer_of;
 use signals::Signal;
-use trace_stop::stop;
+use trace_rows::stop;
+use trace_stop::tracer_of;
 
 /// PT_TRACE_ME: the caller's parent becomes its tracer. Refused with EBUSY where the caller is traced, with EPERM where
 /// no process is its parent, and with EINVAL where it would trace itself by a chain of tracers.

@@ -1,12 +1,12 @@
 -- Filters, and what is looked up in a filtered list.
 use Rattle.std.proofs.Common.{◌≡◌, ◌<◌, List, [], ◌∷◌, map, filter, find, filter_map, Bool, true, false, Option, Some, None, IfSome, refl, arith, ltb}
-use Rattle.trace_stop.proofs.CommonNames.{nat_tests, AllByRecursion, cons_option, ProcData, placed, AllAbove, Rise}
+use Rattle.trace_rows.proofs.CommonNames.{nat_tests, AllByRecursion, cons_option, ProcData, placed, AllAbove, Rise}
 use Rattle.std.proofs.lemmas.List.Elements.{filter-append}
 use Rattle.proc_table.proofs.Every.{every_filter}
 pub use Rattle.proc_table.proofs.OwnRows.{find-only as find_only, any-only as any_only}
-use Rattle.trace_stop.proofs.Every.{All-any, All-both, All-edit}
+use Rattle.trace_rows.proofs.Every.{All-any, All-both, All-edit}
 use Rattle.proc_table.proofs.Placed.{stands}
-use Rattle.trace_stop.proofs.Placed.{IsFree}
+use Rattle.trace_rows.proofs.Placed.{IsFree}
 
 pub find_some : {X : Type 0} (q : X → Bool) (P : X → Type 0) → (xs : List X) → AllByRecursion P xs → IfSome (find q xs) (λ x. P x × (q x ≡ true))
 find_some q P [] e = tt

@@ -1,17 +1,17 @@
 -- The other primitives: one process, one LWP, new rows; and branches of rows.
 use Rattle.std.proofs.Common.{filter, ◌≡◌, ◌≢◌, ℕ, ◌<◌, List, [], ◌∷◌, ◌++◌, length, Bool, true, false, ◌==◌, if◌then◌else◌, Option, Some, refl, sym, ap, ◌∙◌, arith, eqb, eqb-true, subst, append-nil, get_or, set, get_or-set_same, get_or-set_other, length-set, inl, rules}
-use Rattle.trace_stop.proofs.CommonNames.{of_user, AllByRecursion, IsUser, ProcData, LwpData, is_live, placed, Rows, owner, by_owner, each, change, edit_processes, edit_lwps, change_process}
-use Rattle.trace_stop.proofs.CommonNames.{change_lwp, remove_lwp, is_process, add_process, add_lwp}
+use Rattle.trace_rows.proofs.CommonNames.{of_user, AllByRecursion, IsUser, ProcData, LwpData, is_live, placed, Rows, owner, by_owner, each, change, edit_processes, edit_lwps, change_process}
+use Rattle.trace_rows.proofs.CommonNames.{change_lwp, remove_lwp, is_process, add_process, add_lwp}
 use Rattle.std.proofs.lemmas.List.Elements.{filter-append}
 use Rattle.pid_blocks.specs.Blocks.{pid_owner, tid_owner, pid_block, tid_block, slot, cursor_after, InBlock}
 use Rattle.row_isolation.specs.Closed.{GoodProc, GoodLwp, LiveRow, LiveOwner}
-use Rattle.trace_stop.proofs.Every.{find_none, none_of, All-imply, All-append, choose, choose_both}
-use Rattle.trace_stop.proofs.Edited.{edit_none}
-use Rattle.trace_stop.proofs.Passes.{filter_map_same}
-use Rattle.trace_stop.proofs.Placed.{process_of-other}
+use Rattle.trace_rows.proofs.Every.{find_none, none_of, All-imply, All-append, choose, choose_both}
+use Rattle.trace_rows.proofs.Edited.{edit_none}
+use Rattle.trace_rows.proofs.Passes.{filter_map_same}
+use Rattle.trace_rows.proofs.Placed.{process_of-other}
 use Rattle.row_isolation.proofs.FilteredLists.{All-where, placed-only, placed-other}
 use Rattle.row_isolation.proofs.IsolationRelation.{Sim, SameOwnership, SameOwnershipLwp, own, own_lwp, is_own, not_own, named, process_same, each_same}
-use Rattle.trace_stop.proofs.SoundAfterEdit.{processes_alone}
+use Rattle.trace_rows.proofs.SoundAfterEdit.{processes_alone}
 use Rattle.proc_table.proofs.Placed.{Rise-placed, every_placed}
 use Rattle.proc_table.proofs.Rising.{Lacks-from_any}
 use Rattle.proc_table.proofs.Cursors.{InBlock-after}

@@ -1,13 +1,13 @@
 -- The end of a process; posting any signal, trace stops, and what resumes a process.
 use Rattle.std.proofs.Common.{arith, ◌≡◌, ◌≢◌, ℕ, zero, suc, List, filter_map, Bool, true, false, ◌==◌, ◌&&◌, ◌||◌, if◌then◌else◌, Option, Some, None, is_some, IfSome, refl, sym, ap, ◌∙◌, true≢false, subst, rules}
 use Rattle.std.proofs.Math.Path.{fun_ext}
-use Rattle.trace_stop.proofs.CommonNames.{nat_tests, AllByRecursion, list_any, IsUser, SIGKILL, SIGTRAP, bit, ProcData, Trace, LwpData, is_live, traces, reporting, Rows, each}
-use Rattle.trace_stop.proofs.CommonNames.{tracer_in, is_numbered, change_process, change_lwp, notified, post, tracers, stop, ends_process, resume, detach}
+use Rattle.trace_rows.proofs.CommonNames.{nat_tests, AllByRecursion, list_any, IsUser, SIGKILL, SIGTRAP, bit, ProcData, Trace, LwpData, is_live, traces, reporting, Rows, each}
+use Rattle.trace_rows.proofs.CommonNames.{tracer_in, is_numbered, change_process, change_lwp, notified, post, tracers, stop, ends_process, resume, detach}
 use Rattle.pid_blocks.specs.Blocks.{pid_owner, tid_owner}
 use Rattle.step_types.specs.declared.Settings.{Settings}
-use Rattle.trace_stop.specs.{Detach.signal_alone, declared.Resumption.Resumption, declared.StopInfo.StopInfo}
-use Rattle.trace_stop.specs.End.{tracer_of, meets, is_doomed, dooms, process_after, released, lwp_after, notifies_of, end_each, end_of, end}
-use Rattle.trace_stop.proofs.Every.{not_same, by_bool, choose, choose_both, none_passes, All-edit, All-filter}
+use Rattle.trace_rows.specs.{Detach.signal_alone, declared.Resumption.Resumption, declared.StopInfo.StopInfo}
+use Rattle.trace_rows.specs.End.{tracer_of, meets, is_doomed, dooms, process_after, released, lwp_after, notifies_of, end_each, end_of, end}
+use Rattle.trace_rows.proofs.Every.{not_same, by_bool, choose, choose_both, none_passes, All-edit, All-filter}
 use Rattle.row_isolation.specs.Closed.{Mine, GoodProc, GoodLwp}
 use Rattle.row_isolation.proofs.FilteredLists.{any_only, filter_map_only}
 use Rattle.row_isolation.proofs.IsolationRelation.{Sim, SameOwnership, SameOwnershipLwp, Keeps, own, is_own, either, process_same, at_number, each_same}

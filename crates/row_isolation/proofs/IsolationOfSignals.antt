@@ -1,11 +1,11 @@
 -- Posting signals, and running on.
 use Rattle.std.proofs.Common.{◌≡◌, ◌≢◌, ℕ, List, [], ◌∷◌, Bool, false, ◌==◌, if◌then◌else◌, Option, Some, None, option_map, IfSome, refl, sym, ap, ◌∙◌, arith, subst, inl, rules}
-use Rattle.trace_stop.proofs.CommonNames.{settled_lwp, nat_tests, AllByRecursion, list_any, IsUser, SIGCHLD, ProcData, LwpData, process_of, Rows, is_numbered, change, settled_process, settle, posted_process, posted_lwp}
-use Rattle.trace_stop.proofs.CommonNames.{notified, notifies, posted, reported, run_on, resumed, detached}
+use Rattle.trace_rows.proofs.CommonNames.{settled_lwp, nat_tests, AllByRecursion, list_any, IsUser, SIGCHLD, ProcData, LwpData, process_of, Rows, is_numbered, change, settled_process, settle, posted_process, posted_lwp}
+use Rattle.trace_rows.proofs.CommonNames.{notified, notifies, posted, reported, run_on, resumed, detached}
 use Rattle.pid_blocks.specs.Blocks.{pid_owner}
-use Rattle.trace_stop.specs.declared.Resumption.{Resumption}
+use Rattle.trace_rows.specs.declared.Resumption.{Resumption}
 use Rattle.row_isolation.specs.Closed.{Mine, GoodProc, GoodLwp}
-use Rattle.trace_stop.proofs.Every.{choose}
+use Rattle.trace_rows.proofs.Every.{choose}
 use Rattle.row_isolation.proofs.IsolationRelation.{Sim, SameOwnershipLwp, not_own, named, process_same, at_number, each_same}
 use Rattle.row_isolation.proofs.IsolationOfEdits.{Stays, StaysLwp, stays_if, kin_of, change_same}
 

@@ -1,13 +1,13 @@
 -- One relation says all of isolation: what a step did to all rows, what the same step does to one
 -- user's rows, and that other users' rows are as they were.
 use Rattle.std.proofs.Common.{◌≡◌, ◌≢◌, ℕ, List, length, filter, find, filter_map, Bool, true, false, ◌==◌, Option, Some, None, IfSome, refl, sym, ap, ◌∙◌, arith, eqb, eqb-true, subst, eq-eqb, get_or, inl, inr, ◌⊎◌}
-use Rattle.trace_stop.proofs.CommonNames.{AllByRecursion, nat_tests, IsUser, ProcData, LwpData, is_live, process_of, of_user, Rows, by_owner, each}
+use Rattle.trace_rows.proofs.CommonNames.{AllByRecursion, nat_tests, IsUser, ProcData, LwpData, is_live, process_of, of_user, Rows, by_owner, each}
 use Rattle.std.proofs.lemmas.Bool.{cases_eq}
 use Rattle.pid_blocks.specs.Blocks.{pid_owner, slot}
 use Rattle.row_isolation.specs.Closed.{GoodProc, GoodLwp, LiveRow, LiveOwner, Closed}
-use Rattle.trace_stop.proofs.Every.{All-both, All-edit}
-use Rattle.trace_stop.proofs.Edited.{If_more}
-use Rattle.trace_stop.proofs.Passes.{filter_map_same}
+use Rattle.trace_rows.proofs.Every.{All-both, All-edit}
+use Rattle.trace_rows.proofs.Edited.{If_more}
+use Rattle.trace_rows.proofs.Passes.{filter_map_same}
 use Rattle.row_isolation.proofs.FilteredLists.{find_only, find_some, filter_only, filter_edit, filter_untouched, find_edit, All-where, Rise-edit}
 
 abbrev pub own : ℕ → ProcData → Bool

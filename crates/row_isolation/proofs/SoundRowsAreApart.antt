@@ -1,19 +1,19 @@
 -- Sound rows keep users apart, and what a user sees of them: before a change, after it, and after the end of a process.
-use Rattle.trace_stop.proofs.CommonNames.{nat_tests, AllByRecursion, IsUser, LwpData, ProcData, Rows, owns, InOwnBlock, names_own, IsLiveOf, Linked}
-use Rattle.trace_stop.proofs.CommonNames.{FitProcess, waited_for, Standing, WithOwner, IsSound, only_of, end}
+use Rattle.trace_rows.proofs.CommonNames.{nat_tests, AllByRecursion, IsUser, LwpData, ProcData, Rows, owns, InOwnBlock, names_own, IsLiveOf, Linked}
+use Rattle.trace_rows.proofs.CommonNames.{FitProcess, waited_for, Standing, WithOwner, IsSound, only_of, end}
 use Rattle.std.proofs.Common.{◌≡◌, ◌≢◌, ℕ, List, filter, true, ◌==◌, ◌&&◌, sym, ◌∙◌, arith, eqb-true, eq-eqb, rules}
 use Rattle.pid_blocks.specs.Blocks.{pid_owner, tid_owner, pid_block, tid_block, InBlock}
 use Rattle.proc_table.specs.Kept as kept
 use Rattle.step_types.specs.declared.Settings.{Settings}
 use Rattle.row_isolation.specs.Closed.{GoodProc, GoodLwp, LiveRow, LiveOwner, Closed}
-use Rattle.trace_stop.proofs.Every.{All-imply, All-both, any_holds, find_some}
-use Rattle.trace_stop.proofs.Edited.{If_more}
-use Rattle.trace_stop.proofs.Children.{child_lives}
-use Rattle.trace_stop.proofs.SoundAfterStop.{find_passes}
+use Rattle.trace_rows.proofs.Every.{All-imply, All-both, any_holds, find_some}
+use Rattle.trace_rows.proofs.Edited.{If_more}
+use Rattle.trace_rows.proofs.Children.{child_lives}
+use Rattle.trace_rows.proofs.SoundAfterStop.{find_passes}
 use Rattle.row_isolation.proofs.FilteredLists.{filter_same}
 use Rattle.row_isolation.proofs.IsolationRelation.{Sim, own_lwp, at_number}
 use Rattle.row_isolation.proofs.IsolationOfEnds.{end_same}
-use Rattle.trace_stop.proofs.SoundAfterEnd.{same_test}
+use Rattle.trace_rows.proofs.SoundAfterEnd.{same_test}
 
 -- Owners of numbers
 

@@ -1,9 +1,9 @@
 -- Rows that keep users apart: each row names only numbers of one user.
 use Rattle.std.specs.Prelude.{◌≡◌, ◌≢◌}
-use Rattle.trace_stop.specs.CommonNames.{ℕ, false, true, List, Option, None, IfSome, length, get_or, AllByRecursion, IsUser, pid_owner, tid_owner, pid_block, tid_block, slot, InBlock, IsSomeAnd}
-use Rattle.trace_stop.specs.CommonNames.{ProcData, is_live, reporting, process_of, Rows, Rise}
+use Rattle.trace_rows.specs.CommonNames.{ℕ, false, true, List, Option, None, IfSome, length, get_or, AllByRecursion, IsUser, pid_owner, tid_owner, pid_block, tid_block, slot, InBlock, IsSomeAnd}
+use Rattle.trace_rows.specs.CommonNames.{ProcData, is_live, reporting, process_of, Rows, Rise}
 use Rattle.lwp_table.specs.declared.LwpData.{LwpData}
-use Rattle.trace_stop.specs.Facts.{waited_for}
+use Rattle.trace_rows.specs.Facts.{waited_for}
 
 -- the number 1, or a number of a process in the user's block
 abbrev pub Mine : ℕ → ℕ → Type 0

@@ -1,9 +1,9 @@
 -- The end of a process, as one user's rows show it.
 use Rattle.std.specs.Prelude.{◌≡◌, ◌≢◌}
-use Rattle.trace_stop.specs.CommonNames.{ℕ, true, Rows, owns, only_of}
+use Rattle.trace_rows.specs.CommonNames.{ℕ, true, Rows, owns, only_of}
 use Rattle.step_types.specs.declared.Settings.{Settings}
-use Rattle.trace_stop.specs.End.{end}
-use Rattle.trace_stop.specs.Facts.{IsSound}
+use Rattle.trace_rows.specs.End.{end}
+use Rattle.trace_rows.specs.Facts.{IsSound}
 
 -- among a user's rows, the end of one of the user's processes has the same result as where only these rows exist
 abbrev pub EndOwn : Type 0

@@ -1,5 +1,8 @@
 pub mod CommonNames
-pub mod BindLemmas
-pub mod WriteLemmas
+pub mod FrontLemmas
+pub mod GroupLemmas
+pub mod ScriptLemmas
+pub mod SessionLemmas
+pub mod ThreadLemmas
 pub mod LineLemmas
-pub mod RunLemmas
+pub mod TranscriptLemmas

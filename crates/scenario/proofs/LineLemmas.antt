@@ -1,73 +1,66 @@
--- One more line, and one more reply of a user.
-use Rattle.scenario.proofs.CommonNames.{◌≡◌, ℕ, ◌+◌, ◌-◌, ◌<◌, ◌≤◌, ◌==◌, Bool, cond, List, [], ◌∷◌, ◌++◌, length, get_or, map, drop, Option, Some, None, count_by, replicate, refl, sym, ap, ◌∙◌}
-use Rattle.scenario.proofs.CommonNames.{arith, set, at_drop_more, length-set, get_or-set_same, get_or-set_other, get_or-replicate, get_or_past, count_by-le-length, sum_by-cons, nat_tests, Reply}
-use Rattle.scenario.proofs.CommonNames.{Answered, Line, line, lines_after, lines_of, shown_line, text_of, answered, shown, Style, append_assoc}
+-- The lines of a user's replies, and one more.
+use Rattle.std.proofs.Common.{◌≡◌, ℕ, ◌+◌, ◌<◌, ◌^◌, true, false, List, [], ◌∷◌, ◌++◌, length, Option, Some, None, IfSome, String, string_bytes, refl, sym, ap, ◌∙◌, arith, append_assoc, append-nil, length-append}
+use Rattle.scenario.proofs.CommonNames.{eq-eqb, Global, Reply, Answered, Style, answered, shown, told_to, AreMade}
+use Rattle.step_types.specs.Replies.{is_memory}
+use Rattle.scenario_runs.specs.Lines.{line, shown_line}
+use Rattle.scenario_runs.proofs.LineLemmas.{counted_one, replies_to, shown_after, shown_none, shown_whole, text_next}
+use Rattle.scenario.specs.declared.lines.LineDraft.{LineDraft}
+use Rattle.scenario.specs.declared.lines.LineReport.{LineReport}
+use Rattle.scenario.specs.Scripts.{DrawnUp}
+use Rattle.scenario.specs.Unseen.{unseen_in}
 
--- how many replies went to the user
-abbrev pub replies_to : ℕ → List ℕ → ℕ
-replies_to user before = count_by (λ u. u == user) before
+after_more : (style : Style) (user : Option ℕ) (u : ℕ) (rs : List Reply) (r : Reply) (before : List ℕ) (number : ℕ) → number ≡ replies_to u before + length rs + 1
+    → shown_after style user before (told_to u (rs ++ r ∷ [])) ≡ shown_after style user before (told_to u rs) ++ shown_line user (line style number (answered (u, r)))
+after_more style user u [] r before number is =
+    let last = shown_line user (line style number (answered (u, r))) in
+    let next = text_next style user (answered (u, r)) [] before number [] last (shown_after style user before (answered (u, r) ∷ [])) (omega (arith, is)) refl refl in
+    let none = shown_none style user before in
+    let none' = shown_none style user (u ∷ before) in
+    sym next ∙ ap (λ xs. last ++ xs) none' ∙ append-nil last ∙ sym (ap (λ xs. xs ++ last) none)
+after_more style user u (q ∷ rs) r before number is =
+    let head = shown_line user (line style (replies_to u before + 1) (answered (u, q))) in
+    let first = λ (rest : List Answered). text_next style user (answered (u, q)) rest before (replies_to u before + 1) [] head (shown_after style user before (answered (u, q) ∷ rest)) refl refl refl in
+    let one = counted_one u u before true (eq-eqb u u refl) in
+    sym (first (told_to u (rs ++ r ∷ []))) ∙ ap (λ xs. head ++ xs) (after_more style user u rs r (u ∷ before) number (omega (arith, is, one))) ∙ sym (append_assoc head _ _)
+    ∙ ap (λ xs. xs ++ shown_line user (line style number (answered (u, r)))) (first (told_to u rs))
 
--- the count of each user's replies
-pub record Counted (made : List ℕ) (before : List ℕ) : Type 0 where
-  pub users : length made ≡ 64
-  pub each : (k : ℕ) → k < 64 → get_or made k 0 ≡ replies_to (k + 1001) before
+-- what is shown of a user's replies and one more
+pub shown_more : (style : Style) (user : Option ℕ) (u : ℕ) (rs : List Reply) (r : Reply) (number : ℕ) → number ≡ length rs + 1
+    → shown style user (told_to u (rs ++ r ∷ [])) ≡ shown style user (told_to u rs) ++ shown_line user (line style number (answered (u, r)))
+shown_more style user u rs r number is =
+    sym (shown_whole style user (told_to u (rs ++ r ∷ []))) ∙ after_more style user u rs r [] number (omega (arith, is)) ∙ ap (λ xs. xs ++ shown_line user (line style number (answered (u, r)))) (shown_whole style user (told_to u rs))
 
-pub counted_start : Counted (replicate 64 0) []
-counted_start = record { users = refl; each = λ k h. get_or-replicate 64 k 0 0 h }
+made_more : (rs : List Reply) (r : Reply) → AreMade rs → is_memory r ≡ false → AreMade (rs ++ r ∷ [])
+made_more [] r made is = (is, tt)
+made_more (q ∷ rs) r made is = (made.0, made_more rs r made.1 is)
 
--- one more reply
-pub counted_one : (u user : ℕ) (before : List ℕ) (b : Bool) → (u == user) ≡ b → replies_to user (u ∷ before) ≡ cond b 1 0 + replies_to user before
-counted_one u user before b is = sum_by-cons (λ x. cond (x == user) 1 0) u before ∙ ap (λ t. cond t 1 0 + replies_to user before) is
+-- the text with one more line, if memory didn't run out
+abbrev pub IsLonger : LineDraft → Reply → ℕ → String Global → Type 0
+IsLonger d r number new =
+    (is_memory r ≡ false) × (old : String Global) × (d.text ≡ Some old) × (string_bytes new ≡ string_bytes old ++ shown_line d.options.user (line d.options.style number (answered (d.uid, r))))
 
--- what the slot of a user says
-pub counted_number : (made before : List ℕ) (u : ℕ) → 1001 ≤ u → u ≤ 1064 → Counted made before → get_or made (u - 1001) 0 ≡ replies_to u before
-counted_number made before u low high counted = let own = counted.each (u - 1001) in grind (arith, own)
-
--- the slot of the user counts one more, and the others stay
-pub counted_more : (made before : List ℕ) (u : ℕ) → 1001 ≤ u → u ≤ 1064 → Counted made before → Counted (set made (u - 1001) (get_or made (u - 1001) 0 + 1)) (u ∷ before)
-counted_more made before u low high counted = record {
-  users = length-set made _ _ ∙ counted.users;
-  each = λ k small.
-      let own = counted_one u (k + 1001) before _ refl in
-      let was = counted.each k small in
-      grind (arith, nat_tests, counted.users, was, own, get_or-set_same {A = ℕ}, get_or-set_other {A = ℕ});
-}
-
--- no slot counts more replies than there were
-pub counted_few : (made before : List ℕ) → Counted made before → (k : ℕ) → get_or made k 0 ≤ length before
-counted_few made before counted k = let own = counted.each k in grind (arith, counted.users, own, count_by-le-length (λ u. u == (k + 1001)) before, get_or_past made k 0)
-
-abbrev pub shown_lines : Option ℕ → List Line → List ℕ
-shown_lines None list = text_of list
-shown_lines (Some user) list = text_of (lines_of user list)
-
--- what is shown of the answers after others
-abbrev pub shown_after : Style → Option ℕ → List ℕ → List Answered → List ℕ
-shown_after style user before answers = shown_lines user (lines_after style before answers)
-
-pub shown_whole : (style : Style) (user : Option ℕ) (answers : List Answered) → shown_after style user [] answers ≡ shown style user answers
-shown_whole style user answers = grind arith
-
-pub shown_none : (style : Style) (user : Option ℕ) (before : List ℕ) → shown_after style user before [] ≡ []
-shown_none style user before = grind arith
-
-first_line : (user : Option ℕ) (l : Line) (list : List Line) → shown_lines user (l ∷ list) ≡ shown_line user l ++ shown_lines user list
-first_line user l list = grind arith
-
--- after one more line, the text so far and the lines to come are still the whole text
-pub text_next : (style : Style) (user : Option ℕ) (a : Answered) (rest : List Answered) (before : List ℕ) (number : ℕ) (old new all : List ℕ)
-    → number ≡ replies_to a.uid before + 1 → new ≡ old ++ shown_line user (line style number a)
-    → old ++ shown_after style user before (a ∷ rest) ≡ all → new ++ shown_after style user (a.uid ∷ before) rest ≡ all
-text_next style user a rest before number old new all number_is new_is whole = grind (arith, number_is, new_is, first_line, append_assoc {A = ℕ})
-
--- the same of the reply at a place in a list
-pub text_more : (style : Style) (user : Option ℕ) (es : List (ℕ × Reply)) (i : ℕ) (e : ℕ × Reply) (before : List ℕ) (number : ℕ) (old new all : List ℕ) → i < length es → get_or es i e ≡ e
-    → number ≡ replies_to e.0 before + 1 → new ≡ old ++ shown_line user (line style number (answered e))
-    → old ++ shown_after style user before (map answered (drop i es)) ≡ all
-    → new ++ shown_after style user (e.0 ∷ before) (map answered (drop (i + 1) es)) ≡ all
-text_more style user es i e before number old new all h here number_is new_is whole =
-    let rest = map answered (drop (i + 1) es) in
-    let next : shown_after style user before (map answered (drop i es)) ≡ shown_after style user before (answered e ∷ rest) =
-    at_drop_more (λ xs. shown_after style user before (map answered xs)) es i e h
-    ∙ ap (λ (x : ℕ × Reply). shown_after style user before (answered x ∷ rest)) here in
-    text_next style user (answered e) rest before number old new all number_is new_is (ap (λ xs. old ++ xs) (sym next) ∙ whole)
+-- a draft with one more reply
+pub drawn_more : (d : LineDraft) (report : LineReport) (u left : ℕ) (before : List Reply) (r : Reply) (number : ℕ) (text : Option (String Global)) (seen : List Reply) → seen ≡ unseen_in d.replies ++ r ∷ []
+    → (d.number + 1 < 2 ^ 64 → number ≡ d.number + 1) → IfSome text (IsLonger d r number) → DrawnUp d report u (left + 1) before
+    → (d.options ≡ report.options) × (d.uid ≡ u) × (seen ≡ before ++ r ∷ []) × (number ≡ length (before ++ r ∷ [])) × (number + left < 2 ^ 64)
+    × IfSome text (λ s. (string_bytes s ≡ shown d.options.style d.options.user (told_to u (before ++ r ∷ []))) × AreMade (before ++ r ∷ []))
+drawn_more d report u left before r number text seen replies counts longer is =
+    let one = counts (omega (arith, is.4)) in
+    let more = length-append before (r ∷ []) in (
+      is.0,
+      is.1,
+      replies ∙ ap (λ rs. rs ++ r ∷ []) is.2,
+      omega (arith, one, is.3, more),
+      omega (arith, one, is.4),
+      lines text longer,
+    )
+  where
+    lines : (t : Option (String Global)) → IfSome t (IsLonger d r number) → IfSome t (λ s. (string_bytes s ≡ shown d.options.style d.options.user (told_to u (before ++ r ∷ []))) × AreMade (before ++ r ∷ []))
+    lines None l = tt
+    lines (Some new) l =
+        let one = counts (omega (arith, is.4)) in
+        let was = rw l.2 at is.5 in
+        let last : ℕ → List ℕ = λ v. shown_line d.options.user (line d.options.style number (answered (v, r))) in (
+          l.3 ∙ ap (λ xs. xs ++ last d.uid) was.0 ∙ ap (λ v. shown d.options.style d.options.user (told_to u before) ++ last v) is.1 ∙ sym (shown_more d.options.style d.options.user u before r number (omega (arith, one, is.3))),
+          made_more before r was.1 l.0,
+        )

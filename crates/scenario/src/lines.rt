@@ -1,133 +1,163 @@
-//! The lines of replies.
-ghost use Rattle.std.specs.Prelude.{◌≡◌, ◌+◌, ◌-◌, ◌^◌, ◌<◌, ◌≤◌, ◌++◌, ◌==◌, ℕ, map, Option, IfOk, OnOk, string_bytes, slice_index, slice_set};
-ghost use Rattle.pid_blocks.specs.Blocks.{slot};
-ghost use Rattle.scenario.specs.Lines.{line, shown_line};
-ghost use Rattle.scenario.specs.declared.style.Style.TheVariants as style;
-ghost use Rattle.scenario.specs.Runs.{answered, shown};
+//! The lines of one user, which the user's own thread makes.
 
-use crate::running::RunOptions;
-use crate::short_lines::{ROOM, push_short};
-use crate::style::Style;
-use arrayvec::ArrayString;
-use itoa::Buffer;
+ghost use Rattle.std.specs.Prelude.{◌≡◌, ◌++◌, false, Some, String, string_bytes, IfSome};
+ghost use Rattle.std.specs.Global.{Global};
+ghost use Rattle.step_types.specs.Replies.{is_memory};
+ghost use Rattle.scenario_runs.specs.Lines.{line, shown_line};
+ghost use Rattle.scenario_runs.specs.Runs.{answered};
+ghost use Rattle.scenario.specs.Scripts.{replies_in, DrawnUp, Shows};
+
 use pid_blocks::Uid;
-use reply_json::ObjectWriter;
 use requests::Reply;
-use scenario_text::USERS;
+use scenario_runs::{LineOptions, ObjectWriter, push_shown};
+use sessions::Report;
 use std::alloc::{AllocError, Global};
+use std::marker::Model;
+use std::snapshot::Snapshot;
 
-/// Adds the line of a reply as text.
-fn push_text(text: &mut String, uid: Uid, number: u64, reply: &Reply) -> Result<(), AllocError>
-    ensures { OnOk result (string_bytes text.new
-        ≡ string_bytes text.old ++ (line style.Text number (answered (uid, reply.now))).text) }
-{
-    let mut digits = Buffer::new();
-    let mut line = ArrayString::<ROOM>::new();
-    line.push_str(digits.format(uid.get()));
-    line.push_str(" ");
-    line.push_str(digits.format(number));
-    if push_short(&mut line, reply) {
-        return text.push_str(line.as_str());
-    }
-    text.push_str(line.as_str())?;
-    writeln!(text, " {reply}")?;
-    Ok(())
+/// The bytes of a usual line.
+const USUAL_LINE: usize = 24;
+
+/// Reports the lines of the replies that the options show.
+#[derive(Drop)]
+pub(crate) struct LineReport {
+    pub(crate) options: LineOptions,
 }
 
-/// Adds the line of a reply as a JSON object.
-fn push_object(
-    alloc: Global,
-    objects: &mut ObjectWriter,
-    text: &mut String,
+/// A reply, and the replies before it, which only contracts see.
+#[derive(Drop)]
+struct Replies {
+    before: Option<Snapshot<Replies>>,
+    last: Reply,
+}
+
+impl Model for Replies {
+    ghost use Rattle.std.specs.Prelude.{List, ◌++◌, ◌∷◌, [], length};
+    ghost use Rattle.step_types.specs.declared.Reply.{Reply};
+    ghost use Rattle.scenario.specs.Unseen.{unseen_in};
+
+    ghost Value = { List Reply };
+
+    ghost view = { λ r. unseen_in r.before ++ r.last ∷ [] };
+
+    ghost size = { length };
+}
+
+/// The lines of a user's replies so far, and the replies, which only contracts see. There are no lines once memory ran
+/// out, here or for one of the steps.
+#[derive(Drop)]
+pub(crate) struct LineDraft {
+    options: LineOptions,
     uid: Uid,
     number: u64,
-    reply: &Reply,
-) -> Result<(), AllocError>
-    ensures { OnOk result (string_bytes text.new
-        ≡ string_bytes text.old ++ (line style.Json number (answered (uid, reply.now))).text) }
-{
-    objects.push_reply(alloc, text, uid, number, reply)?;
-    text.push_str("\n")
+    text: Option<String>,
+    objects: ObjectWriter,
+    replies: Option<Snapshot<Replies>>,
 }
 
-/// Adds the line of the user's reply with this number. A JSON line is put together in `objects`.
-pub fn push_line(
-    alloc: Global,
-    style: Style,
-    objects: &mut ObjectWriter,
-    text: &mut String,
-    uid: Uid,
-    number: u64,
-    reply: &Reply,
-) -> Result<(), AllocError>
-    ensures { OnOk result (string_bytes text.new
-        ≡ string_bytes text.old ++ (line style number (answered (uid, reply.now))).text) }
-{
-    match style {
-        Style::Text => push_text(text, uid, number, reply),
-        Style::Json => push_object(alloc, objects, text, uid, number, reply),
+/// The lines of a user's replies, and the replies, which only contracts see. There are no lines where memory ran out,
+/// here or for one of the steps.
+#[derive(Drop)]
+pub(crate) struct UserLines {
+    text: Option<String>,
+    replies: Option<Snapshot<Replies>>,
+}
+
+impl UserLines {
+    /// Returns the lines, if there are any.
+    pub(crate) fn into_text(self) -> Option<String>
+        ensures { result ≡ self.text }
+    {
+        let UserLines { text, replies: _ } = self;
+        text
     }
 }
 
-/// Adds the line of a reply, if the options show it.
-pub fn push_shown(
-    alloc: Global,
-    options: &RunOptions,
-    objects: &mut ObjectWriter,
-    text: &mut String,
-    uid: Uid,
-    number: u64,
-    reply: &Reply,
-) -> Result<(), AllocError>
-    ensures { OnOk result (string_bytes text.new
-        ≡ string_bytes text.old ++ shown_line options.now.user (line options.now.style number (answered (uid, reply.now)))) }
-{
-    let is_shown = match options.user {
-        Some(user) => uid == user,
-        None => true,
-    };
-    if is_shown {
-        push_line(alloc, options.style, objects, text, uid, number, reply)?;
+impl Report for LineReport {
+    type Draft = LineDraft;
+
+    type Output = UserLines;
+
+    ghost made_of = { replies_in };
+
+    ghost tells = { λ r u lines. Shows r.options u lines };
+
+    ghost drafted = { DrawnUp };
+
+    fn begin(self, alloc: Global, uid: Uid, replies: usize) -> Result<LineDraft, AllocError> {
+        let LineReport { options } = self;
+        let text = String::with_capacity(alloc, usual_bytes(&options, uid, replies))?;
+        Ok(LineDraft {
+            options,
+            uid,
+            number: 0,
+            text: Some(text),
+            objects: ObjectWriter::new(alloc),
+            replies: None,
+        })
     }
-    Ok(())
-}
 
-/// Counts one more reply of the user, and returns the new count.
-pub fn count_reply(made: &mut [u64; USERS], uid: Uid) -> u64
-    requires { (k : ℕ) → slice_index made.old k + 1 < 2 ^ 64 }
-    ensures range { (1001 ≤ uid) × (uid ≤ 1064) }
-    ensures number { result ≡ slice_index made.old (uid - 1001) + 1 }
-    ensures after { made.new ≡ slice_set made.old (uid - 1001) result }
-{
-    let slot = uid.slot();
-    let _user = uid.get();
-    made[slot] += 1;
-    made[slot]
-}
-
-/// Returns the text of the replies in order. Each has a line with its user and the user's own step number. If the
-/// options name a user, the text has only that user's lines. An error means out of memory.
-pub fn render(
-    alloc: Global,
-    replies: &[(Uid, Reply)],
-    options: RunOptions,
-) -> Result<String, AllocError>
-    ensures { IfOk result (λ s. string_bytes s ≡ shown options.style options.user (map answered replies.now)) }
-{
-    let mut text = String::new(alloc);
-    let mut objects = ObjectWriter::new(alloc);
-    let mut made = [0u64; USERS];
-    for reply in replies {
-        let number = count_reply(&mut made, reply.0);
-        push_shown(
+    fn add(draft: &mut LineDraft, alloc: Global, reply: Reply) {
+        draft.number = draft.number.saturating_add(1);
+        add_line(
             alloc,
-            &options,
-            &mut objects,
-            &mut text,
-            reply.0,
-            number,
-            &reply.1,
-        )?;
+            &draft.options,
+            &mut draft.objects,
+            &mut draft.text,
+            draft.uid,
+            draft.number,
+            &reply,
+        );
+        let replies = Replies {
+            before: draft.replies.take(),
+            last: reply,
+        };
+        draft.replies = Some(Snapshot::of(&replies));
     }
-    Ok(text)
+
+    fn end(draft: LineDraft) -> UserLines {
+        let LineDraft {
+            options: _,
+            uid: _,
+            number: _,
+            text,
+            objects: _,
+            replies,
+        } = draft;
+        UserLines { text, replies }
+    }
+}
+
+/// Returns how many bytes the lines of so many replies to the user usually have, if the options show them.
+fn usual_bytes(options: &LineOptions, uid: Uid, replies: usize) -> usize {
+    match options.user {
+        Some(user) if user != uid => 0,
+        _ => replies.saturating_mul(USUAL_LINE),
+    }
+}
+
+/// Adds the line of a reply to the text, if the options show it. There is no text any more where memory runs out, here
+/// or for the step.
+fn add_line(
+    alloc: Global,
+    options: &LineOptions,
+    objects: &mut ObjectWriter,
+    text: &mut Option<String>,
+    uid: Uid,
+    number: u64,
+    reply: &Reply,
+)
+    ensures { IfSome text.new (λ new. (is_memory reply.now ≡ false) × (old : String Global) × (text.old ≡ Some old)
+        × (string_bytes new ≡ string_bytes old ++ shown_line options.now.user (line options.now.style number (answered (uid, reply.now))))) }
+{
+    if reply.is_memory() {
+        *text = None;
+        return;
+    }
+    let Some(lines) = text else {
+        return;
+    };
+    if push_shown(alloc, options, objects, lines, uid, number, reply).is_err() {
+        *text = None;
+    }
 }

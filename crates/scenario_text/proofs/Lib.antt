@@ -5,3 +5,4 @@ pub mod ReadLoops
 pub mod Lists
 pub mod KeyLemmas
 pub mod Plans
+pub mod KeySets

@@ -9,3 +9,4 @@ pub mod Faults
 pub mod Scenarios
 pub mod OneStep
 pub mod Streams
+pub mod Laws

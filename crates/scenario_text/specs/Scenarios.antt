@@ -1,5 +1,5 @@
 -- The scenario or the fault of some bytes.
-use Rattle.std.specs.Prelude.{◌≡◌, ◌⊎◌, ◌+◌, ◌<◌, ◌≤◌, ◌==◌, ◌∷◌, ◌++◌, if◌then◌else◌}
+use Rattle.std.specs.Prelude.{◌≡◌, ◌⊎◌, ◌<◌, ◌≤◌, ◌==◌, ◌∷◌, ◌++◌, if◌then◌else◌}
 use Rattle.scenario_text.specs.CommonNames.{⊤, ℕ, Bool, nat_lt, ℤ, pos, List, [], length, Option, Some, None, Result, Ok, Err, codes, IsUtf8, Consumes, members_among, Data, Items, object, items_len}
 use Rattle.scenario_text.specs.CommonNames.{get_member, read, Settings, UserStep, Fault, Read, TooLong, BadJson, TooManySteps, BadShape, BadUser, BadName, BadNumber, TooManyRules, Memory, KeyError, Plan}
 use Rattle.scenario_text.specs.CommonNames.{max_steps}

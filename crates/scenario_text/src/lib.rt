@@ -7,6 +7,7 @@ mod atoms;
 mod fault;
 mod fields;
 mod keys;
+pub mod laws;
 mod listing;
 mod members;
 mod names;

@@ -1,4 +1,4 @@
-use crate::step_list::{BareStep, StepList, Steps};
+use crate::step_list::{BareStep, StepList};
 use pid_blocks::Uid;
 use std::marker::Model;
 use step_types::Settings;
@@ -13,8 +13,10 @@ pub(crate) const MAX_STEPS: usize = 100000;
 /// At most `MAX_STEPS` steps of users in order, and the settings of the host for them.
 #[derive(Drop)]
 pub struct Scenario {
-    settings: Settings,
-    steps: StepList,
+    /// The settings of the host.
+    pub settings: Settings,
+    /// The steps in order, each with its user.
+    pub steps: StepList,
 }
 
 impl Model for Scenario {
@@ -29,8 +31,8 @@ impl Model for Scenario {
 }
 
 impl Scenario {
-    ghost use Rattle.std.specs.Prelude.{◌≡◌, ◌≤◌, length, map};
-    ghost use Rattle.scenario_text.specs.Plan.{Plan, asked, with_policies, max_steps, policies_in};
+    ghost use Rattle.std.specs.Prelude.{◌≡◌, ◌≤◌, length};
+    ghost use Rattle.scenario_text.specs.Plan.{Plan, with_policies, max_steps, policies_in};
 
     /// Creates the scenario of these steps. There are at most `MAX_STEPS` of them.
     pub fn new(settings: Settings, steps: StepList) -> Scenario
@@ -40,26 +42,12 @@ impl Scenario {
         Scenario { settings, steps }
     }
 
-    /// Returns the settings of the host.
-    pub fn settings(&self) -> Settings
-        ensures { result ≡ self.now.settings }
-    {
-        self.settings
-    }
-
     /// Returns the steps in order, each with its user and without the policy that it installs.
     pub fn bare_steps(&self) -> &[(Uid, BareStep)]
         ensures steps { with_policies result.now (policies_in self.now.steps) ≡ self.now.steps }
         ensures bound { length result.now ≤ max_steps }
     {
         self.steps.bare_steps()
-    }
-
-    /// Returns the steps in order, each with its user.
-    pub fn steps(&self) -> Steps<'_>
-        ensures { map asked result ≡ self.now.steps }
-    {
-        self.steps.steps()
     }
 
     /// Returns the policies of the installs, in order.

@@ -162,7 +162,7 @@ impl StepList {
 
     /// Returns the steps in order, each with its user.
     #[tactic(auto, using(crate::proofs::WithPoliciesLemmas::asked_again))]
-    pub fn steps(&self) -> Steps<'_>
+    pub fn iter(&self) -> Steps<'_>
         ensures { map asked result ≡ self.now }
     {
         Steps {

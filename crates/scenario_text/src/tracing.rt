@@ -23,7 +23,7 @@ fn trace_me_of(step: &Fields, caller: u32) -> Result<PlainStep, KeyError>
         caller,
         request: Request::TraceMe,
         target: 0,
-        data: 0,
+        arg: 0,
     })
 }
 
@@ -37,7 +37,7 @@ fn set_event_mask_of(step: &Fields, caller: u32) -> Result<PlainStep, KeyError>
         caller,
         request: Request::SetEventMask,
         target,
-        data: mask.0,
+        arg: mask.0,
     })
 }
 
@@ -47,13 +47,13 @@ fn request_of(step: &Fields, caller: u32, request: Request) -> Result<PlainStep,
     ensures { result ≡ request_of caller request step.now }
 {
     let target = step.target?;
-    let data = step.data?;
+    let arg = step.data?;
     only(ptrace_keys() | Keys::TARGET | Keys::DATA, step.keys)?;
     Ok(PlainStep::Ptrace {
         caller,
         request,
         target,
-        data,
+        arg,
     })
 }
 

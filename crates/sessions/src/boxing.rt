@@ -8,15 +8,17 @@ ghost use Rattle.host_lock.specs.Boxed.{own_step};
 ghost use Rattle.sessions.specs.Boxed.{any_report, any_script, boxed_script, report_of};
 ghost use Rattle.sessions.specs.Runs.{plain_script};
 
+use crate::kept::Kept;
 use crate::report::{Report, Whole};
 use crate::script::Script;
-use host_lock::BoxedStep;
+use host_lock::{BoxedStep, Journal, Unkept};
 use pid_blocks::Uid;
 use requests::Step;
 use std::alloc::{AllocError, Global};
 use stop_handlers::{Decider, Handler};
 
-/// The steps of one user, in order, with their handlers on the heap, and what is made of the replies.
+/// The steps of one user, in order, with their handlers on the heap, and what is made of the replies. A run of such
+/// scripts keeps no journal.
 #[derive(Drop)]
 pub struct BoxedScript<F: Decider + Send + Drop, T: Drop = Whole> {
     pub uid: Uid,
@@ -38,6 +40,9 @@ pub trait Scripted<F: Decider + Send + Drop>: Sized + Drop {
     /// What is made of the replies.
     type Report: Report;
 
+    /// What a run of such scripts hands out of its answered calls.
+    type Kept: Kept;
+
     /// The user and the steps, in order.
     ghost plain: { Self → ℕ × List PlainStep };
 
@@ -58,6 +63,8 @@ pub trait Scripted<F: Decider + Send + Drop>: Sized + Drop {
 impl<F: Decider + Send + Drop> Scripted<F> for Script<F> {
     type Report = Whole;
 
+    type Kept = Journal;
+
     ghost plain = { plain_script };
 
     ghost count = { λ s. vec_len s.steps };
@@ -73,6 +80,8 @@ impl<F: Decider + Send + Drop> Scripted<F> for Script<F> {
 
 impl<F: Decider + Send + Drop, T: Report> Scripted<F> for BoxedScript<F, T> {
     type Report = T;
+
+    type Kept = Unkept;
 
     ghost plain = { boxed_script };
 

@@ -27,34 +27,35 @@ use stop_handlers::Decider;
 /// calling thread, each other in a thread of its own. A user may have several scripts.
 ///
 /// Returns the host, the journal, and a transcript for each script, with what its `Report` makes of the replies. In the
-/// journal, a script's index is the number of its session. Where `K` is `Unkept`, no call is kept, and only contracts
-/// see the journal.
+/// journal, a script's index is the number of its session. A run of `BoxedScript`s keeps no call (`Unkept`), so only
+/// contracts see its journal.
 ///
 /// # Errors
 ///
 /// `TooMany` where there are more scripts than a host may have sessions, `Memory` where memory ran out before the first
 /// worker began, `Start` where a thread could not be started. The host is dropped.
-pub fn run_sessions<
-    F: Decider + Send + Drop,
-    S: Scripted<F>,
-    K: Kept,
-    G: Gate,
-    R: Threads + Wait + Sync,
->(
+pub fn run_sessions<F: Decider + Send + Drop, S: Scripted<F>, G: Gate, R: Threads + Wait + Sync>(
     rt: &R,
     alloc: Global,
     host: Host<F>,
     scripts: Vec<S>,
     gate: &G,
-) -> Result<(Host<F>, K, Vec<Transcript<<S::Report as Report>::Output>>), RunRefusal>
+) -> Result<
+    (
+        Host<F>,
+        S::Kept,
+        Vec<Transcript<<S::Report as Report>::Output>>,
+    ),
+    RunRefusal,
+>
     requires { All (λ s. S.count s ≤ max_calls) scripts.items }
-    ensures legal { IfOk result (λ r. IsLegal host (K.calls r.1)) }
-    ensures host { IfOk result (λ r. r.0 ≡ replay host (K.calls r.1)) }
-    ensures entries { IfOk result (λ r. All (IsBelow (vec_len scripts)) (K.calls r.1)) }
-    ensures transcripts { IfOk result (λ r. AllPlay S.plain S.Report.made_of (K.calls r.1) scripts.items r.2.items) }
+    ensures legal { IfOk result (λ r. IsLegal host (S.Kept.calls r.1)) }
+    ensures host { IfOk result (λ r. r.0 ≡ replay host (S.Kept.calls r.1)) }
+    ensures entries { IfOk result (λ r. All (IsBelow (vec_len scripts)) (S.Kept.calls r.1)) }
+    ensures transcripts { IfOk result (λ r. AllPlay S.plain S.Report.made_of (S.Kept.calls r.1) scripts.items r.2.items) }
     ensures reports { IfOk result (λ r. AllTell (λ s. S.Report.tells (S.report s)) scripts.items r.2.items) }
-    ensures own { IfOk result (λ r. OwnEntries host (K.calls r.1)) }
-    ensures none { IfOk result (λ r. vec_len scripts ≡ 0 → (r.0 ≡ host) × (K.calls r.1 ≡ [])) }
+    ensures own { IfOk result (λ r. OwnEntries host (S.Kept.calls r.1)) }
+    ensures none { IfOk result (λ r. vec_len scripts ≡ 0 → (r.0 ≡ host) × (S.Kept.calls r.1 ≡ [])) }
     ensures few { OnOk result (vec_len scripts ≤ max_sessions) }
     ensures refuses { IfErr result (RefusesFor (vec_len scripts)) }
 {
@@ -63,13 +64,13 @@ pub fn run_sessions<
     }
     if scripts.is_empty() {
         host.assert_invariant();
-        let log = K::Log::empty(alloc);
-        return Ok((host, K::of_log(log), Vec::new(alloc)));
+        let log = <S::Kept as Kept>::Log::empty(alloc);
+        return Ok((host, S::Kept::of_log(log), Vec::new(alloc)));
     }
     let Ok(scripts) = boxed_scripts(alloc, scripts) else {
         return Err(RunRefusal::Memory);
     };
-    let left: Left<F, K::Log, <S::Report as Report>::Output> = play(
+    let left: Left<F, <S::Kept as Kept>::Log, <S::Report as Report>::Output> = play(
         rt, alloc, host, scripts, gate,
     )?;
     let Left {
@@ -77,7 +78,7 @@ pub fn run_sessions<
         log,
         transcripts,
     } = left;
-    let kept = K::of_log(log);
+    let kept = S::Kept::of_log(log);
     Ok((host, kept, transcripts))
 }
 

@@ -15,7 +15,7 @@ with_handler handler (Step.Kill caller which sig) = Some (Step.Kill caller which
 with_handler handler (Step.Wait4 caller which options) = Some (Step.Wait4 caller which options)
 with_handler handler (Step.Install caller own) = option_map (Step.Install caller) handler
 with_handler handler (Step.Handle caller) = Some (Step.Handle caller)
-with_handler handler (Step.Ptrace caller request target «data») = Some (Step.Ptrace caller request target «data»)
+with_handler handler (Step.Ptrace caller request target arg) = Some (Step.Ptrace caller request target arg)
 with_handler handler (Step.Turn tid act) = Some (Step.Turn tid act)
 
 -- the step with what f makes of its handler, if it installs one
@@ -27,7 +27,7 @@ map_handler f (Step.Kill caller which sig) = Step.Kill caller which sig
 map_handler f (Step.Wait4 caller which options) = Step.Wait4 caller which options
 map_handler f (Step.Install caller own) = Step.Install caller (f own)
 map_handler f (Step.Handle caller) = Step.Handle caller
-map_handler f (Step.Ptrace caller request target «data») = Step.Ptrace caller request target «data»
+map_handler f (Step.Ptrace caller request target arg) = Step.Ptrace caller request target arg
 map_handler f (Step.Turn tid act) = Step.Turn tid act
 
 -- the step without what it installs
@@ -42,7 +42,7 @@ caller_of (Step.Kill caller which s) = Some caller
 caller_of (Step.Wait4 caller which options) = Some caller
 caller_of (Step.Install caller policy) = Some caller
 caller_of (Step.Handle caller) = Some caller
-caller_of (Step.Ptrace caller r target «data») = Some caller
+caller_of (Step.Ptrace caller r target arg) = Some caller
 caller_of s = None
 
 -- whether a step installs a handler

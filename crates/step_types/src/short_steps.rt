@@ -57,16 +57,16 @@ impl<H> Step<H> {
         Step::Handle { caller }
     }
 
-    /// ptrace(2) by the process `caller`. `target` is the argument pid: a process or an LWP. `data` is the argument of
+    /// ptrace(2) by the process `caller`. `target` is the argument pid: a process or an LWP. `arg` is the argument of
     /// that name.
-    pub fn ptrace(caller: u32, request: Request, target: u32, data: u32) -> Step<H>
-        ensures { result ≡ op.Ptrace caller request target «data» }
+    pub fn ptrace(caller: u32, request: Request, target: u32, arg: u32) -> Step<H>
+        ensures { result ≡ op.Ptrace caller request target arg }
     {
         Step::Ptrace {
             caller,
             request,
             target,
-            data,
+            arg,
         }
     }
 

@@ -48,7 +48,7 @@ pub enum Step<H> {
         caller: u32,
         request: Request,
         target: u32,
-        data: u32,
+        arg: u32,
     },
     /// The turn of an LWP.
     Turn {
@@ -113,12 +113,12 @@ impl<H> Step<H> {
                 caller,
                 request,
                 target,
-                data,
+                arg,
             } => Step::Ptrace {
                 caller,
                 request,
                 target,
-                data,
+                arg,
             },
             Step::Turn { tid, act } => Step::Turn { tid, act },
         })

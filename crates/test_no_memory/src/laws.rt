@@ -148,7 +148,8 @@ fn check_two_lists(case: &Case<'_>, before: &Seen, settings: Settings) -> Result
 
 /// Checks that refusals don't change the hosts, and that else two hosts give the same replies.
 pub fn check(case: &Case<'_>) -> Result<(), TestError> {
-    let settings = case.scenario.settings();
+    let scenario = case.scenario;
+    let settings = scenario.settings;
     let mut host = new_host(case.alloc, settings)?;
     let before = case.see(&host)?;
     check_law(case, &before, settings, Law::OneStep)?;

@@ -3,7 +3,7 @@
 use crate::steps::{Case, TRIES, answer, new_host};
 use pid_blocks::Uid;
 use requests::{Host, PlainStep, Reply, Step};
-use scenario::{RunFault, bind, handlers_from, policies};
+use scenario_runs::{RunFault, bind, handlers_from, policies};
 use std::alloc::Global;
 use stop_handlers::{ByPolicy, Handler, Policy};
 use test_kit::{TestError, expect};
@@ -57,7 +57,8 @@ fn check_replies(
 ) -> Result<(), TestError> {
     let is_whole = replies.len() == case.scenario.bare_steps().len();
     expect(is_whole, "a list has not a reply for each step")?;
-    for (step, reply) in case.scenario.steps().zip(replies.iter()) {
+    let scenario = case.scenario;
+    for (step, reply) in scenario.steps.iter().zip(replies.iter()) {
         check_reply(case.alloc, host, step.0, &step.1, reply)?;
     }
     Ok(())
@@ -70,7 +71,8 @@ fn check_answered(
     host: &Host<ByPolicy>,
     replies: &[Reply],
 ) -> Result<(), TestError> {
-    let mut other = new_host(case.alloc, case.scenario.settings())?;
+    let scenario = case.scenario;
+    let mut other = new_host(case.alloc, scenario.settings)?;
     check_replies(case, &mut other, replies)?;
     case.check_hosts(host, &other, "a list leaves another host")
 }
@@ -83,7 +85,8 @@ fn ran(case: &Case<'_>, host: &mut Host<ByPolicy>) -> Result<Option<Vec<Reply>>,
 
 /// Checks that a refused list doesn't change the host, and that else the replies are those of steps made one by one.
 pub fn check(case: &Case<'_>) -> Result<(), TestError> {
-    let mut host = new_host(case.alloc, case.scenario.settings())?;
+    let scenario = case.scenario;
+    let mut host = new_host(case.alloc, scenario.settings)?;
     let before = case.see(&host)?;
     for _ in 0..TRIES {
         if let Some(replies) = ran(case, &mut host)? {

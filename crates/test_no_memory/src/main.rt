@@ -25,7 +25,7 @@ mod texts;
 mod threads;
 
 use pid_blocks::Uid;
-use scenario::{Fault, Scenario, parse};
+use scenario_runs::{Fault, Scenario, parse};
 use scenarios::{EVERY_STEP, GROWING, LEAVING};
 use std::alloc::Global;
 use std::process::ExitCode;

@@ -16,9 +16,10 @@ use test_kit::{TestError, expect};
 fn open(case: &Case<'_>) -> Result<(SharedHost<ByPolicy>, Vec<Session>), TestError>
     ensures { IfOk result (λ r. All (IsOf r.0) r.1.items) }
 {
+    let scenario = case.scenario;
     retry!(
         Ok(opened) = {
-            let host = new_host(case.alloc, case.scenario.settings())?;
+            let host = new_host(case.alloc, scenario.settings)?;
             SharedHost::open(case.alloc, host, &[case.first, case.second])
         }
     )
@@ -94,7 +95,8 @@ fn call_all<R: Wait>(
     requires { All (IsOf host.now) sessions.old.items }
     ensures { All (IsOf host.now) sessions.new.items }
 {
-    for (step, answer) in case.scenario.steps().zip(made.replies.iter()) {
+    let scenario = case.scenario;
+    for (step, answer) in scenario.steps.iter().zip(made.replies.iter()) {
         let place = place_of(case, step.0);
         check_call(rt, case.alloc, host, sessions, place, &step.1, &answer.1)?;
     }
@@ -112,7 +114,8 @@ fn check_journal(case: &Case<'_>, made: &Made, journal: &Journal) -> Result<(), 
         journal.len() == made.replies.len(),
         "a refused call has an entry",
     )?;
-    for (place, step) in (0..made.replies.len()).zip(case.scenario.steps()) {
+    let scenario = case.scenario;
+    for (place, step) in (0..made.replies.len()).zip(scenario.steps.iter()) {
         let (Some(entry), Some(answer)) = (journal.get(place), made.replies.get(place)) else {
             return Err(TestError::Wrong("an entry is missing"));
         };

@@ -5,7 +5,7 @@ ghost use Rattle.requests.specs.Machine.{empty};
 
 use pid_blocks::Uid;
 use requests::{Act, Host, PlainStep, Reply, Request};
-use scenario::Scenario;
+use scenario_runs::Scenario;
 use std::alloc::Global;
 use stop_handlers::ByPolicy;
 use test_kit::{TestError, expect};
@@ -142,9 +142,10 @@ pub fn room<T: Drop>(alloc: Global, length: usize) -> Result<Vec<T>, TestError> 
 /// Makes the steps of the scenario on a new host.
 pub fn make_all(case: &Case<'_>) -> Result<Made, TestError> {
     let replies = room(case.alloc, case.scenario.bare_steps().len())?;
-    let host = new_host(case.alloc, case.scenario.settings())?;
+    let scenario = case.scenario;
+    let host = new_host(case.alloc, scenario.settings)?;
     let mut made = Made { host, replies };
-    for step in case.scenario.steps() {
+    for step in scenario.steps.iter() {
         let reply = answer_kept(case, &mut made.host, step.0, &step.1)?;
         made.replies.push((step.0, reply))?;
     }

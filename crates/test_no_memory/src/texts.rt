@@ -3,13 +3,13 @@
 use crate::lists::handlers;
 use crate::steps::{Case, Made, room};
 use pid_blocks::Uid;
-use scenario::{RunFault, RunOptions, Style, render, run};
+use scenario::run_threads;
+use scenario_runs::{RunFault, RunOptions, render, run};
 use std::alloc::Global;
 use std::sync::Wait;
 use std::thread::Threads;
 use stop_handlers::{ByPolicy, Handler};
 use test_kit::TestError;
-use threaded_runs::run_threads;
 
 /// Room for every text, in bytes.
 const ROOM: usize = 16384;
@@ -28,14 +28,6 @@ fn is_done(ended: Result<(), RunFault>, written: &[u8], text: &[u8]) -> Result<b
     }
 }
 
-/// Returns the options for the lines of the user, or of all users, in words.
-fn shown(user: &Option<Uid>) -> RunOptions {
-    RunOptions {
-        user: *user,
-        style: Style::Text,
-    }
-}
-
 /// The lines of one run: those of this user or of all users, with threads or without.
 #[derive(Drop)]
 struct UserStep {
@@ -51,7 +43,7 @@ fn run_into<R: Threads + Wait + Sync>(
     asked: &UserStep,
     writer: &mut Vec<u8>,
 ) -> Result<(), RunFault> {
-    let options = shown(&asked.user);
+    let options = RunOptions { user: asked.user };
     if asked.threads {
         run_threads(rt, case.alloc, case.scenario, handlers, options, writer)
     } else {
@@ -84,7 +76,7 @@ fn check_text<R: Threads + Wait + Sync>(
 
 /// Returns the lines of the replies to the user, or to all users.
 pub fn lines(alloc: Global, made: &Made, user: &Option<Uid>) -> Result<String, TestError> {
-    retry!(Ok(lines) = render(alloc, made.replies.as_slice(), shown(user)))
+    retry!(Ok(lines) = render(alloc, made.replies.as_slice(), *user))
 }
 
 /// Checks that a run with or without threads writes the lines of the replies to the user, or to all users.

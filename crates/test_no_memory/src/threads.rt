@@ -7,7 +7,7 @@ use crate::steps::{Case, answer, new_host};
 use host_lock::{Entry, Journal};
 use pid_blocks::Uid;
 use requests::{Host, Reply};
-use scenario::Scenario;
+use scenario_runs::Scenario;
 use sessions::{Gate, RunRefusal, Script, Transcript, run_sessions};
 use std::alloc::{AllocError, Global};
 use std::sync::Wait;
@@ -58,7 +58,7 @@ fn script(alloc: Global, scenario: &Scenario, uid: Uid) -> Result<Script<ByPolic
     ensures { IfOk result IsShort }
 {
     let mut steps = Vec::new(alloc);
-    for step in scenario.steps() {
+    for step in scenario.steps.iter() {
         if step.0 == uid {
             steps.push(step.1.by_policy())?;
         }
@@ -99,7 +99,8 @@ fn ran<R: Threads + Wait + Sync>(
     gate: &Counts,
 ) -> Result<Option<Left>, TestError> {
     let scripts = scripts_of(case)?;
-    let host = new_host(case.alloc, case.scenario.settings())?;
+    let scenario = case.scenario;
+    let host = new_host(case.alloc, scenario.settings)?;
     match run_sessions(rt, case.alloc, host, scripts, gate) {
         Ok((host, journal, transcripts)) => Ok(Some(Left {
             host,
@@ -179,7 +180,8 @@ fn check_entry(alloc: Global, host: &mut Host<ByPolicy>, entry: &Entry) -> Resul
 
 /// Makes the journal's steps one after another on a new host. Checks that the replies and the users' views are the same.
 fn check_replay(case: &Case<'_>, left: &Left) -> Result<(), TestError> {
-    let mut other = new_host(case.alloc, case.scenario.settings())?;
+    let scenario = case.scenario;
+    let mut other = new_host(case.alloc, scenario.settings)?;
     for place in 0..left.journal.len() {
         if let Some(entry) = left.journal.get(place) {
             check_entry(case.alloc, &mut other, entry)?;

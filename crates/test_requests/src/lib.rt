@@ -1,4 +1,4 @@
-//! Tests of a host's steps, of its users' views and of the maps below, in a crate of their own, so that the tested crates are proved once.
+//! Tests of a host's steps, in a crate of their own, so that the tested crates are proved once.
 #![tactic(auto)]
 
 #[cfg(test)]
@@ -7,8 +7,6 @@ mod ends;
 mod handlers;
 #[cfg(test)]
 mod isolation;
-#[cfg(test)]
-mod maps;
 #[cfg(test)]
 mod posting;
 #[cfg(test)]

@@ -46,20 +46,3 @@ fn status_of_each_word(rt: HostRuntime) -> Result<(), Fail> {
     }
     Ok(())
 }
-
-#[test]
-fn words_of_wait(rt: HostRuntime) -> Result<(), Fail> {
-    assert_eq!(rt; Status::of_word(0), Some(Status::exited(0)));
-    assert_eq!(rt; Status::of_word(768), Some(Status::exited(3)));
-    assert_eq!(rt; Status::of_word(9), Status::signaled(Signal::new(9)?));
-    assert_eq!(rt; Status::of_word(19), Some(Status::continued()));
-    assert_eq!(rt;
-        Status::of_word(1407),
-        Some(Status::stopped(Signal::new(5)?))
-    );
-    for word in [32, 127, 128, 65_536, u32::MAX] {
-        assert_eq!(rt; Status::of_word(word), None, "of {word}");
-    }
-    assert_eq!(rt; Status::signaled(Signal::new(19)?), None);
-    Ok(())
-}

@@ -1,12 +1,10 @@
-use pid_blocks::Uid;
-use scenario::{Fault, RunOptions, Scenario, Style, handlers_from, parse, policies};
+use scenario_runs::{Fault, Scenario, handlers_from, parse, policies};
 use std::alloc::{AllocError, Global};
 use std::test::Fail;
 use stop_handlers::{ByPolicy, Handler, Policy};
 use test_kit::{Row, TestError, rows_of};
 
 mod bytes;
-mod faults;
 mod line_by_line;
 mod lines;
 mod ops;
@@ -56,14 +54,6 @@ fn handlers_by_policy(alloc: Global, scenario: &Scenario) -> Result<Vec<Handler<
         policies.as_slice(),
         |policy: Policy| ByPolicy(policy),
     )?)
-}
-
-/// Returns the options for the lines of the user, or of all users, in words.
-fn words_of(user: Option<Uid>) -> RunOptions {
-    RunOptions {
-        user,
-        style: Style::Text,
-    }
 }
 
 /// Returns the fault's name and step, or `accepted` where there is none.

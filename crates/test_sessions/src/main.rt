@@ -1,16 +1,11 @@
-//! Checks sessions on a shared host and scripts that run at the same time, and runs many sessions of mixed users. It
-//! prints the name of each check, and ends with status 1 where one fails.
+//! Runs many sessions of mixed users in threads, and compares each run with a replay of its journal. It prints how much
+//! was compared, and ends with status 1 where a check fails.
 #![tactic(auto)]
 
-mod hosts;
-mod session_runs;
-mod shared_host;
 mod stress;
 
 use test_kit::TestError;
 
 fn main(rt: HostRuntime) -> Result<(), TestError> {
-    shared_host::check(&rt, rt.alloc())?;
-    session_runs::check(&rt, rt.alloc())?;
     stress::check(&rt, rt.alloc())
 }

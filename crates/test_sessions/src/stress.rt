@@ -5,12 +5,12 @@ mod compare;
 mod scripts;
 mod writer;
 
-use crate::session_runs::Open;
 use compare::differences;
 use host_lock::Journal;
+use pid_blocks::Uid;
 use requests::Host;
 use scripts::{scripts, settings};
-use sessions::{Transcript, run_sessions};
+use sessions::{Gate, Transcript, run_sessions};
 use std::alloc::Global;
 use std::sync::Wait;
 use std::thread::Threads;
@@ -18,6 +18,16 @@ use stop_handlers::ByPolicy;
 use test_kit::{TestError, expect};
 
 const RUNS: u32 = 10;
+
+/// A gate that does nothing.
+#[derive(Drop)]
+struct Open;
+
+impl Gate for Open {
+    fn before(&self, _user: Uid, _index: u32) {}
+
+    fn after(&self, _user: Uid, _index: u32) {}
+}
 
 /// How much was compared in runs, and the number of differences.
 #[derive(Clone, Copy, Default, Drop)]

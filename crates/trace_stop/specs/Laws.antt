@@ -1,31 +1,69 @@
--- Chains of tracers, and rows after processes were detached.
-use Rattle.std.specs.Prelude.{◌≡◌, ◌≤◌, ◌∷◌}
-use Rattle.trace_stop.specs.CommonNames.{ℕ, zero, suc, Bool, true, List, [], Some, length, option_map_or, ProcData, process_of, is_live, Rows}
-use Rattle.trace_stop.specs.Detach.{detached}
-use Rattle.trace_stop.specs.End.{tracer_of, meets}
-use Rattle.trace_stop.specs.Facts.{MidStepInvariant, IsSound}
-use Rattle.trace_stop.specs.Limits.{max_processes}
+-- The end of a process as a sequence of ends of processes without live tracees.
+use Rattle.std.specs.Prelude.{◌≡◌, ◌<◌, ◌==◌, ◌&&◌, ◌||◌}
+use Rattle.trace_rows.specs.CommonNames.{ℕ, Bool, true, false, Some, not, count_by, list_any, SIGKILL, ProcData, process_of, is_live, traces, Rows, is_process}
+use Rattle.step_types.specs.declared.Settings.{Settings}
+use Rattle.trace_rows.specs.End.{dooms, left_alone, end_each, end}
+use Rattle.trace_rows.specs.Sound.{is_live_at, is_end}
+use Rattle.trace_rows.specs.Facts.{MidStepInvariant, IsSound}
 
--- the numbers of a process, its tracer, that process's tracer and so on, over at most this many links
-unfoldable pub chain : ℕ → List ProcData → ℕ → List ℕ
-chain zero processes n = n ∷ []
-chain (suc links) processes n = n ∷ option_map_or (chain links processes) (tracer_of processes n) []
+-- whether the process numbered q traces a live one
+abbrev pub traces_live : ℕ → Rows → Bool
+traces_live q rows = list_any (λ r. is_live r && traces q r) rows.processes
 
--- a chain of tracers has at most 249 links
-abbrev pub ChainsEnd : Type 0
-ChainsEnd = (rows : Rows) (n : ℕ) → MidStepInvariant rows → length (chain max_processes rows.processes n) ≤ max_processes
+-- the rows after q alone has ended
+abbrev pub end_alone : ℕ → ℕ → Rows → Rows
+end_alone q status rows = end_each (λ r. r.pid == q) (λ n. n == q) q status rows
 
--- so 249 links of a chain reach all that any number of links reaches
-abbrev pub ChainsMeet : Type 0
-ChainsMeet = (rows : Rows) (links p n : ℕ) → MidStepInvariant rows → meets links rows.processes p n ≡ true → meets 249 rows.processes p n ≡ true
+-- a process without live tracees ends alone
+abbrev pub LeafEnd : Type 0
+LeafEnd = (settings : Settings) (rows : Rows) (q status : ℕ) → settings.kill_on_debugger_exit ≡ true → MidStepInvariant rows
+    → is_process rows q ≡ true → traces_live q rows ≡ false → end settings q status rows ≡ end_alone q status rows
 
--- a tracee's chain of tracers is one longer than its tracer's
-abbrev pub TraceeDeeper : Type 0
-TraceeDeeper = (rows : Rows) (tracee tracer : ℕ) → MidStepInvariant rows → tracer_of rows.processes tracee ≡ Some tracer
-    → length (chain max_processes rows.processes tracee) ≡ suc (length (chain max_processes rows.processes tracer))
+-- and so does a process whose tracees are detached
+abbrev pub DetachedEnd : Type 0
+DetachedEnd = (settings : Settings) (rows : Rows) (q status : ℕ) → settings.kill_on_debugger_exit ≡ false
+    → is_process rows q ≡ true → end settings q status rows ≡ end_alone q status (left_alone settings q rows)
 
--- sound rows are still sound after live processes were detached from their tracers
-abbrev pub DetachedSound : Type 0
-DetachedSound = (rows : Rows) (chosen : ProcData → Bool) (lost : ProcData → ℕ) → IsSound rows
-    → ((r : ProcData) → process_of r.pid rows.processes ≡ Some r → chosen r ≡ true → is_live r ≡ true)
-    → IsSound (detached chosen lost rows)
+-- where a debugger's end kills, a process that ends with p can end before p, once it has no live tracee
+abbrev pub LeafEndsFirst : Type 0
+LeafEndsFirst = (settings : Settings) (rows : Rows) (p q status : ℕ) → settings.kill_on_debugger_exit ≡ true → MidStepInvariant rows
+    → (q == p) ≡ false → dooms settings rows.processes p q ≡ true → traces_live q rows ≡ false
+    → end settings p status rows ≡ end settings p status (end settings q SIGKILL rows)
+
+-- a live tracee of p, or of a process that ends with p, is not p, and ends with p
+abbrev pub TraceeDoomed : Type 0
+TraceeDoomed = (settings : Settings) (rows : Rows) (p x : ℕ) (y : ProcData) → settings.kill_on_debugger_exit ≡ true → MidStepInvariant rows
+    → ((x == p) || dooms settings rows.processes p x) ≡ true
+    → process_of y.pid rows.processes ≡ Some y → (is_live y && traces x y) ≡ true
+    → ((y.pid == p) ≡ false) × (dooms settings rows.processes p y.pid ≡ true)
+
+-- if other processes end with p, one of them traces no live process
+abbrev pub LeafExists : Type 0
+LeafExists = (settings : Settings) (rows : Rows) (p x : ℕ) → settings.kill_on_debugger_exit ≡ true → MidStepInvariant rows
+    → (x == p) ≡ false → dooms settings rows.processes p x ≡ true
+    → (q : ℕ) × ((q == p) ≡ false) × (dooms settings rows.processes p q ≡ true) × (traces_live q rows ≡ false)
+
+-- After the end of a live process q without live tracees, where a debugger's end kills
+
+-- all processes that were live are live, except q
+abbrev pub LeafEndsNoOther : Type 0
+LeafEndsNoOther = (settings : Settings) (rows : Rows) (q status n : ℕ) → settings.kill_on_debugger_exit ≡ true → MidStepInvariant rows
+    → is_live_at q rows ≡ true → traces_live q rows ≡ false
+    → is_live_at n (end settings q status rows) ≡ (is_live_at n rows && not (n == q))
+
+-- so fewer processes are live
+abbrev pub LeafEndLeavesFewer : Type 0
+LeafEndLeavesFewer = (settings : Settings) (rows : Rows) (q status : ℕ) → settings.kill_on_debugger_exit ≡ true → MidStepInvariant rows
+    → is_live_at q rows ≡ true → traces_live q rows ≡ false
+    → count_by is_live (end settings q status rows).processes < count_by is_live rows.processes
+
+-- and all processes that were to end with p, except q, are still to end with it
+abbrev pub LeafEndSparesNoDoomed : Type 0
+LeafEndSparesNoDoomed = (settings : Settings) (rows : Rows) (p q n : ℕ) → settings.kill_on_debugger_exit ≡ true → MidStepInvariant rows
+    → (q == p) ≡ false → dooms settings rows.processes p q ≡ true → traces_live q rows ≡ false
+    → dooms settings (end settings q SIGKILL rows).processes p n ≡ (dooms settings rows.processes p n && not (n == q))
+
+-- sound rows are sound after the end of any live process, whatever a debugger's end does
+abbrev pub EndSound : Type 0
+EndSound = (settings : Settings) (rows : Rows) (p status : ℕ) → IsSound rows → is_end status ≡ true
+    → is_live_at p rows ≡ true → IsSound (end settings p status rows)

@@ -4,7 +4,7 @@ use crate::explaining::unread;
 use command_line::Selection;
 use line_diff::Difference;
 use pid_blocks::Uid;
-use scenario::{BareStep, Fault, Scenario};
+use scenario_runs::{BareStep, Fault, Scenario};
 use std::alloc::{AllocError, Global};
 use std::rt::Files;
 use std::{fmt, fs, io};

@@ -3,7 +3,7 @@ use crate::CommandError;
 use crate::expecting::count_of;
 use command_line::{Mode, Selection};
 use diagnostics::{Source, explain};
-use scenario::{Fault, MAX_STEP_BYTES, Scenario, parse};
+use scenario_runs::{Fault, MAX_STEP_BYTES, Scenario, parse};
 use std::alloc::{AllocError, Global};
 use std::io::Read;
 use std::rt::Files;

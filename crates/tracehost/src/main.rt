@@ -11,7 +11,7 @@
 #![tactic(auto)]
 
 ghost use Rattle.std.specs.Prelude.{◌≡◌};
-ghost use Rattle.tracehost.specs.Options.{line_style, run_options};
+ghost use Rattle.tracehost.specs.Options.{line_style, line_options};
 
 mod expecting;
 mod explaining;
@@ -22,7 +22,10 @@ use command_line::{Message, Mode, Refusal, RunRequest, Selection, Terminals, ask
 use json_trace::TraceWriter;
 use line_diff::first_difference;
 use line_sessions::{ServeError, serve};
-use scenario::{Fault, RunFault, RunOptions, Scenario, Style, policy_handlers, read, run};
+use scenario::run_threads_with;
+use scenario_runs::{
+    Fault, LineOptions, RunFault, Scenario, Style, policy_handlers, read, run_with,
+};
 use std::alloc::AllocError;
 use std::io::{BufReader, IsTerminal, Read, Write};
 use std::process::ExitCode;
@@ -31,11 +34,10 @@ use std::sync::Wait;
 use std::thread::Threads;
 use std::{env, fs, io};
 use stop_handlers::{Decider, Handler};
-use threaded_runs::run_threads;
 use trace_stop::Settings;
 
 /// The version of the program and of all that comes with it.
-const VERSION: &str = "0.10.0";
+const VERSION: &str = "0.11.0";
 
 /// Why the program ends with another status than 0.
 #[derive(Drop)]
@@ -123,11 +125,11 @@ fn settings_of(kills_on_exit: bool) -> Settings
     }
 }
 
-/// The options of a run by what is shown of it.
-fn options_of(shown: &Selection) -> RunOptions
-    ensures { result ≡ run_options shown.now }
+/// The options of a run's lines by what is shown of it.
+fn options_of(shown: &Selection) -> LineOptions
+    ensures { result ≡ line_options shown.now }
 {
-    RunOptions {
+    LineOptions {
         user: shown.user,
         style: style_of(shown.style),
     }
@@ -223,9 +225,9 @@ fn write_replies<R: AllocGlobal + Threads + Wait + Sync, F: Decider + Send + Dro
 ) -> Result<(), RunFault> {
     let options = options_of(shown);
     if shown.threads {
-        run_threads(rt, rt.alloc(), scenario, handlers, options, writer)
+        run_threads_with(rt, rt.alloc(), scenario, handlers, options, writer)
     } else {
-        run(rt.alloc(), scenario, handlers, options, writer)
+        run_with(rt.alloc(), scenario, handlers, options, writer)
     }
 }
 

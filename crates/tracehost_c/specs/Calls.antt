@@ -1,6 +1,6 @@
 -- What the calls from C do, by the code that they return.
-use Rattle.std.specs.Prelude.{◌≡◌, ℕ, Bool, if◌then◌else◌, List, Option, Some, None, IsSome, IsSomeAnd, length, map}
-use Rattle.{pid_blocks.specs.Users.IsUser, requests.specs.View.view, step_types.specs.Plain.PlainStep, scenario.specs.declared.style.Style.{Style, TheVariants.{Text, Json}}}
+use Rattle.std.specs.Prelude.{◌≡◌, ◌⊎◌, ℕ, Bool, if◌then◌else◌, List, Option, Some, None, IsSome, IsSomeAnd, length, map}
+use Rattle.{pid_blocks.specs.Users.IsUser, requests.specs.View.view, step_types.specs.Plain.PlainStep, scenario_runs.specs.declared.style.Style.{Style, TheVariants.{Text, Json}}}
 use Rattle.flat_forms.specs.{declared.{replies.FlatReply.FlatReply, rows.{FlatProcess.FlatProcess, FlatLwp.FlatLwp}}, Replies.flat, FlatRows.{flat_process, flat_lwp}}
 use Rattle.open_sessions.specs.{Answers.{last_numbers, shown}, Calls.{OpenSession, last_text, Steps, Answers, IsFull, FullFor}}
 
@@ -13,14 +13,13 @@ style_of json = if json then Json else Text
 abbrev pub Shows : {X : Type 0} → (text room filled : List X) → ℕ → Type 0
 Shows text room filled n = (filled ≡ shown text room) × (n ≡ length text)
 
--- a line was answered in an open session, and is no step of a user who has had the most answers that are counted
-abbrev pub LineAnswered : List ℕ → Option OpenSession → Option OpenSession → Type 0
-LineAnswered line (Some s) (Some t) = Answers line s t × ¬ FullFor line s
-LineAnswered line s t = ⊥
-
--- a line is a step of a user of an open session who has had the most answers that are counted
-abbrev pub LineFull : List ℕ → Option OpenSession → Type 0
-LineFull line session = IsSomeAnd session (FullFor line)
+-- a call that is this line: it was answered, with or without memory for its text; or the session is as it was
+pub data LineCall (line : List ℕ) (old new : Option OpenSession) (code : ℕ) : Type 0 where
+  line_not_open : code ≡ 1 → old ≡ None → new ≡ old → LineCall line old new code
+  line_no_memory : code ≡ 2 → IsSome old → new ≡ old → LineCall line old new code
+  line_full : (s : OpenSession) → code ≡ 5 → old ≡ Some s → FullFor line s → new ≡ old → LineCall line old new code
+  line_answered : (s t : OpenSession) → (code ≡ 0) ⊎ (code ≡ 4) → old ≡ Some s → new ≡ Some t → ¬ FullFor line s → Answers line s t
+      → LineCall line old new code
 
 -- the line of the last answer of an open session
 abbrev pub ShowsLast : Style → Option OpenSession → (room filled : List ℕ) → ℕ → Type 0

@@ -1,2 +1,3 @@
 pub mod Handle
 pub mod Calls
+pub mod Laws

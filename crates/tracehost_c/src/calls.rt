@@ -1,16 +1,16 @@
 //! What the calls have in common.
 ghost use Rattle.std.specs.Prelude.{ℕ, ◌≡◌, ◌≢◌, ◌≤◌, None, Some};
 ghost use Rattle.open_sessions.specs.Answers.{last_numbers};
-ghost use Rattle.open_sessions.specs.Calls.{Answers, FullFor, last_text};
+ghost use Rattle.open_sessions.specs.Calls.{last_text};
 ghost use Rattle.flat_forms.specs.declared.replies.FlatReply.{FlatReply as Flat};
-ghost use Rattle.tracehost_c.specs.Calls.{style_of, Shows, StepOf, TypedCall};
+ghost use Rattle.tracehost_c.specs.Calls.{style_of, LineCall, Shows, StepOf, TypedCall};
 
 use crate::handle::Tracehost;
 use flat_forms::FlatReply;
 use open_sessions::{Session, SessionFault};
 use pid_blocks::Uid;
 use requests::PlainStep;
-use scenario::Style;
+use scenario_runs::Style;
 use std::alloc::Global;
 
 /// The call was answered.
@@ -67,16 +67,9 @@ pub(crate) fn put_line(
     out: &mut [u8],
     whole: &mut usize,
 ) -> u32
-    ensures answered { result ≡ 0 → Answers line.now session.old session.new × ¬ FullFor line.now session.old }
+    ensures call { LineCall line.now (Some session.old) (Some session.new) result }
     ensures shown { result ≡ 0 → Shows (last_text (style_of json) session.new) out.old out.new whole.new }
-    ensures no_text { result ≡ 4 → Answers line.now session.old session.new × ¬ FullFor line.now session.old }
     ensures kept { result ≢ 0 → (out.new ≡ out.old) × (whole.new ≡ whole.old) }
-    ensures refused { result ≡ 2 → session.new ≡ session.old }
-    ensures too_many { result ≡ 5 → session.new ≡ session.old }
-    ensures full { result ≡ 5 → FullFor line.now session.old }
-    ensures not_closed { result ≢ 1 }
-    ensures not_invalid { result ≢ 3 }
-    ensures code { result ≤ 5 }
 {
     match session.answer(alloc, line) {
         Ok(()) => match session.show(alloc, style_of(json), out) {

@@ -1,6 +1,7 @@
 //! A session that is open, or none, as C holds it.
 ghost use Rattle.std.specs.Prelude.{◌≡◌, None, Some, IsSome};
 ghost use Rattle.std.specs.Option.{is_some};
+ghost use Rattle.tracehost_c.specs.Handle.{open_tag};
 
 mod held;
 
@@ -8,13 +9,16 @@ use held::Held;
 use open_sessions::Session;
 use std::alloc::Global;
 
+/// The tag of an open handle. Closing clears it, and memory that was never a handle hardly has it.
+const OPEN: u64 = 0x6e65_706f_7473_6f68;
+
 /// A session that is open, or none.
 #[repr(C)]
 #[derive(Drop)]
 pub struct Tracehost {
     held: Held,
-    is_open: bool,
-    ghost agrees: { is_open ≡ is_some held.session },
+    tag: u64,
+    ghost agrees: { tag ≡ open_tag held.session },
 }
 
 impl Tracehost {
@@ -24,7 +28,7 @@ impl Tracehost {
     {
         Tracehost {
             held: Held::none(alloc),
-            is_open: false,
+            tag: 0,
         }
     }
 
@@ -34,7 +38,7 @@ impl Tracehost {
     {
         Tracehost {
             held: Held::of_box(session),
-            is_open: true,
+            tag: OPEN,
         }
     }
 
@@ -42,7 +46,7 @@ impl Tracehost {
     pub fn is_open(&self) -> bool
         ensures { result ≡ is_some self.now.held.session }
     {
-        self.is_open
+        self.tag == OPEN
     }
 
     /// Returns the session.

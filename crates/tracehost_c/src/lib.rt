@@ -7,10 +7,11 @@ ghost use Rattle.requests.specs.Machine.{empty};
 ghost use Rattle.step_types.specs.declared.step.Step.TheVariants as op;
 ghost use Rattle.flat_forms.specs.Numbers.{act_numbered, request_numbered, disposition_numbered, options_numbered};
 ghost use Rattle.flat_forms.specs.Rules.{policy_numbered};
-ghost use Rattle.tracehost_c.specs.Calls.{style_of, LineAnswered, LineFull, ShowsLast, ShowsNumbers, ShowsView, TypedCall};
+ghost use Rattle.tracehost_c.specs.Calls.{style_of, LineCall, ShowsLast, ShowsNumbers, ShowsView, TypedCall};
 
 mod calls;
 pub mod handle;
+pub mod laws;
 mod views;
 
 use calls::{
@@ -117,17 +118,9 @@ pub extern "C" fn tracehost_line(
     out: &mut [u8],
     whole: &mut usize,
 ) -> u32
-    ensures answered { result ≡ 0 → LineAnswered line.now handle.old.held.session handle.new.held.session }
+    ensures call { LineCall line.now handle.old.held.session handle.new.held.session result }
     ensures shown { result ≡ 0 → ShowsLast (style_of json) handle.new.held.session out.old out.new whole.new }
-    ensures no_text { result ≡ 4 → LineAnswered line.now handle.old.held.session handle.new.held.session }
     ensures kept { result ≢ 0 → (out.new ≡ out.old) × (whole.new ≡ whole.old) }
-    ensures closed { (result ≡ 1) ↔ IsNone handle.old.held.session }
-    ensures code { result ≤ 5 }
-    ensures not_invalid { result ≢ 3 }
-    ensures not_open { result ≡ 1 → handle.new.held.session ≡ handle.old.held.session }
-    ensures refused { result ≡ 2 → handle.new.held.session ≡ handle.old.held.session }
-    ensures too_many { result ≡ 5 → handle.new.held.session ≡ handle.old.held.session }
-    ensures full { result ≡ 5 → LineFull line.now handle.old.held.session }
 {
     if !handle.is_open() {
         return NOT_OPEN;

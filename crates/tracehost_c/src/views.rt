@@ -51,8 +51,8 @@ pub(crate) fn put_view(
 {
     match session.view(alloc, user) {
         Ok(seen) => {
-            put_processes(seen.processes(), processes, process_count);
-            put_lwps(seen.lwps(), lwps, lwp_count);
+            put_processes(seen.processes.as_slice(), processes, process_count);
+            put_lwps(seen.lwps.as_slice(), lwps, lwp_count);
             ANSWERED
         }
         Err(_) => NO_MEMORY,

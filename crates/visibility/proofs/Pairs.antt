@@ -3,7 +3,7 @@ use Rattle.visibility.proofs.CommonNames.{◌≡◌, ℕ, List, [], ◌∷◌, m
 use Rattle.std.specs.Bool.{one_answer, Decides}
 use Rattle.std.specs.Cmp.Lexicographic.{pointwise}
 use Rattle.visibility.specs.Same.{same_installed, same_view}
-use Rattle.visibility.specs.Equal.{same_handlers, view_decides}
+use Rattle.visibility.proofs.Equal.{same_handlers, view_decides}
 use Rattle.visibility.proofs.Walked.{as_pair, as_installed}
 
 pairs_back : (pairs : List (ℕ × List Rule)) → map as_pair (map as_installed pairs) ≡ pairs

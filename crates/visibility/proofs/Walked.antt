@@ -18,21 +18,6 @@ none_left [] (suc i) is = refl
 none_left (y ∷ ys) zero is = absurd (grind (arith, is))
 none_left (y ∷ ys) (suc i) is = none_left ys i is
 
--- an element that passes is had, one that doesn't is left out
-module _ {X : Type 0} (t : X → Bool) (xs : List X) (i : ℕ) (x : X) (had now all : List X) (is : slice_get xs i ≡ Some x) where
-  onward : (i + 1) ≡ suc i
-  onward = omega arith
-
-  pub had_next : t x ≡ true → now ≡ had ++ (x ∷ []) → had ++ filter t (drop i xs) ≡ all → now ++ filter t (drop (i + 1) xs) ≡ all
-  had_next passes more was = search (rules, onward, append_assoc, left_at)
-
-  pub out_next : t x ≡ false → now ≡ had → had ++ filter t (drop i xs) ≡ all → now ++ filter t (drop (i + 1) xs) ≡ all
-  out_next fails same was = search (rules, onward, left_at)
-
--- the walk's end
-pub all_had : {X : Type 0} (t : X → Bool) (xs : List X) (i : ℕ) (had all : List X) → slice_get xs i ≡ None → had ++ filter t (drop i xs) ≡ all → had ≡ all
-all_had t xs i had all is was = search (rules, none_left, append-nil)
-
 -- a list copied by places, each element written by f
 module _ {X Y : Type 0} (f : X → Y) (xs : List Y) (ps : List X) where
   pub copied_next : (p : X) → slice_get xs (length ps) ≡ Some (f p) → map f ps ++ drop (length ps) xs ≡ xs

@@ -1,6 +1,6 @@
 -- Steps of a host, as the machine sees them, and their answers.
 use Rattle.std.specs.Prelude.{◌≡◌, ◌∷◌, if◌then◌else◌}
-use Rattle.requests.specs.CommonNames.{ℕ, true, List, [], Option, Some, None, PlainStep}
+use Rattle.requests.specs.CommonNames.{ℕ, true, List, Option, Some, None, PlainStep}
 use Rattle.step_types.specs.{Plain.UserStep, Replies.is_memory, declared.Reply.Reply}
 use Rattle.requests.specs.Machine.{Machine}
 use Rattle.requests.specs.Memory.{may_want}

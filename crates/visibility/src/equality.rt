@@ -20,12 +20,12 @@ impl PartialEq for View {
         ensures same { result ≡ same_view self.now other.now }
         ensures exact { IsTrue result ↔ (self.now ≡ other.now) }
     {
-        self.processes() == other.processes()
-            && self.lwps() == other.lwps()
-            && self.pid_cursor() == other.pid_cursor()
-            && self.tid_cursor() == other.tid_cursor()
+        self.processes.as_slice() == other.processes.as_slice()
+            && self.lwps.as_slice() == other.lwps.as_slice()
+            && self.pid_cursor == other.pid_cursor
+            && self.tid_cursor == other.tid_cursor
             && same_handlers(self, other)
-            && self.settings() == other.settings()
+            && self.settings == other.settings
     }
 }
 
@@ -52,5 +52,5 @@ fn same_pairs(mine: &[(Pid, Policy)], others: &[(Pid, Policy)]) -> bool
 fn same_handlers(mine: &View, other: &View) -> bool
     ensures { result ≡ pointwise same_installed mine.now.installed other.now.installed }
 {
-    same_pairs(mine.handlers(), other.handlers())
+    same_pairs(mine.handlers.as_slice(), other.handlers.as_slice())
 }

@@ -15,17 +15,21 @@ use std::marker::Model;
 use stop_handlers::{Decider, Policy};
 use trace_stop::Settings;
 
-/// A user's view of a host: the user's processes by rising number, their LWPs in order of birth, the numbers from which
-/// the search for the user's next numbers begins, the policies that the user's debuggers have installed in order, and
-/// the settings.
+/// What a user sees of a host.
 #[derive(Debug, Drop)]
 pub struct View {
-    processes: Vec<ProcData>,
-    lwps: Vec<LwpData>,
-    pid_cursor: u32,
-    tid_cursor: u32,
-    handlers: Vec<(Pid, Policy)>,
-    settings: Settings,
+    /// The user's processes, by rising number.
+    pub processes: Vec<ProcData>,
+    /// The LWPs of the user's processes, in order of birth.
+    pub lwps: Vec<LwpData>,
+    /// The number from which the search for the user's next process number begins.
+    pub pid_cursor: u32,
+    /// The number from which the search for the user's next LWP number begins.
+    pub tid_cursor: u32,
+    /// The installed policies of the user in order, each with its debugger.
+    pub handlers: Vec<(Pid, Policy)>,
+    /// The settings: whether a debugger's end kills its tracees.
+    pub settings: Settings,
 }
 
 impl Model for View {
@@ -42,50 +46,6 @@ impl Model for View {
       installed = map (λ i. record { debugger = i.0; policy = i.1 }) v.handlers.items;
       settings = v.settings;
     } };
-}
-
-impl View {
-    /// Returns the user's processes, by rising number.
-    pub fn processes(&self) -> &[ProcData]
-        ensures { result.now ≡ self.now.processes }
-    {
-        self.processes.as_slice()
-    }
-
-    /// Returns the LWPs of the user's processes, in order of birth.
-    pub fn lwps(&self) -> &[LwpData]
-        ensures { result.now ≡ self.now.lwps }
-    {
-        self.lwps.as_slice()
-    }
-
-    /// Returns the number from which the search for the user's next process number begins.
-    pub fn pid_cursor(&self) -> u32
-        ensures { result ≡ self.now.pid_cursor }
-    {
-        self.pid_cursor
-    }
-
-    /// Returns the number from which the search for the user's next LWP number begins.
-    pub fn tid_cursor(&self) -> u32
-        ensures { result ≡ self.now.tid_cursor }
-    {
-        self.tid_cursor
-    }
-
-    /// Returns the installed policies of the user in order, each with its debugger.
-    pub fn handlers(&self) -> &[(Pid, Policy)]
-        ensures { map (λ i. record { debugger = i.0; policy = i.1 }) result.now ≡ self.now.installed }
-    {
-        self.handlers.as_slice()
-    }
-
-    /// Returns the settings: whether a debugger's end kills its tracees.
-    pub fn settings(&self) -> Settings
-        ensures { result ≡ self.now.settings }
-    {
-        self.settings
-    }
 }
 
 /// Returns the user's processes, by rising number. An error means out of memory.
@@ -106,12 +66,9 @@ fn lwps_of(tables: &Tables, alloc: Global, user: Uid) -> Result<Vec<LwpData>, Al
     ensures { IfOk result (λ rows. rows.items ≡ filter (λ l. owns user l.pid tables.now.rows.processes) tables.now.rows.lwps) }
 {
     let mut rows = Vec::with_capacity(alloc, tables.lwp_count_of(user))?;
-    let mut place = 0;
-    while let Some(l) = tables.lwp_at(place) {
-        if tables.visible_process(user, l.pid.get()).is_some() {
-            rows.push(l)?;
-        }
-        place += 1;
+    for l in tables.lwps_of_user(user) {
+        // a struct of the same fields, since the check of a push of `l` itself doesn't find its type's modules
+        rows.push(LwpData { ..l })?;
     }
     Ok(rows)
 }

@@ -1,5 +1,5 @@
 -- Searches for the child that is reported.
-use Rattle.wait4.proofs.CommonNames.{◌≡◌, ℕ, ◌≤◌, List, [], ◌∷◌, filter, find, Bool, ◌&&◌, ◌||◌, None, refl, arith, nat_eq, if◌then◌else◌, rules, AllByRecursion, list_any, cases_Bool}
+use Rattle.wait4.proofs.CommonNames.{◌≡◌, ℕ, ◌≤◌, List, [], ◌∷◌, filter, find, Bool, false, ◌&&◌, ◌||◌, None, refl, arith, nat_eq, if◌then◌else◌, rules, AllByRecursion, list_any, cases_Bool}
 use Rattle.wait4.proofs.CommonNames.{nat_tests, ProcData, keep, process_of, Rise, InOwnBlock, none_above, found_above, Nothing, NoChild, lesser, answer}
 
 -- The first of two kinds is the lesser of the first ones of each
@@ -23,6 +23,16 @@ only_numbered t n (q ∷ ps) up = grind (arith, nat_tests, only_numbered t n ps 
 pub none_outside : (n : ℕ) (ps : List ProcData) → AllByRecursion InOwnBlock ps → 65000 ≤ n → process_of n ps ≡ None
 none_outside n [] in_own_blocks far = refl
 none_outside n (q ∷ ps) in_own_blocks far = search (rules, none_outside n ps in_own_blocks.1 far, nat_tests)
+
+-- None passes a test that is always false
+
+pub find-never : (t : ProcData → Bool) → ((p : ProcData) → t p ≡ false) → (ps : List ProcData) → find t ps ≡ None
+find-never t never [] = refl
+find-never t never (p ∷ ps) = rw (never p, find-never t never ps) refl
+
+pub any-never : (t : ProcData → Bool) → ((p : ProcData) → t p ≡ false) → (ps : List ProcData) → list_any t ps ≡ false
+any-never t never [] = refl
+any-never t never (p ∷ ps) = rw (never p, any-never t never ps) refl
 
 -- Candidates
 

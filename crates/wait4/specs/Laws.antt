@@ -1,7 +1,7 @@
 -- Which child a wait reports, and how a wait depends on one user's rows alone.
 use Rattle.std.specs.Prelude.{◌≡◌, ◌≢◌, ◌&&◌}
-use Rattle.trace_stop.specs.CommonNames.{ℕ, ℤ, true, Rows, owns, LeastOrNone, only_of}
-use Rattle.trace_stop.specs.Facts.{IsSound}
+use Rattle.trace_rows.specs.CommonNames.{ℕ, ℤ, true, Rows, owns, LeastOrNone, only_of}
+use Rattle.trace_rows.specs.Facts.{IsSound}
 use Rattle.step_types.specs.declared.Options.{Options}
 use Rattle.wait4.specs.Collect.{is_child, fits, reportable, reported, collect, rows_after}
 

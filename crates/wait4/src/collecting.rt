@@ -5,13 +5,13 @@ ghost use Rattle.std.specs.Prelude.{◌≡◌, ℕ, ◌&&◌, ◌==◌, ltb, tru
 ghost use Rattle.std.specs.List.{list_any};
 ghost use Rattle.proc_table.specs.Processes.{process_of, traces};
 ghost use Rattle.proc_table.specs.Kept.{TableInvariant};
-ghost use Rattle.trace_stop.specs.Facts.{IfEnded, IsSound};
-ghost use Rattle.wait4.specs.Collect.{is_child, is_own, fits, reportable, status_of, stays, names_as, lesser, reported, collect_one, collect, rows_after};
+ghost use Rattle.trace_rows.specs.Facts.{IfEnded, IsSound};
+ghost use Rattle.wait4.specs.Collect.{is_child, is_own, fits, numbered, reportable, status_of, stays, names_as, lesser, reported, collect_one, collect, rows_after};
 
 use crate::{Collected, Options, Status};
 use pid_blocks::Pid;
 use proc_table::{ProcData, State, Tables};
-use trace_stop::post_sigchld;
+use trace_rows::post_sigchld;
 
 /// How a child names the caller.
 #[derive(Clone, Copy, Debug, PartialEq, Eq, Drop)]
@@ -40,8 +40,8 @@ fn reportable(options: Options, caller: Pid, p: &ProcData) -> bool
 {
     match p.state {
         State::Run => p.continued && is_own(caller, p) && options.continued,
-        State::Trace { reported, .. } => !reported && p.tracer == Some(caller),
-        State::Job { reported, .. } => !reported && p.parent == caller.get() && options.untraced,
+        State::Trace { seen, .. } => !seen && p.tracer == Some(caller),
+        State::Job { seen, .. } => !seen && p.parent == caller.get() && options.untraced,
         State::Zombie { .. } => p.tracer == Some(caller) || is_own(caller, p),
     }
 }
@@ -96,10 +96,10 @@ fn lesser(a: Option<ProcData>, b: Option<ProcData>) -> Option<ProcData>
     }
 }
 
-/// Returns the process with this number, which isn't negative, if there is one.
+/// Returns the process with this number, if there is one.
 #[tactic(auto, using(crate::proofs::LemmaSets::of_number))]
 fn find_by_number(tables: &Tables, which: i64) -> Option<ProcData>
-    ensures row { (n : ℕ) → which ≡ pos n → result ≡ process_of n tables.now.rows.processes }
+    ensures row { result ≡ numbered which tables.now.rows.processes }
     ensures kept { TableInvariant tables.now.rows }
 {
     tables.assert_invariant();
@@ -109,14 +109,14 @@ fn find_by_number(tables: &Tables, which: i64) -> Option<ProcData>
     }
 }
 
-/// Returns the child that is reported: the child with the number `which` if it has something to report, or, if
-/// `which` is negative, the first child that has.
+/// Returns the child that is reported: the first child that has something to report if `which` is -1, and else the
+/// child with this number if it has.
 #[tactic(auto, using(crate::proofs::LemmaSets::of_report))]
 fn reported(tables: &Tables, caller: Pid, which: i64, options: Options) -> Option<ProcData>
     ensures row { result ≡ reported caller which options tables.now.rows }
     ensures kept { TableInvariant tables.now.rows }
 {
-    if which < 0 {
+    if which == -1 {
         let tracee = first_report(tables, Relation::Tracer, caller, options);
         let child = first_report(tables, Relation::Parent, caller, options);
         return lesser(tracee, child);
@@ -133,7 +133,7 @@ fn reported(tables: &Tables, caller: Pid, which: i64, options: Options) -> Optio
 fn has_child(tables: &Tables, caller: Pid, which: i64) -> bool
     ensures { result ≡ list_any (λ p. is_child caller p && fits which p) tables.now.rows.processes }
 {
-    if which < 0 {
+    if which == -1 {
         return first_related(tables, Relation::Tracer, caller).is_some()
             || first_related(tables, Relation::Parent, caller).is_some();
     }
@@ -168,15 +168,12 @@ fn collect_one(tables: &mut Tables, caller: Pid, p: &ProcData)
             state: State::Trace {
                 tid,
                 sig,
-                reported: true,
+                seen: true,
             },
             ..*p
         }),
         State::Job { sig, .. } => tables.set_process(ProcData {
-            state: State::Job {
-                sig,
-                reported: true,
-            },
+            state: State::Job { sig, seen: true },
             ..*p
         }),
         State::Zombie { .. } if stays(caller, p) => {
@@ -187,8 +184,8 @@ fn collect_one(tables: &mut Tables, caller: Pid, p: &ProcData)
     }
 }
 
-/// Answers a process's wait4(2) for its child with the number `which`, or, if `which` is negative, for any of
-/// its children. Of several children with something to report, the one with the least number is reported.
+/// Answers a process's wait4(2) for its child with the number `which`, or, if `which` is -1, for any of its
+/// children. No child has another negative number. Of several children with something to report, the one with the least number is reported.
 /// What is reported is collected. The call never blocks, as under WNOHANG.
 pub fn collect(tables: &mut Tables, caller: Pid, which: i64, options: Options) -> Collected
     requires sound { IsSound tables.old.rows }

@@ -43,15 +43,15 @@ static void store(uint8_t *out, size_t size, size_t *length)
 uint32_t tracehost_open(bool kill_on_debugger_exit, tracehost *out)
 {
     (void)kill_on_debugger_exit;
-    out->is_open = opening == TRACEHOST_ANSWERED;
-    opened += out->is_open;
+    out->tag = opening == TRACEHOST_ANSWERED;
+    opened += out->tag != 0;
     return opening;
 }
 
 uint32_t tracehost_close(tracehost *h)
 {
-    CHECK(h->is_open);
-    h->is_open = false;
+    CHECK(h->tag != 0);
+    h->tag = 0;
     closed++;
     return TRACEHOST_ANSWERED;
 }
@@ -60,7 +60,7 @@ uint32_t tracehost_line(tracehost *h, bool json, const uint8_t *line, size_t lin
                         size_t *length)
 {
     static const char spawn[] = "{\"user\":1001,\"op\":\"spawn\"}";
-    CHECK(h->is_open && !json && line_length == strlen(spawn) && memcmp(line, spawn, line_length) == 0);
+    CHECK(h->tag != 0 && !json && line_length == strlen(spawn) && memcmp(line, spawn, line_length) == 0);
     if (lining == TRACEHOST_ANSWERED)
         store(out, out_size, length);
     return lining;
@@ -69,7 +69,7 @@ uint32_t tracehost_line(tracehost *h, bool json, const uint8_t *line, size_t lin
 uint32_t tracehost_last_line(tracehost *h, bool json, uint8_t *out, size_t out_size, size_t *length)
 {
     uint32_t code = lasting[lasts++];
-    CHECK(h->is_open && !json);
+    CHECK(h->tag != 0 && !json);
     if (code == TRACEHOST_ANSWERED)
         store(out, out_size, length);
     return code;

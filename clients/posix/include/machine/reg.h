@@ -1,7 +1,29 @@
-/* There are no registers in the model: PT_GETREGS and its kin are answered EINVAL. */
+/* FreeBSD's <machine/reg.h> for amd64. */
 #ifndef TRACEHOST_MACHINE_REG_H
 #define TRACEHOST_MACHINE_REG_H
-struct reg { long r_rip, r_rsp, r_rax; };
-struct fpreg { long fpr_env[8]; };
-struct dbreg { long dr[16]; };
+
+#include <stdint.h>
+
+struct reg {
+	int64_t r_r15, r_r14, r_r13, r_r12, r_r11, r_r10, r_r9, r_r8;
+	int64_t r_rdi, r_rsi, r_rbp, r_rbx, r_rdx, r_rcx, r_rax;
+	uint32_t r_trapno;
+	uint16_t r_fs, r_gs;
+	uint32_t r_err;
+	uint16_t r_es, r_ds;
+	int64_t r_rip, r_cs, r_rflags, r_rsp, r_ss;
+};
+
+/* As fxsave has them: the first is the environment. */
+struct fpreg {
+	uint64_t fpr_env[4];
+	uint8_t fpr_acc[8][16];
+	uint8_t fpr_xacc[16][16];
+	uint64_t fpr_spare[12];
+};
+
+struct dbreg {
+	uint64_t dr[16];
+};
+
 #endif

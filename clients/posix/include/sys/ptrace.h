@@ -3,6 +3,7 @@
 #define TRACEHOST_SYS_PTRACE_H
 
 #include <signal.h>
+#include <stdint.h>
 #include <sys/types.h>
 
 #define PT_TRACE_ME 0
@@ -31,15 +32,20 @@
 #define PT_GET_EVENT_MASK 25
 #define PT_SET_EVENT_MASK 26
 #define PT_GET_SC_ARGS 27
+#define PT_GET_SC_RET 28
+#define PT_GETREGS 33 /* from here on not the model's, but the runtime's */
+#define PT_SETREGS 34
+#define PT_GETFPREGS 35
+#define PT_SETFPREGS 36
+#define PT_GETDBREGS 37 /* EINVAL */
+#define PT_SETDBREGS 38 /* EINVAL */
 #define PT_VM_TIMESTAMP 40
 #define PT_VM_ENTRY 41
 #define PT_FIRSTMACH 64
-#define PT_GETREGS (PT_FIRSTMACH + 1) /* registers: EINVAL */
-#define PT_SETREGS (PT_FIRSTMACH + 2)
-#define PT_GETFPREGS (PT_FIRSTMACH + 3)
-#define PT_SETFPREGS (PT_FIRSTMACH + 4)
-#define PT_GETDBREGS (PT_FIRSTMACH + 5)
-#define PT_SETDBREGS (PT_FIRSTMACH + 6)
+#define PT_GETFSBASE (PT_FIRSTMACH + 5)
+#define PT_SETFSBASE (PT_FIRSTMACH + 6) /* EINVAL */
+#define PT_GETGSBASE (PT_FIRSTMACH + 7)
+#define PT_SETGSBASE (PT_FIRSTMACH + 8)
 
 #define PTRACE_EXEC 0x0001
 #define PTRACE_SCE 0x0002
@@ -72,11 +78,11 @@ struct ptrace_lwpinfo {
 	int pl_flags;
 	sigset_t pl_sigmask;
 	sigset_t pl_siglist;
-	siginfo_t pl_siginfo; /* not in the model: 0 */
-	char pl_tdname[20]; /* not in the model: "" */
+	siginfo_t pl_siginfo; /* the runtime's, as the next one */
+	char pl_tdname[20];
 	pid_t pl_child_pid;
 	unsigned pl_syscall_code;
-	unsigned pl_syscall_narg; /* not in the model: 0 */
+	unsigned pl_syscall_narg; /* the runtime's */
 };
 
 struct ptrace_io_desc {
@@ -90,7 +96,27 @@ struct ptrace_io_desc {
 #define PIOD_READ_I 3
 #define PIOD_WRITE_I 4
 
+typedef int64_t syscallarg_t;
+
+struct ptrace_sc_ret {
+	syscallarg_t sr_retval[2];
+	int sr_error;
+};
+
+struct ptrace_vm_entry {
+	int pve_entry;
+	int pve_timestamp;
+	unsigned long pve_start, pve_end, pve_offset;
+	unsigned pve_prot;
+	unsigned pve_pathlen;
+	long pve_fileid;
+	uint32_t pve_fsid;
+	char *pve_path;
+};
+
+#ifdef __cplusplus
+extern "C"
+#endif
 int ptrace(int, pid_t, char *, int);
-#pragma redefine_extname ptrace tracehost_ptrace
 
 #endif

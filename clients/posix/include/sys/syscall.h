@@ -38,4 +38,7 @@
 #define SYS_thr_new 455
 #define SYS_pipe2 542
 
+/* The C++ library's headers wait for atomics by this call of the host's; the number is no call of FreeBSD's. */
+#define SYS_futex 100202
+
 #endif

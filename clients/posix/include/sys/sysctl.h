@@ -1,4 +1,4 @@
-/* Of FreeBSD's sysctl(3): kern.proc.pid, with which programs look for a zombie, and the caller's kern.proc.pathname. */
+/* Of FreeBSD's sysctl(3): kern.proc of one process. */
 #ifndef TRACEHOST_SYS_SYSCTL_H
 #define TRACEHOST_SYS_SYSCTL_H
 
@@ -7,9 +7,14 @@
 #define CTL_KERN 1
 #define KERN_PROC 14
 #define KERN_PROC_PID 1
+#define KERN_PROC_ARGS 7
 #define KERN_PROC_PATHNAME 12
+#define KERN_PROC_VMMAP 32
+#define KERN_PROC_AUXV 38
 
+#ifdef __cplusplus
+extern "C"
+#endif
 int sysctl(const int *, unsigned, void *, size_t *, const void *, size_t);
-#pragma redefine_extname sysctl tracehost_sysctl
 
 #endif

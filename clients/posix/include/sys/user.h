@@ -1,19 +1,42 @@
-/* Of FreeBSD's struct kinfo_proc what the model knows of a process. */
+/* Of FreeBSD's <sys/user.h> what is known of a process here, by FreeBSD's names; not its layout. */
 #ifndef TRACEHOST_SYS_USER_H
 #define TRACEHOST_SYS_USER_H
 
+#include <limits.h>
+#include <stdint.h>
+#include "proc.h"
 #include <sys/types.h>
 
-#define SIDL 1
-#define SRUN 2
-#define SSLEEP 3
-#define SSTOP 4
-#define SZOMB 5
+#define COMMLEN 19
+#define TDNAMLEN 16
 
 struct kinfo_proc {
 	int ki_structsize;
 	pid_t ki_pid, ki_ppid;
+	pid_t ki_pgid, ki_sid, ki_tracer, ki_reaper;
+	uid_t ki_uid, ki_ruid, ki_svuid;
+	gid_t ki_rgid, ki_svgid;
+	int ki_numthreads;
+	long ki_flag; /* P_TRACED */
 	char ki_stat; /* SRUN, or SZOMB */
+	char ki_comm[COMMLEN + 1], ki_tdname[TDNAMLEN + 1];
+};
+
+#define KVME_TYPE_NONE 0
+#define KVME_TYPE_DEFAULT 1
+#define KVME_TYPE_VNODE 2
+#define KVME_TYPE_UNKNOWN 255
+#define KVME_PROT_READ 1
+#define KVME_PROT_WRITE 2
+#define KVME_PROT_EXEC 4
+#define KVME_FLAG_COW 1
+#define KVME_FLAG_NEEDS_COPY 2
+
+struct kinfo_vmentry {
+	int kve_structsize; /* of this entry, which is cut off behind its path */
+	int kve_type, kve_flags, kve_protection;
+	uint64_t kve_start, kve_end, kve_offset, kve_vn_fileid;
+	char kve_path[PATH_MAX];
 };
 
 #endif

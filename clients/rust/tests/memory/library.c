@@ -15,28 +15,28 @@ static void wanted(bool truth)
 
 uint32_t tracehost_open(bool kill_on_debugger_exit, tracehost *out)
 {
-    wanted(!out->is_open);
-    out->is_open = kill_on_debugger_exit;
+    wanted(out->tag == 0);
+    out->tag = kill_on_debugger_exit;
     return kill_on_debugger_exit ? TRACEHOST_ANSWERED : TRACEHOST_NO_MEMORY;
 }
 
 uint32_t tracehost_close(tracehost *h)
 {
-    wanted(h->is_open);
-    h->is_open = false;
+    wanted(h->tag != 0);
+    h->tag = 0;
     return TRACEHOST_ANSWERED;
 }
 
 uint32_t tracehost_copy(tracehost *from, tracehost *to)
 {
-    wanted(from->is_open && !to->is_open);
+    wanted(from->tag != 0 && to->tag == 0);
     return TRACEHOST_NO_MEMORY;
 }
 
 uint32_t tracehost_line(tracehost *h, bool json, const uint8_t *line, size_t line_length, uint8_t *out, size_t out_size,
                         size_t *length)
 {
-    wanted(h->is_open && line_length > 0);
+    wanted(h->tag != 0 && line_length > 0);
     if (line[0] == '0') {
         memset(out, 'x', out_size);
         *length = LONG;
@@ -46,7 +46,7 @@ uint32_t tracehost_line(tracehost *h, bool json, const uint8_t *line, size_t lin
 
 uint32_t tracehost_last_line(tracehost *h, bool json, uint8_t *out, size_t out_size, size_t *length)
 {
-    wanted(h->is_open);
+    wanted(h->tag != 0);
     *length = json ? LONG : strlen(last);
     if (json)
         memset(out, 'y', out_size);
@@ -58,7 +58,7 @@ uint32_t tracehost_last_line(tracehost *h, bool json, uint8_t *out, size_t out_s
 uint32_t tracehost_view(tracehost *h, uint32_t user, tracehost_process *processes, size_t processes_size,
                         tracehost_lwp *lwps, size_t lwps_size, size_t *processes_length, size_t *lwps_length)
 {
-    wanted(h->is_open && processes != NULL && lwps != NULL);
+    wanted(h->tag != 0 && processes != NULL && lwps != NULL);
     *processes_length = processes_size < 4 ? processes_size + 1 : processes_size;
     *lwps_length = lwps_size;
     return user;
@@ -67,7 +67,7 @@ uint32_t tracehost_view(tracehost *h, uint32_t user, tracehost_process *processe
 /* a typed call: the user is the code, and the reply is ENOMEM */
 static uint32_t call(tracehost *h, uint32_t user, tracehost_reply *reply)
 {
-    wanted(h->is_open);
+    wanted(h->tag != 0);
     if (user == TRACEHOST_ANSWERED) {
         reply->kind = TRACEHOST_ERROR;
         reply->error = 12;
@@ -126,7 +126,7 @@ uint32_t tracehost_turn(tracehost *h, uint32_t user, uint32_t lwp, uint32_t act,
 
 uint32_t tracehost_numbers(tracehost *h, uint32_t *out, size_t size, size_t *length)
 {
-    wanted(h->is_open && out != NULL);
+    wanted(h->tag != 0 && out != NULL);
     *length = 0;
     return TRACEHOST_ANSWERED;
 }

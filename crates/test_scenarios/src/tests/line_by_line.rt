@@ -2,7 +2,7 @@
 
 use super::wire::Wire;
 use line_sessions::{ServeError, serve};
-use scenario::Style;
+use scenario_runs::Style;
 use std::io::BufReader;
 use std::process::Abort;
 use std::test::Fail;

@@ -1,9 +1,8 @@
-use super::words_of;
 use event_masks::{EventMask, StopFlags};
 use lwpinfo::{Event, LwpInfo, NumList};
 use pid_blocks::{Errno, Pid, Tid, Uid};
 use requests::Reply;
-use scenario::{RunOptions, Style, render};
+use scenario_runs::{LineOptions, Style, render, render_with};
 use signals::{Pass, SigSet, Signal};
 use std::process::Abort;
 use std::test::Fail;
@@ -14,8 +13,7 @@ use wait4::Status;
 fn check<R: Abort + AllocGlobal>(rt: &R, reply: Reply, want: &str) -> Result<(), Fail> {
     let mut replies = Vec::new(rt.alloc());
     replies.push((Uid::new(1001)?, reply))?;
-    let options = words_of(None);
-    let found = render(rt.alloc(), replies.as_slice(), options)?;
+    let found = render(rt.alloc(), replies.as_slice(), None)?;
     assert!(rt; found.as_str() == want, "{found}");
     Ok(())
 }
@@ -69,7 +67,7 @@ fn lines_of_one_user(rt: HostRuntime) -> Result<(), Fail> {
         (Some(second), "1002 1 new 2000 104000\n"),
         (Some(Uid::new(1064)?), ""),
     ] {
-        let found = render(alloc, replies.as_slice(), words_of(user))?;
+        let found = render(alloc, replies.as_slice(), user)?;
         assert!(rt; found.as_str() == want, "{found}");
     }
     Ok(())
@@ -88,11 +86,11 @@ fn check_json<R: Abort + AllocGlobal>(
         replies.push((user, Reply::Done))?;
     }
     replies.push((user, reply))?;
-    let options = RunOptions {
+    let options = LineOptions {
         user: None,
         style: Style::Json,
     };
-    let found = render(rt.alloc(), replies.as_slice(), options)?;
+    let found = render_with(rt.alloc(), replies.as_slice(), options)?;
     assert_eq!(rt; found.as_str().lines().last(), Some(want));
     Ok(())
 }

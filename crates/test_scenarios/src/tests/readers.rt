@@ -1,6 +1,6 @@
 use super::wire::Wire;
-use super::{ITS_LINES, SPAWN_AND_LIST, words_of};
-use scenario::{Fault, read, run};
+use super::{ITS_LINES, SPAWN_AND_LIST};
+use scenario_runs::{Fault, RunOptions, read, run};
 use std::test::Fail;
 use stop_handlers::{ByPolicy, Handler};
 
@@ -21,7 +21,8 @@ fn a_reader_that_is_interrupted(rt: HostRuntime) -> Result<(), Fail> {
     let scenario = read(alloc, &mut reader)?;
     let handlers: Vec<Handler<ByPolicy>> = Vec::new(alloc);
     let mut lines = Vec::new(alloc);
-    run(alloc, &scenario, handlers, words_of(None), &mut lines)?;
+    let options = RunOptions { user: None };
+    run(alloc, &scenario, handlers, options, &mut lines)?;
     assert!(rt; lines.as_slice() == ITS_LINES.as_bytes());
     Ok(())
 }

@@ -1,12 +1,12 @@
 use super::wire::Wire;
-use super::{ITS_LINES, ITS_LINES_BY_USER, SPAWN_AND_LIST, words_of};
-use scenario::{RunFault, parse, run};
+use super::{ITS_LINES, ITS_LINES_BY_USER, SPAWN_AND_LIST};
+use scenario::run_threads;
+use scenario_runs::{RunFault, RunOptions, parse, run};
 use std::process::Abort;
 use std::sync::Wait;
 use std::test::Fail;
 use std::thread::Threads;
 use stop_handlers::{ByPolicy, Handler};
-use threaded_runs::run_threads;
 
 /// Checks that a writer with this room takes that front of the lines, and that the run ends with this fault. The run
 /// has a thread for each user or none.
@@ -20,7 +20,7 @@ fn check<R: Abort + Threads + Wait + Sync + AllocGlobal>(
     let mut writer = Wire::new(alloc, b"", room, fails);
     let scenario = parse(alloc, SPAWN_AND_LIST.as_bytes())?;
     let handlers: Vec<Handler<ByPolicy>> = Vec::new(alloc);
-    let options = words_of(None);
+    let options = RunOptions { user: None };
     let (ended, lines) = if threads {
         let ended = run_threads(rt, alloc, &scenario, handlers, options, &mut writer);
         (ended, ITS_LINES_BY_USER)

@@ -1,4 +1,4 @@
-use scenario::{Fault, parse, read};
+use scenario_runs::{Fault, parse, read};
 use std::alloc::Global;
 use std::test::Fail;
 

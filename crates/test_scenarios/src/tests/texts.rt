@@ -1,7 +1,7 @@
 //! Whole texts.
 
 use super::{SESSION, SPAWN_AND_LIST, fault_name};
-use scenario::{Fault, parse};
+use scenario_runs::{Fault, parse};
 use std::test::Fail;
 use test_kit::{TestError, rows_of};
 

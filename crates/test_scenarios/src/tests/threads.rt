@@ -1,12 +1,12 @@
-use super::{ITS_LINES_BY_USER, SESSION, SPAWN_AND_LIST, handlers_by_policy, words_of};
+use super::{SESSION, handlers_by_policy};
 use pid_blocks::Uid;
-use scenario::{RunFault, parse, run};
+use scenario::run_threads;
+use scenario_runs::{RunFault, RunOptions, parse, run};
 use std::alloc::Global;
 use std::sync::Wait;
 use std::test::Fail;
 use std::thread::Threads;
 use stop_handlers::{ByPolicy, Handler};
-use threaded_runs::run_threads;
 
 /// Returns the output of the scenario, with a thread for each user or without.
 fn text_of<R: Threads + Wait + Sync + AllocGlobal>(
@@ -18,7 +18,7 @@ fn text_of<R: Threads + Wait + Sync + AllocGlobal>(
     let alloc = rt.alloc();
     let scenario = parse(alloc, text.as_bytes())?;
     let handlers = handlers_by_policy(alloc, &scenario)?;
-    let options = words_of(user);
+    let options = RunOptions { user };
     let mut writer = Vec::new(alloc);
     if threads {
         run_threads(rt, alloc, &scenario, handlers, options, &mut writer)?;
@@ -26,22 +26,6 @@ fn text_of<R: Threads + Wait + Sync + AllocGlobal>(
         run(alloc, &scenario, handlers, options, &mut writer)?;
     }
     Ok(writer)
-}
-
-#[test]
-fn lines_by_user(rt: HostRuntime) -> Result<(), Fail> {
-    let first = "1001 1 new 1000 100000\n1001 2 new 1001 100001\n1001 3 pids 1000 1001\n";
-    let second = "1002 1 new 2000 104000\n";
-    for (user, want) in [
-        (None, ITS_LINES_BY_USER),
-        (Some(Uid::new(1001)?), first),
-        (Some(Uid::new(1002)?), second),
-        (Some(Uid::new(1003)?), ""),
-    ] {
-        let found = text_of(&rt, SPAWN_AND_LIST, user, true)?;
-        assert!(rt; found.as_slice() == want.as_bytes());
-    }
-    Ok(())
 }
 
 #[test]
@@ -68,7 +52,7 @@ fn handlers_of_others(rt: HostRuntime) -> Result<(), Fail> {
     let scenario = parse(alloc, SESSION.as_bytes())?;
     let none: Vec<Handler<ByPolicy>> = Vec::new(alloc);
     let mut writer = Vec::new(alloc);
-    let options = words_of(None);
+    let options = RunOptions { user: None };
     let ended = run_threads(&rt, alloc, &scenario, none, options, &mut writer).err();
     assert_eq!(rt; ended, Some(RunFault::Mismatch));
     assert!(rt; writer.is_empty());

@@ -3,7 +3,7 @@
 use super::{SESSION, handlers_by_policy};
 use event_masks::StopFlags;
 use requests::PlainStep;
-use scenario::{RunFault, bind, parse, policies};
+use scenario_runs::{RunFault, bind, parse, policies};
 use signals::{Pass, Signal};
 use std::alloc::Global;
 use std::test::Fail;
@@ -40,7 +40,7 @@ fn a_session(rt: HostRuntime) -> Result<(), Fail> {
     let scenario = parse(rt.alloc(), SESSION.as_bytes())?;
     let policy = at_entry()?;
     assert_eq!(rt; scenario.bare_steps().len(), ITS_STEPS.len());
-    for (found, text) in scenario.steps().zip(ITS_STEPS.iter()) {
+    for (found, text) in scenario.steps.iter().zip(ITS_STEPS.iter()) {
         let wanted = step_in(rt.alloc(), text, Some(&policy))?;
         assert!(rt; found == wanted, "`{text}` is read as {:?}", found.1);
     }
@@ -72,7 +72,7 @@ fn step_of(alloc: Global, op: &str) -> Result<PlainStep, Fail> {
     text.push_str(op)?;
     text.push_str("}]}")?;
     let scenario = parse(alloc, text.as_bytes())?;
-    let first = scenario.steps().next().ok_or("no step")?;
+    let first = scenario.steps.iter().next().ok_or("no step")?;
     Ok(first.1)
 }
 

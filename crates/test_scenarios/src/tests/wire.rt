@@ -78,6 +78,9 @@ impl io::Write for Wire<'_> {
     }
 
     fn flush(&mut self) -> io::Result<()> {
+        if self.interrupts() {
+            return Err(io::Error::from(io::ErrorKind::Interrupted));
+        }
         Ok(())
     }
 }

@@ -146,8 +146,8 @@ impl Writer {
         let above = process.tracer.map_or(process.parent, |tracer| tracer.get());
         match process.state {
             State::Run => self.running(process),
-            State::Trace { reported, .. } => {
-                if reported {
+            State::Trace { seen, .. } => {
+                if seen {
                     self.request(above, own)
                 } else {
                     self.stopped(above)
@@ -188,7 +188,7 @@ impl Writer {
         if is_own {
             tables.first_lwp(pid)
         } else {
-            tables.lwp_at(place)
+            tables.lwps_of_user(self.user).nth(place)
         }
     }
 

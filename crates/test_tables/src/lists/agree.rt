@@ -29,13 +29,20 @@ pub fn all(tally: &mut Tally, tables: &Tables, plain: &Plain, users: &[Uid]) {
     }
 }
 
-/// Compares the readers at each LWP, by its place and by its number.
+/// Compares the readers at each LWP's number, and at some places in order of birth.
 fn lwps(tally: &mut Tally, tables: &Tables, plain: &Plain) {
-    for (place, row) in plain.lwps.iter().enumerate() {
-        check!(tally, 0, row.tid.get(); tables.lwp_at(place) == Some(*row));
+    for row in &plain.lwps {
         lwp(tally, tables, plain, row.tid);
     }
-    check!(tally, 0, 0; tables.lwp_at(plain.lwps.len()).is_none());
+    for place in places(plain.lwps.len()) {
+        check!(tally, 0, 0; tables.lwp_at(place) == plain.lwps.get(place).copied());
+    }
+}
+
+/// Returns the first place of so many, one in the middle, the last, and the one past it. A walk to each place of a list
+/// would take the square of its length.
+fn places(len: usize) -> [usize; 4] {
+    [0, len / 2, len.saturating_sub(1), len]
 }
 
 /// Compares the readers at an LWP's number.
@@ -71,6 +78,9 @@ fn links(tally: &mut Tally, tables: &Tables, plain: &Plain, pid: Pid, after: u32
 /// Compares the readers at a user, and the rows that the user sees.
 pub fn user(tally: &mut Tally, tables: &Tables, plain: &Plain, uid: Uid) {
     counts(tally, tables, plain, uid);
+    let own = plain.lwps.iter().copied();
+    let own = own.filter(|row| plain.visible_process(uid, row.pid.get()).is_some());
+    check!(tally, uid.get(), 0; tables.lwps_of_user(uid).eq(own));
     for number in BORDERS {
         sight(tally, tables, plain, uid, number);
     }
@@ -108,21 +118,21 @@ fn sight(tally: &mut Tally, tables: &Tables, plain: &Plain, uid: Uid, number: u3
 /// Compares the readers of a separate table of LWPs with those of the list.
 pub fn lwp_table(tally: &mut Tally, table: &LwpTable, plain: &Plain, users: &[Uid]) {
     let rows = plain.lwps.as_slice();
-    check!(tally, 0, 0;
-        table.iter().eq(rows.iter().copied()),
-        table.len() == rows.len(),
-        table.at(rows.len()).is_none(),
-    );
-    for (place, row) in rows.iter().enumerate() {
+    for place in places(rows.len()) {
+        check!(tally, 0, 0; table.at(place) == rows.get(place).copied());
+    }
+    for row in rows {
         check!(tally, 0, row.tid.get();
-            table.at(place) == Some(*row),
             table.get(row.tid) == Some(*row),
             next_born(table, row.tid) == plain.next_sibling(row.tid),
         );
         of_process(tally, table, plain, row.pid);
     }
     for uid in users {
-        check!(tally, uid.get(), 0; table.user_count(*uid) == own_count(rows, *uid));
+        check!(tally, uid.get(), 0;
+            table.user_count(*uid) == rows.iter().filter(|row| is_own(row, *uid)).count(),
+            table.of_user(*uid).eq(rows.iter().copied().filter(|row| is_own(row, *uid))),
+        );
     }
 }
 
@@ -136,10 +146,9 @@ fn of_process(tally: &mut Tally, table: &LwpTable, plain: &Plain, pid: Pid) {
     );
 }
 
-/// Returns how many rows have a number of the user.
-fn own_count(rows: &[LwpData], uid: Uid) -> usize {
+/// Tests whether the row has a number of the user.
+fn is_own(row: &LwpData, uid: Uid) -> bool {
     let first = first_tid(uid);
     let own = first..first + 4000;
-    let numbered = rows.iter().filter(|row| own.contains(&row.tid.get()));
-    numbered.count()
+    own.contains(&row.tid.get())
 }

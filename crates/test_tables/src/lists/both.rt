@@ -77,7 +77,7 @@ impl Both {
                 0 => State::Zombie { status: roll },
                 1 => State::Job {
                     sig: Signal::STOP,
-                    reported: roll % 7 == 1,
+                    seen: roll % 7 == 1,
                 },
                 _ => State::Run,
             },

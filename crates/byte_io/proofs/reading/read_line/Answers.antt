@@ -1,4 +1,4 @@
-use Rattle.{std.proofs.{Common.{List, ℕ, [], ◌++◌, subst, arith}, lemmas.List.length-take}, byte_io.{specs.Lines.{Loses, part_end}, proofs.ReadLemmas.{on_err, loses_more, loses_none, kept_parts}}}
+use Rattle.{std.proofs.{Common.{List, ℕ, [], ◌++◌, subst, inr, arith}, lemmas.List.length-take}, byte_io.{specs.Lines.{Loses, part_end}, proofs.ReadLemmas.{on_err, loses_more, loses_none, kept_parts, longer, endless}}}
 use Rattle.byte_io.proofs.reading.read_line.Goals as goal
 
 pub returns-in_err-end-clause-err : goal.returns-in_err-end-clause-err
@@ -27,4 +27,8 @@ loop-preserved g c =
       text = at.text ++ part.0;
       lost = loses_more _ _ _ _ _ _ at.lost (subst (λ e. Loses (g.R.Read.remaining c.loop.reader) (g.R.Read.remaining c.take_part.new.reader) part.0 (part_end e)) c.in_default.is part.1);
       kept = kept;
+      long = longer _ _ at.text part.0 at.long (part.3 c.in_default.is);
     }
+
+pub returns-clause-failed : goal.returns-clause-failed
+returns-clause-failed g c = let at = c.loop.invariant in inr (endless _ _ _ _ at.text (omega arith) at.lost at.long)

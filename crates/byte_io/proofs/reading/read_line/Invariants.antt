@@ -1,4 +1,4 @@
-use Rattle.{std.proofs.Common.{◌≡◌, ◌≤◌, List, ℕ, [], take, length}, byte_io.specs.Lines.Loses}
+use Rattle.{std.proofs.Common.{◌≡◌, ◌≤◌, ◌⊎◌, List, ℕ, [], take, length, true}, byte_io.specs.Lines.Loses}
 use Rattle.byte_io.proofs.reading.read_line.Given as goal
 
 abbrev pub invariant-loop : goal.invariant-loop
@@ -7,4 +7,5 @@ invariant-loop g l = record {
   text : List ℕ;
   lost : Loses (g.R.Read.remaining l.fn.reader) (g.R.Read.remaining l.reader) text [];
   kept : l.line.items ≡ take l.most text;
+  long : (g.R.LineSource.may_fail ≡ true) ⊎ (l.counter ≤ length text);
 }

@@ -2,7 +2,7 @@ use Rattle.byte_io.proofs.{ReadLemmas.on_err, WriteLemmas.{front_is, front_slice
 use Rattle.byte_io.proofs.writing.write_flushed.Goals as goal
 
 pub returns-then-is_empty-clause-err : goal.returns-then-is_empty-clause-err
-returns-then-is_empty-clause-err g c = on_err _ _ (front_taken _ _ _ _ _ c.loop.invariant c.flush.ensures.bytes)
+returns-then-is_empty-clause-err g c = on_err _ _ (front_taken _ _ _ _ _ c.loop.invariant c.flush.ensures.kept)
 
 pub returns-in_err-written-clause-err : goal.returns-in_err-written-clause-err
 returns-in_err-written-clause-err g c = on_err _ _ (front_ended _ _ _ _ _ c.loop.invariant c.in_err-written.ensures.err)

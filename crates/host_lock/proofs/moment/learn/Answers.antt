@@ -1,6 +1,6 @@
-use Rattle.host_lock.proofs.CommonNames.{◌∙◌, ap, arith, Me, known_of, View, HostSlot}
+use Rattle.host_lock.proofs.CommonNames.{◌∙◌, ◌≡◌, ap, arith, length, Me, has_slot, known_of, View, HostSlot}
 use Rattle.host_lock.proofs.Moments.{joined_is, has_learned}
-use Rattle.host_lock.proofs.Turns.{joins, learns}
+use Rattle.host_lock.proofs.Turns.{joins, looks}
 use Rattle.host_lock.proofs.moment.learn.Goals as goal
 
 pub join_seat-requires : goal.join_seat-requires
@@ -18,10 +18,11 @@ pub load-requires : goal.load-requires
 load-requires g c =
     let table = c.args.table.now in
     let seat = c.join_seat.new.seat in
-    let joined = joined_is c.args.number c.args.seat.now.me c.args.shown.me seat.me c.requires.rests c.requires.shown c.join_seat.ensures.2 in (
+    let joined = joined_is c.args.number c.args.seat.now.me c.args.shown.me seat.me c.requires.rests c.requires.shown c.join_seat.ensures.2 in
+    let one : length seat.me.0.owns ≡ 1 = ap (λ (m : Me (HostSlot g.row.F.Denot g.row.J.Denot) View). length m.0.owns) joined in (
       c.join_seat.ensures.0 ∙ c.requires.table.1,
       omega (arith, c.requires.table.0.0),
-      learns table.key.start.value table.key.sessions table.table_id.slots seat.id seat.me (known_of c.args.seat.now.me.0) (known_of c.args.shown.me.0) (ap (λ (m : Me (HostSlot g.row.F.Denot g.row.J.Denot) View). m.0.stage) joined) (ap (λ (m : Me (HostSlot g.row.F.Denot g.row.J.Denot) View). m.0.known) joined),
+      looks table.key.start.value table.key.sessions table.table_id.slots seat.id seat.me (ap (λ (m : Me (HostSlot g.row.F.Denot g.row.J.Denot) View). has_slot m.0.stage) joined) (omega arith),
     )
 
 pub returns-clause-learned : goal.returns-clause-learned

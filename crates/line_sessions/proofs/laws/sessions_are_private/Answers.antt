@@ -1,5 +1,5 @@
 use Rattle.{std.proofs.Common.map, requests.specs.Machine.empty, visibility.{specs.Runs.reply_given, proofs.{Answered.runs_are_private, Apart.users_are_apart_at_first}}}
-use Rattle.line_sessions.{specs.Laws.replies_in, proofs.LawLemmas.found}
+use Rattle.{open_sessions.specs.Laws.replies_in, line_sessions.proofs.LawLemmas.found}
 use Rattle.line_sessions.proofs.laws.sessions_are_private.Goals as goal
 
 pub returns : goal.returns

@@ -1,11 +1,11 @@
 use Rattle.{std.proofs.Common.ap, line_sessions.{specs.declared.fault.ServeError.TheVariants.Memory, proofs.{AnswerLemmas.serves_by, TalkLemmas.begins_not}}}
 use Rattle.line_sessions.proofs.serving.serve.Goals as goal
 
-pub returns-in_err-session : goal.returns-in_err-session
-returns-in_err-session g c = serves_by _ _ _ _ _ _ _ Memory c.from_residual.ensures.1 (begins_not _ _ _ _)
+pub returns-in_err-session-clause-serves : goal.returns-in_err-session-clause-serves
+returns-in_err-session-clause-serves g c = serves_by _ _ _ _ _ _ _ Memory c.from_residual.ensures.1 (begins_not _ _ _ _)
 
-pub returns : goal.returns
-returns g c = rw (ap (λ s. s.host) c.in_ok-session.ensures) at c.answer_all.ensures
+pub returns-clause-serves : goal.returns-clause-serves
+returns-clause-serves g c = rw (ap (λ s. s.host) c.in_ok-session.ensures) at c.answer_all.ensures.serves
 
 pub answer_all-requires : goal.answer_all-requires
 answer_all-requires g c = ap (λ s. s.made) c.in_ok-session.ensures

@@ -1,4 +1,4 @@
-use Rattle.{std.proofs.Common.subst, requests.{specs.Hosts.Steps, proofs.PerStep.steps_made}, scenario.proofs.BindLemmas.nothing_made}
+use Rattle.{std.proofs.Common.subst, requests.{specs.Hosts.Steps, proofs.PerStep.steps_made}, scenario_runs.proofs.BindLemmas.nothing_made}
 use Rattle.open_sessions.proofs.session.make_step.Goals as goal
 
 pub returns-in-Some : goal.returns-in-Some

@@ -1,7 +1,7 @@
 use Rattle.proc_table.proofs.CommonNames.{◌≡◌, ℕ, Some, Option, true, ap, sym, refl, arith, nat_eq, option_map, option_eq, nat_tests, get, RowNode, anywhere, above, Node, node_of, nodes_of}
 use Rattle.proc_table.proofs.Every.{some_and}
 use Rattle.proc_table.proofs.Linked.{as_member, member-of, IsNext-nearest}
-use Rattle.proc_table.proofs.ListNodes.{slot_at, list-at, list-ends}
+use Rattle.proc_table.proofs.ListNodes.{slot_at, slot_named-head, list-at, list-ends}
 use Rattle.proc_table.proofs.links.next_slot.Goals as goal
 
 equal : (o : Option ℕ) (n : ℕ) → option_eq nat_eq o (Some n) ≡ true → o ≡ Some n
@@ -15,12 +15,12 @@ returns-then-after-eq0 c =
     let zero : c.args.after ≡ 0 = grind (arith, nat_tests, c.if-after-eq0.true) in rw zero next
 
 pub index-requires-in-Some : goal.index-requires-in-Some
-index-requires-in-Some c = grind (arith, nat_tests, c.requires.at c.args.after c.in-Some.at)
+index-requires-in-Some c = grind (arith, nat_tests, slot_named-head (get c.args.nodes.now) c.args.slots.now.entries c.args.after c.in-Some.at)
 
 pub returns-then-eq : goal.returns-then-eq
 returns-then-eq c =
     let kin = c.args.kin in
-    let there = some_and (λ (slot : RowNode). slot.row.pid ≡ c.args.after) _ (c.requires.at c.args.after c.in-Some.at (sym c.in-Some.ensures)) in
+    let there = some_and (λ (slot : RowNode). slot.row.pid ≡ c.args.after) _ (slot_named-head (get c.args.nodes.now) c.args.slots.now.entries c.args.after c.in-Some.at (sym c.in-Some.ensures)) in
     let node = node_of kin c.index-in-Some.result.now in
     let number : node.pid ≡ c.args.after = grind (arith, nat_tests) in
     let names : node.list_owner ≡ Some c.args.list_owner = grind (arith, nat_tests, equal c.links_of-links.result.list_owner c.args.list_owner) in

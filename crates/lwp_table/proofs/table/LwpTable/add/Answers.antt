@@ -1,35 +1,36 @@
-use Rattle.lwp_table.proofs.CommonNames.{ap, sym, ◌∙◌, arith, has_lwp, ends_at}
+use Rattle.lwp_table.proofs.CommonNames.{ap, sym, ◌∙◌, arith, nat_tests, has_lwp, ends_at, empty_head, get_or, place_of}
 use Rattle.slab.specs.Slab.{get as slot_get}
-use Rattle.lwp_table.proofs.WordLemmas.{both_calm, lwp_of-fresh}
-use Rattle.lwp_table.proofs.KeptLemmas.{HasJoined, own_count, all_count, rows-added, LwpTableInvariant-added}
-use Rattle.lwp_table.proofs.table.LwpTable.add.Goals.{After-insert}
+use Rattle.lwp_table.proofs.WordLemmas.{lwp_of-fresh}
+use Rattle.lwp_table.proofs.KeptLemmas.{HasJoined, own_count, user_count, rows-added, LwpTableInvariant-added}
+use Rattle.lwp_table.proofs.table.LwpTable.add.Goals.{After-unwrap}
 use Rattle.lwp_table.proofs.table.LwpTable.add.Goals as goal
 
-pub overflow_add-ends : goal.overflow_add-ends
-overflow_add-ends c = omega (arith, own_count c.self.invariant c.get-pid.result, ap (λ e. e.count) c.ends_of-own.ensures, c.requires.room, ap (λ v. v.spare) c.self.view_is)
+pub join-requires-clause-count : goal.join-requires-clause-count
+join-requires-clause-count c = omega (arith, own_count c.self.invariant c.args.row.pid, c.requires.room, ap (λ v. v.spare) c.self.view_is)
 
-pub overflow_add-self : goal.overflow_add-self
-overflow_add-self c = omega (arith, all_count c.self.invariant, c.requires.room, ap (λ v. v.spare) c.self.view_is)
+pub join_user-requires-clause-count : goal.join_user-requires-clause-count
+join_user-requires-clause-count c = λ below. omega (arith, user_count c.self.invariant (place_of c.args.row.tid) below, c.requires.room, ap (λ v. v.spare) c.self.view_is)
 
 -- what the steps up to the index establish
-joins : (c : After-insert) → HasJoined (slot_get c.self.inside.rows) c.self.inside.slots.entries c.self.inside.heads.entries c.self.inside.all c.self.inside.births c.args.row c.insert_reserved-slot.result c.ends_of-own.result (slot_get c.set_link-2.new.slots) c.insert.new.self.entries
-joins c = record {
-  own_is = c.ends_of-own.ensures ∙ ap (ends_at c.self.inside.heads.entries) c.get-pid.ensures.number;
-  vacant = c.insert_reserved-slot.ensures.was_vacant;
-  taken = slot_get c.insert_reserved-slot.new.self;
-  put = c.insert_reserved-slot.ensures.updates.changed;
-  others = c.insert_reserved-slot.ensures.updates.others;
-  listed = slot_get c.set_link.new.slots;
-  links_own = c.set_link.ensures.linked;
-  links_all = c.set_link-2.ensures.linked;
-  change = rw c.get-tid.ensures.number at c.insert.ensures.updates;
-  fresh = lwp_of-fresh c.args.row.tid _ (ap (λ v. has_lwp c.args.row.tid v.rows) c.self.view_is ∙ c.requires.fresh);
-}
+joins : (c : After-unwrap) → HasJoined (slot_get c.self.inside.rows) c.self.inside.slots.entries (ends_at c.self.inside.heads.entries c.args.row.pid) (get_or c.self.inside.users.items (place_of c.args.row.tid) empty_head) c.self.inside.births c.args.row c.vacant_key-slot.result (slot_get c.set_link-2.new.slots) c.insert.new.self.entries
+joins c =
+    let at = c.insert_reserved.ensures.key ∙ sym c.vacant_key-slot.ensures.value in
+    record {
+      within = c.join_user.ensures.below;
+      vacant = c.vacant_key-slot.ensures.vacant;
+      taken = slot_get c.insert_reserved.new.self;
+      put = rw (at, c.join.ensures.before, c.join_user.ensures.before) at c.insert_reserved.ensures.updates.changed;
+      others = rw at at c.insert_reserved.ensures.updates.others;
+      listed = slot_get c.set_link.new.slots;
+      links_own = rw c.join.ensures.before at c.set_link.ensures.linked;
+      links_user = rw c.join_user.ensures.before at c.set_link-2.ensures.linked;
+      change = rw c.get.ensures.number at (rw c.unwrap.ensures at c.insert.ensures.updates).0;
+      fresh = lwp_of-fresh c.args.row.tid _ (ap (λ v. has_lwp c.args.row.tid v.rows) c.self.view_is ∙ c.requires.fresh);
+    }
 
 pub invariant_of-self : goal.invariant_of-self
 invariant_of-self c =
-    LwpTableInvariant-added c.self.invariant c.args.row c.insert_reserved-slot.result c.ends_of-own.result _ _ (joins (goal.at.invariant_of-self c).After-insert) c.insert-2.new.self.entries c.or.result c.or-2.result _ c.or.ensures c.or-2.ensures
-    (rw c.get-pid.ensures.number at c.insert-2.ensures.updates) c.user_place.result c.user_place.ensures.place c.user_place.ensures.below c.self.told (λ p none. none) (λ none. both_calm c.ends_of-own.result.may_pend c.args.row.pending (sym c.may_pend_with.ensures ∙ none))
+    LwpTableInvariant-added c.self.invariant c.args.row c.vacant_key-slot.result _ _ (joins (goal.at.invariant_of-self c).After-unwrap) c.join.new.heads.entries _ c.join.ensures.ends (λ p none. none) (λ none. grind (arith, nat_tests, c.is_empty.ensures, none)) _ c.join_user.ensures.ends
 
 pub returns-clause-rows : goal.returns-clause-rows
-returns-clause-rows c = rw (← c.self.view_is) (rows-added c.self.invariant c.args.row c.insert_reserved-slot.result c.ends_of-own.result _ _ (joins (goal.at.returns-clause-rows c).After-insert))
+returns-clause-rows c = rw (← c.self.view_is) (rows-added c.self.invariant c.args.row c.vacant_key-slot.result _ _ (joins (goal.at.returns-clause-rows c).After-unwrap))

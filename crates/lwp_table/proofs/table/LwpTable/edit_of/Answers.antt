@@ -12,8 +12,8 @@ loop-link-init g c = record {
   kept = LwpTableInvariant-may c.self.invariant _ (unsaid c.args.pid (may_pend c.self.inside.heads.entries));
   walk = (
     0,
-    editing-first (slot_get c.self.inside.rows) (FnReturnsAt g.F.Fn c.args.edit) c.args.pid c.first_slot-link.result
-        (rw (c.first_slot-link.ensures, c.get.ensures.number) ((c.self.invariant.own c.args.pid).first_is)),
+    editing-first (slot_get c.self.inside.rows) (FnReturnsAt g.F.Fn c.args.edit) c.args.pid c.ends_of-ends.result.first
+        (rw c.ends_of-ends.ensures ((c.self.invariant.own c.args.pid).first_is)),
     λ none s slot there on less. absurd (omega (arith, less)),
   );
   slots = refl;
@@ -63,7 +63,7 @@ loop-link-preserved g c =
 pub invariant_of-self : goal.invariant_of-self
 invariant_of-self g c =
     let walk = rw c.in_default.is at c.loop-link.invariant.walk.1 in
-    LwpTableInvariant-marked c.loop-link.invariant.kept c.args.pid c.loop-link.may_pend _ (rw c.get-2.ensures.number at c.mark.ensures.ends)
+    LwpTableInvariant-marked c.loop-link.invariant.kept c.args.pid c.loop-link.may_pend _ c.mark_change.ensures.ends
     (seen-all (slot_get c.self.inside.rows) (slot_get c.loop-link.self-inside.rows) (FnReturnsAt g.F.Fn c.args.edit) c.args.pid c.loop-link.invariant.walk.0 c.loop-link.may_pend walk c.loop-link.invariant.walk.2)
     (λ p off none. rw off none)
 
@@ -80,4 +80,4 @@ returns-clause-rows g c = λ change computes.
     (rows_of-edited (slot_get c.self.inside.rows) f es births c.self.invariant.indexed after (FnReturnsAt g.F.Fn c.args.edit) c.args.pid c.loop-link.invariant.walk.0 walk change (rw (← seen) at computes))
 
 pub returns-clause-spare : goal.returns-clause-spare
-returns-clause-spare g c = rw (c.loop-link.invariant.capacity, c.loop-link.invariant.len, c.loop-link.invariant.slots, c.mark.ensures.spare, c.loop-link.invariant.heads, c.loop-link.invariant.births) (ap (λ v. v.spare) c.self.view_is)
+returns-clause-spare g c = rw (c.loop-link.invariant.capacity, c.loop-link.invariant.len, c.loop-link.invariant.slots, c.mark_change.ensures.spare, c.loop-link.invariant.heads, c.loop-link.invariant.births) (ap (λ v. v.spare) c.self.view_is)

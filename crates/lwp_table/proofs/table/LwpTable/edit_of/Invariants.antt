@@ -5,7 +5,7 @@ use Rattle.lwp_table.proofs.table.LwpTable.edit_of.Given as goal
 -- the table is kept at each turn, and all but the rows is as it was
 abbrev pub invariant-loop-link : goal.invariant-loop-link
 invariant-loop-link g l = record {
-  kept : LwpTableInvariant (get l.self-inside.rows) l.self-inside.slots.entries l.self-inside.heads.entries l.self-inside.all l.self-inside.births l.self-inside.users (λ p. cond (nat_eq l.fn.pid p) true (may_pend l.self-inside.heads.entries p));
+  kept : LwpTableInvariant (get l.self-inside.rows) l.self-inside.slots.entries l.self-inside.heads.entries l.self-inside.births l.self-inside.users.items (λ p. cond (nat_eq l.fn.pid p) true (may_pend l.self-inside.heads.entries p));
   walk : (upto : ℕ) × IsEditing (get l.initial.self-inside.rows) (get l.self-inside.rows) (FnReturnsAt g.F.Fn l.edit) l.fn.pid upto l.link × IsSeen (get l.self-inside.rows) l.fn.pid upto l.may_pend;
   slots : l.self-inside.slots ≡ l.initial.self-inside.slots;
   heads : l.self-inside.heads ≡ l.initial.self-inside.heads;

@@ -3,7 +3,7 @@ use Rattle.proc_table.proofs.Tied.{tied-none}
 use Rattle.proc_table.proofs.processes.Processes.new.Goals as goal
 
 pub invariant_of-result : goal.invariant_of-result
-invariant_of-result c = (tied-none (get c.new.result) c.in_ok-new.field-0.entries (λ s. ap (λ slots. get_or slots s None) c.new.ensures.empty) c.in_ok-new.ensures.empty).0
+invariant_of-result c = (tied-none (get c.new.result) c.with_hasher.result.entries (λ s. ap (λ slots. get_or slots s None) c.new.ensures.empty)).0
 
 pub returns : goal.returns
-returns c = (tied-none (get c.new.result) c.in_ok-new.field-0.entries (λ s. ap (λ slots. get_or slots s None) c.new.ensures.empty) c.in_ok-new.ensures.empty).1
+returns c = (tied-none (get c.new.result) c.with_hasher.result.entries (λ s. ap (λ slots. get_or slots s None) c.new.ensures.empty)).1

@@ -1,29 +1,45 @@
-use Rattle.proc_table.proofs.CommonNames.{nat_tests, arith, Some, ap, sym, ◌∙◌, is_some, get, with_value, Updates-with_value, rows_of}
+use Rattle.proc_table.proofs.CommonNames.{◌≡◌, refl, nat_tests, arith, Some, ap, ◌∙◌, is_some, get, with_value, Updates-with_value, rows_of}
 use Rattle.proc_table.proofs.Every.{some_and}
 use Rattle.proc_table.proofs.Slots.{slot_there}
-use Rattle.proc_table.proofs.Tied.{IsRehung, picked, head-row, written}
+use Rattle.proc_table.proofs.Tied.{IsRehung, own-row, taken, picked, head-row, written}
 use Rattle.proc_table.proofs.processes.Processes.set.Goals.{After-index}
 use Rattle.proc_table.proofs.processes.Processes.set.Goals as goal
 
-pub unwrap-slot-requires : goal.unwrap-slot-requires
-unwrap-slot-requires c = grind (arith, nat_tests, some_and, slot_there (rows_of (get c.self.inside.nodes)) c.self.inside.slots.entries c.self.inside.counts c.self.invariant.slotted c.args.row.pid)
+pub known_slot-slot-requires-clause-there : goal.known_slot-slot-requires-clause-there
+known_slot-slot-requires-clause-there c = grind (arith, nat_tests, some_and, slot_there (rows_of (get c.self.inside.nodes)) c.self.inside.slots.entries c.self.inside.counts c.self.invariant.slotted c.args.row.pid)
 
 pub update_lists-requires-clause-list_owners : goal.update_lists-requires-clause-list_owners
 update_lists-requires-clause-list_owners c = λ k t is.
     let named = c.requires.named k t (rw (picked c.args.row _ _ c.tracer_of.ensures c.parent_of.ensures k) at is) in
     head-row c.self.invariant t (rw (← c.self.view_is) at named)
 
-rehung : (c : After-index) → IsRehung (get c.self.inside.nodes) (get c.update_lists.new.nodes) c.self.inside.slots.entries c.unwrap-slot.result c.tracer_of.result c.parent_of.result
+pub update_lists-requires-clause-there : goal.update_lists-requires-clause-there
+update_lists-requires-clause-there c =
+    let before = some_and _ _ (rw (← c.self.view_is) at c.requires.there) in
+    taken c.self.invariant _ c.args.row.pid c.known_slot-slot.result (λ s. refl) (ap is_some before.1) (rw c.get-number.ensures.number at c.known_slot-slot.ensures)
+
+pub index-requires : goal.index-requires
+index-requires c =
+    let before = some_and _ _ (rw (← c.self.view_is) at c.requires.there) in
+    taken c.self.invariant _ c.args.row.pid c.known_slot-slot.result c.update_lists.ensures.rows (ap is_some before.1) (rw c.get-number.ensures.number at c.known_slot-slot.ensures)
+
+rehung : (c : After-index) → IsRehung (get c.self.inside.nodes) (get c.update_lists.new.nodes) c.self.inside.slots.entries c.known_slot-slot.result c.tracer_of.result c.parent_of.result
 rehung c = record { are_linked = c.update_lists.ensures.are_linked; rows = c.update_lists.ensures.rows; here = c.update_lists.ensures.here; others = c.update_lists.ensures.others }
+
+number : (c : After-index) → c.index.result.now.row.pid ≡ c.args.row.pid
+number c =
+    let before = some_and _ _ (rw (← c.self.view_is) at c.requires.there) in
+    let own = own-row c.self.invariant _ c.args.row.pid before.0 c.update_lists.ensures.rows c.index.ensures (rw c.get-number.ensures.number at c.known_slot-slot.ensures) before.1 in
+    ap (λ p. p.pid) own.0 ∙ own.1
 
 pub invariant_of-self : goal.invariant_of-self
 invariant_of-self c =
-    let updates = Updates-with_value c.update_lists.new.nodes c.unwrap-slot.result c.with_row.result (ap is_some c.index_mut.ensures.value) in
-    (written c.self.invariant {g = get (with_value c.update_lists.new.nodes c.unwrap-slot.result c.with_row.result)} (rehung (goal.at.invariant_of-self c).After-index) c.tracer_of.ensures c.parent_of.ensures c.index.ensures
-    (updates.changed ∙ ap Some c.with_row.ensures) updates.others (rw c.get-number.ensures.number at (sym c.get.ensures ∙ c.unwrap-slot.ensures)) (rw (← c.self.view_is) at c.requires.there)).0
+    let updates = Updates-with_value c.update_lists.new.nodes c.known_slot-slot.result c.with_row.result (ap is_some c.index_mut.ensures.value) in
+    (written c.self.invariant {g = get (with_value c.update_lists.new.nodes c.known_slot-slot.result c.with_row.result)} (rehung (goal.at.invariant_of-self c).After-index) c.tracer_of.ensures c.parent_of.ensures c.index.ensures
+    (updates.changed ∙ ap Some c.with_row.ensures) updates.others (number (goal.at.invariant_of-self c).After-index) (rw (← c.self.view_is) at c.requires.there)).0
 
 pub returns-clause-rows : goal.returns-clause-rows
 returns-clause-rows c =
-    let updates = Updates-with_value c.update_lists.new.nodes c.unwrap-slot.result c.with_row.result (ap is_some c.index_mut.ensures.value) in
-    rw (← c.self.view_is) (written c.self.invariant {g = get (with_value c.update_lists.new.nodes c.unwrap-slot.result c.with_row.result)} (rehung (goal.at.returns-clause-rows c).After-index) c.tracer_of.ensures c.parent_of.ensures c.index.ensures
-    (updates.changed ∙ ap Some c.with_row.ensures) updates.others (rw c.get-number.ensures.number at (sym c.get.ensures ∙ c.unwrap-slot.ensures)) (rw (← c.self.view_is) at c.requires.there)).1
+    let updates = Updates-with_value c.update_lists.new.nodes c.known_slot-slot.result c.with_row.result (ap is_some c.index_mut.ensures.value) in
+    rw (← c.self.view_is) (written c.self.invariant {g = get (with_value c.update_lists.new.nodes c.known_slot-slot.result c.with_row.result)} (rehung (goal.at.returns-clause-rows c).After-index) c.tracer_of.ensures c.parent_of.ensures c.index.ensures
+    (updates.changed ∙ ap Some c.with_row.ensures) updates.others (number (goal.at.returns-clause-rows c).After-index) (rw (← c.self.view_is) at c.requires.there)).1

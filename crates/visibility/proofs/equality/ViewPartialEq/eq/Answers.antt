@@ -6,4 +6,4 @@ pub returns-then-same_handlers-clause-exact : goal.returns-then-same_handlers-cl
 returns-then-same_handlers-clause-exact c = exact_of c.eq-then-same_handlers.result c.args.self.now c.args.other.now (search rules)
 
 pub returns-else-same_handlers-clause-exact : goal.returns-else-same_handlers-clause-exact
-returns-else-same_handlers-clause-exact c = exact_of c.if-tid_cursor.value c.args.self.now c.args.other.now (search rules)
+returns-else-same_handlers-clause-exact c = exact_of c.if-self-other-2.value c.args.self.now c.args.other.now (search rules)

@@ -1,0 +1,2 @@
+/* FreeBSD has the requests of its machine here. */
+#include <sys/ptrace.h>

@@ -1,0 +1,2 @@
+/* FreeBSD has its mcontext_t here. */
+#include <ucontext.h>

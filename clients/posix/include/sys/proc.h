@@ -1,0 +1,13 @@
+/* Of FreeBSD's <sys/proc.h>: ki_stat and ki_flag. */
+#ifndef TRACEHOST_SYS_PROC_H
+#define TRACEHOST_SYS_PROC_H
+
+#define SIDL 1
+#define SRUN 2
+#define SSLEEP 3
+#define SSTOP 4
+#define SZOMB 5
+
+#define P_TRACED 0x00800
+
+#endif

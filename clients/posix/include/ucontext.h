@@ -1,0 +1,3 @@
+/* The host's <ucontext.h>, with FreeBSD's names of registers. */
+#include_next <ucontext.h>
+#include <tracehost/ucontext.h>

@@ -1,0 +1,135 @@
+/* Stacks. The runtime has two of its own for each thread: on one run the program's calls (entry.S), on the other the host's
+ * signals. So nothing of it is on the program's stack, where a debugger may write below a stopped thread's stack pointer.
+ * The program's handlers run on the program's stack, as a kernel calls them, or on that of sigaltstack(2). */
+#define _GNU_SOURCE
+#include <string.h>
+#include <sys/mman.h>
+#include <ucontext.h>
+#include "freebsd.h"
+#include "runtime.h"
+
+enum {
+	BSD_SS_ONSTACK = 1, BSD_SS_DISABLE = 4,
+	SMALLEST = 16384, /* FreeBSD's is smaller: the runtime needed room there once */
+	CALLS = 4 << 20, SIGNALS = 4 << 20,
+	BETWEEN = 16384, /* left to what runs already, as another level begins below it */
+	RED_ZONE = 128,
+};
+
+/* From now on a signal of the host's begins there. It takes that stack off itself: so it may be set in a handler. */
+static void set_signals(char *top)
+{
+	const int autodisarm = (int)(1U << 31); /* SS_AUTODISARM of the kernel's headers */
+	own.now.signals = top;
+	sigaltstack(&(stack_t){.ss_sp = own.stacks, .ss_size = (size_t)(top - own.stacks), .ss_flags = autodisarm}, NULL);
+}
+
+void tracehost_make_stacks(void)
+{
+	if (own.stacks != NULL)
+		return; /* a fork has them already */
+	char *made = mmap(NULL, SIGNALS + CALLS, PROT_READ | PROT_WRITE, MAP_PRIVATE | MAP_ANONYMOUS | MAP_NORESERVE, -1, 0);
+	if (made == MAP_FAILED || sigaltstack(NULL, &own.former_stack) != 0)
+		tracehost_broken("no stack is left for the runtime");
+	own.stacks = made, own.now.top = made + SIGNALS + CALLS;
+	set_signals(made + SIGNALS);
+}
+
+void tracehost_drop_stacks(void)
+{
+	sigaltstack(&own.former_stack, NULL); /* a sanitizer's, which it looks for */
+	munmap(own.stacks, SIGNALS + CALLS);
+	own.stacks = NULL;
+}
+
+static int is_for_calls(const char *at) { return own.stacks != NULL && at > own.stacks + SIGNALS && at <= own.stacks + SIGNALS + CALLS; }
+static char *aligned(char *at) { return (char *)((size_t)at & ~15UL); }
+
+void tracehost_leave_runtime(void)
+{
+	own.now.inside = own.now.lands = 0;
+	own.now.context = own.now.interrupted = NULL;
+}
+
+/* ---- jumps out of handlers: what runs below is gone */
+
+void tracehost_back_to(char *top, char *signals)
+{
+	own.now.top = top;
+	if (own.now.signals != signals)
+		set_signals(signals);
+	tracehost_leave_runtime();
+}
+
+/* ---- the program's functions, called from the runtime */
+
+static char *stack_pointer(void *context) { return (char *)((ucontext_t *)context)->uc_mcontext.gregs[REG_RSP]; }
+
+/* The stack pointer of what the runtime has interrupted, or that has called it. */
+static char *program_stack(void)
+{
+	if (own.now.context != NULL)
+		return stack_pointer(own.now.context);
+	return own.now.inside ? (char *)(own.now.frame->at + 1) : NULL;
+}
+
+static int is_on(const stack_t *stack, const char *at)
+{
+	const char *from = stack->ss_sp;
+	return from != NULL && at >= from && at < from + stack->ss_size;
+}
+
+/* Calls and signals that come while the program's function runs begin below what runs now. */
+static void lower(void)
+{
+	char *here = __builtin_frame_address(0);
+	if (is_for_calls(here))
+		own.now.top = aligned(here - BETWEEN);
+	else if (own.now.interrupted != NULL) {
+		set_signals(aligned(here - BETWEEN));
+		if (is_for_calls(stack_pointer(own.now.interrupted)))
+			own.now.top = aligned(stack_pointer(own.now.interrupted) - BETWEEN);
+	}
+}
+
+void tracehost_call_program(struct outcall *call, int on_other_stack)
+{
+	const struct now before = own.now;
+	char *stack = program_stack();
+	call->frame_pointer = own.now.context != NULL ? (size_t)((ucontext_t *)own.now.context)->uc_mcontext.gregs[REG_RBP]
+		: own.now.inside ? own.now.frame->rbp : 0;
+	if (on_other_stack && own.other_stack.ss_sp != NULL && !is_on(&own.other_stack, stack))
+		call->stack = aligned((char *)own.other_stack.ss_sp + own.other_stack.ss_size);
+	else
+		call->stack = aligned((stack != NULL ? stack : (char *)__builtin_frame_address(0) - BETWEEN) - RED_ZONE);
+	lower();
+	tracehost_leave_runtime();
+	own.busy = 0;
+	tracehost_on_stack(call);
+	own.busy = 1;
+	own.now = before;
+}
+
+/* ---- sigaltstack(2) */
+
+int tracehost_sigaltstack(const stack_t *new, stack_t *old)
+{
+	const stack_t before = own.other_stack;
+	int on = is_on(&before, program_stack());
+	ask("call %d", SYSCALL_SIGALTSTACK);
+	if (new != NULL && (on || (new->ss_flags & ~BSD_SS_DISABLE) != 0)) {
+		errno = on ? EPERM : EINVAL;
+		return -1;
+	}
+	if (new != NULL && !(new->ss_flags & BSD_SS_DISABLE) && new->ss_size < SMALLEST) {
+		errno = ENOMEM;
+		return -1;
+	}
+	if (old != NULL) {
+		*old = before;
+		old->ss_flags = before.ss_sp == NULL ? BSD_SS_DISABLE : on ? BSD_SS_ONSTACK : 0;
+	}
+	if (new != NULL)
+		own.other_stack = new->ss_flags & BSD_SS_DISABLE ? (stack_t){0} : *new;
+	return 0;
+}

@@ -1,0 +1,23 @@
+/* A thread with a stack of PTHREAD_STACK_MIN.
+ * prints: ok
+ * schedules: 40 */
+#include <pthread.h>
+#include <limits.h>
+#include <stdio.h>
+static void *t(void *a)
+{
+	return a;
+}
+int main(void)
+{
+	pthread_attr_t a;
+	pthread_t p;
+	pthread_attr_init(&a);
+	pthread_attr_setstacksize(&a, PTHREAD_STACK_MIN);
+	int r = pthread_create(&p, &a, t, 0);
+	if (r)
+		return 2;
+	pthread_join(p, 0);
+	puts("ok");
+	return 0;
+}

@@ -1,0 +1,32 @@
+/* Two threads wait for one signal each, and sleep before.
+ * prints: 2 */
+#include <pthread.h>
+#include <signal.h>
+#include <stdio.h>
+#include <unistd.h>
+static sigset_t s;
+static int n;
+static void *t(void *a)
+{
+	int g;
+	sigwait(&s, &g);
+	n++;
+	return 0;
+}
+int main(void)
+{
+	pthread_t p[2];
+	sigemptyset(&s);
+	sigaddset(&s, SIGUSR1);
+	pthread_sigmask(SIG_BLOCK, &s, 0);
+	for (int i = 0; i < 2; i++)
+		pthread_create(p + i, 0, t, 0);
+	sleep(1);
+	kill(getpid(), SIGUSR1);
+	sleep(1);
+	kill(getpid(), SIGUSR1);
+	for (int i = 0; i < 2; i++)
+		pthread_join(p[i], 0);
+	printf("%d\n", n);
+	return 0;
+}

@@ -1,0 +1,258 @@
+"""What failed tests leave: a folder for each, whatever its name, in one process and under xdist.
+
+    python3 -m pytest -p tracehost.pytest_plugin test_artifacts.py
+"""
+
+from __future__ import annotations
+
+import html
+import importlib.util
+import json
+import os
+import pathlib
+import subprocess
+import sys
+import xml.etree.ElementTree
+from collections.abc import Callable
+
+import pytest
+
+import tracehost
+
+PROGRAM = os.environ["TRACEHOST"]
+CLIENT = pathlib.Path(tracehost.__file__).resolve().parents[1]
+Runs = Callable[..., str]
+
+needs_xdist = pytest.mark.skipif(importlib.util.find_spec("xdist") is None, reason="there is no xdist")
+workers = [pytest.param((), id="one process"), pytest.param(("-n", "4"), id="xdist", marks=needs_xdist)]
+
+
+@pytest.fixture
+def runs(tmp_path: pathlib.Path) -> Runs:
+    """Runs pytest on a suite, and returns what it prints. Artifacts are left in `left`."""
+
+    def run(suite: str, *words: str, name: str = "test_suite.py", status: int = 1) -> str:
+        file = tmp_path / name
+        file.parent.mkdir(parents=True, exist_ok=True)
+        file.write_text(suite)
+        command = [sys.executable, "-m", "pytest", "-p", "tracehost.pytest_plugin", "-p", "no:cacheprovider", "-rN"]
+        command += ["--tracehost-artifacts", "left", f"--basetemp={tmp_path / 'base'}", *words, str(file)]
+        environment = {**os.environ, "PYTHONPATH": str(CLIENT), "COLUMNS": "200"}
+        environment.pop("HYPOTHESIS_STORAGE_DIRECTORY", None)
+        done = subprocess.run(command, cwd=tmp_path, env=environment, stdout=subprocess.PIPE, text=True)
+        assert done.returncode == status, done.stdout
+        return done.stdout
+
+    return run
+
+
+def folders(tmp_path: pathlib.Path) -> list[pathlib.Path]:
+    return sorted(path for path in (tmp_path / "left").iterdir() if path.name != ".hypothesis")
+
+
+def steps(folder: pathlib.Path) -> int:
+    """How many steps are left, whose lines the program prints again."""
+    scenario = folder / "session.json"
+    subprocess.run([PROGRAM, scenario, "--expect", folder / "session.out"], check=True)
+    return len(json.loads(scenario.read_text())["steps"])
+
+
+LONG = '''
+import pytest
+
+class TestFollowForkThroughSeveralGenerationsOfProcessesThatAreTracedByOneDebuggerWithThreads:
+    @pytest.mark.parametrize("n", range(64))
+    def test_a_child_is_reported_before_its_parent_whatever_the_order_of_turns(self, tracehost, n):
+        for _ in range(n + 1):
+            tracehost.user(1001).spawn()
+        assert n < 0
+'''
+
+
+@pytest.mark.parametrize("words", workers)
+def test_64_tests_whose_names_begin_alike(runs: Runs, tmp_path: pathlib.Path, words: tuple[str, ...]) -> None:
+    name = "integration/debuggers/of/some/deep/folder/test_follow_forks_of_a_debugger_with_threads.py"
+    text = runs(LONG, *words, name=name)
+    assert sorted(map(steps, folders(tmp_path))) == list(range(1, 65))
+    assert len({line for line in text.splitlines() if line.startswith("scenario: ")}) == 64
+
+
+ODD = '''
+import pytest
+
+@pytest.mark.parametrize("name", ["a+b", "a b", "a/b", "a|b", "a_b", "\\u00e9" * 150, "x" * 300, "x" * 301, "..", "\\u2028", ""])
+def test_s(tracehost, name):
+    tracehost.user(1001).spawn()
+    assert name is None
+'''
+
+
+@pytest.mark.parametrize("words", workers)
+def test_odd_names(runs: Runs, tmp_path: pathlib.Path, words: tuple[str, ...]) -> None:
+    text = runs(ODD, *words)
+    assert [steps(folder) for folder in folders(tmp_path)] == [1] * 11
+    assert text.count("session.html") == 11
+    assert all(name.name.isascii() and len(name.name) <= 100 for name in folders(tmp_path))
+
+
+def test_odd_names_without_artifacts(tmp_path: pathlib.Path) -> None:
+    (tmp_path / "test_suite.py").write_text(ODD)
+    command = [sys.executable, "-m", "pytest", "-p", "tracehost.pytest_plugin", "-p", "no:cacheprovider"]
+    environment = {**os.environ, "PYTHONPATH": str(CLIENT)}
+    base = tmp_path / "base"
+    subprocess.run([*command, f"--basetemp={base}"], cwd=tmp_path, env=environment, stdout=subprocess.DEVNULL)
+    assert len({path.resolve() for path in base.glob("*/session.html")}) == 11
+
+
+def test_failures_of_fixtures(runs: Runs, tmp_path: pathlib.Path) -> None:
+    """In setup and in teardown a session is left too, and a page."""
+    text = runs('''
+import pytest
+
+@pytest.fixture
+def prepared(tracehost):
+    tracehost.user(1001).spawn()
+    raise RuntimeError("no debugger")
+
+@pytest.fixture
+def tidied(tracehost):
+    yield tracehost
+    raise RuntimeError("a target is left")
+
+def test_setup(prepared): pass
+
+def test_teardown(tidied):
+    tidied.user(1001).spawn()
+    tidied.user(1001).spawn()
+''')
+    by_name = {folder.name.rsplit("test_", 1)[1]: steps(folder) for folder in folders(tmp_path)}
+    assert by_name == {"setup": 1, "teardown": 2}
+    assert text.count("scenario: ") == 2 and text.count("session.html") == 2
+
+
+def test_stale_files_go(runs: Runs, tmp_path: pathlib.Path) -> None:
+    """A page is that of the run: none is left of a test that passes now, or starts no session."""
+    suite = "def test_one(new_tracehost):\n    new_tracehost().user(1001).spawn()\n    assert {}\n"
+    runs(suite.format("False"))
+    (folder,) = folders(tmp_path)
+    assert sorted(path.name for path in folder.iterdir()) == ["session.html", "session.json", "session.out"]
+    (folder / "mine.txt").write_text("a file of somebody else")
+    runs(suite.format("True"), status=0)
+    assert sorted(path.name for path in folder.iterdir()) == ["mine.txt", "session.json", "session.out"]
+    runs("def test_one(new_tracehost): pass\n", status=0)
+    assert [path.name for path in folder.iterdir()] == ["mine.txt"]
+
+
+def test_open_sessions_are_closed_at_the_end_of_a_test(runs: Runs) -> None:
+    """50 sessions over a pipe in each of 10 tests, with room for 150 descriptors."""
+    runs('''
+import os, resource, pathlib
+import pytest
+
+resource.setrlimit(resource.RLIMIT_NOFILE, (350, 350))
+kept = []
+
+def children():
+    return len(pathlib.Path(f"/proc/self/task/{os.getpid()}/children").read_text().split())
+
+@pytest.mark.parametrize("n", range(10))
+def test_many(new_tracehost, n):
+    assert children() == 0
+    for k in range(50):
+        host = new_tracehost(f"session_{k}", transport="pipe")
+        host.user(1001).spawn()
+        kept.append(host)
+    assert children() == 50
+''', status=0)
+
+
+def test_a_second_session_of_a_name(runs: Runs, tmp_path: pathlib.Path) -> None:
+    """It takes the first one's place in the record; the first one goes on."""
+    runs('''
+def test_two(new_tracehost):
+    first = new_tracehost()
+    first.user(1001).spawn()
+    second = new_tracehost()
+    for _ in range(3):
+        second.user(1001).spawn()
+        first.user(1001).spawn()
+    assert first.user(1001).spawn().pid == 1004
+    assert False
+''')
+    (folder,) = folders(tmp_path)
+    assert steps(folder) == 3
+
+
+def test_the_page_has_the_test_and_its_assertion(runs: Runs, tmp_path: pathlib.Path) -> None:
+    runs('''
+def test_one(tracehost):
+    user = tracehost.user(1001)
+    assert user.process(user.spawn()).list() == (1000, 1001)
+
+def test_two(tracehost):
+    tracehost.user(1001).spawn()
+    raise ValueError("<b>second</b>")
+''')
+    titles = []
+    for folder in folders(tmp_path):
+        page = (folder / "session.html").read_text()
+        data = page.split('id="embedded">', 1)[1].split("</script>", 1)[0]
+        titles.append(json.loads(html.unescape(data))["title"])
+    assert sorted(titles) == [
+        "test_suite.py::test_one: assert (1000,) == (1000, 1001)",
+        "test_suite.py::test_two: ValueError: <b>second</b>",
+    ]
+
+
+@pytest.mark.parametrize("words", workers)
+def test_the_property_in_junit_xml(runs: Runs, tmp_path: pathlib.Path, words: tuple[str, ...]) -> None:
+    runs('''
+import pytest
+
+@pytest.fixture
+def tidied(tracehost):
+    yield tracehost
+    raise RuntimeError("left")
+
+def test_call(tracehost):
+    assert tracehost.user(1001).spawn() is None
+
+def test_teardown(tidied):
+    pass
+
+def test_passes(tracehost):
+    pass
+''', *words, "--junit-xml=junit.xml")
+    cases = xml.etree.ElementTree.parse(tmp_path / "junit.xml").iter("testcase")
+    pages = {
+        case.attrib["name"]: [p.attrib["value"] for p in case.iter("property") if p.attrib["name"] == "tracehost_page"]
+        for case in cases
+    }
+    assert pages["test_passes"] == []
+    for name in ("test_call", "test_teardown"):
+        (page,) = pages[name]
+        assert pathlib.Path(page).exists() and name in page
+
+
+def test_the_database_of_hypothesis_is_beside_the_artifacts(runs: Runs, tmp_path: pathlib.Path) -> None:
+    runs('''
+from hypothesis import given, strategies as st
+
+@given(n=st.integers(0, 1000))
+def test_n(new_tracehost, n):
+    new_tracehost().user(1001).spawn()
+    assert n < 10
+''')
+    assert list((tmp_path / "left" / ".hypothesis" / "examples").rglob("*"))
+    assert not (tmp_path / ".hypothesis" / "examples").exists()
+
+
+def test_a_test_that_changes_the_folder(runs: Runs, tmp_path: pathlib.Path) -> None:
+    (tmp_path / "other").mkdir()
+    runs('''
+def test_one(monkeypatch, request):
+    monkeypatch.chdir("other")
+    request.getfixturevalue("tracehost").user(1001).spawn()
+    assert False
+''')
+    assert [steps(folder) for folder in folders(tmp_path)] == [1]

@@ -1,0 +1,322 @@
+"""What an errno says: the call, and the condition of docs/FORMAT.md that held.
+
+Sessions of random steps go through the library and a pipe. Each answer is compared with the conditions of
+`tracehost.refusals`, looked up in the user's rows: the first that holds has the errno, and none holds for a step that
+was done.
+"""
+
+from __future__ import annotations
+
+import errno
+import pathlib
+import random
+import re
+import sys
+from collections.abc import Callable, Iterator, Sequence
+from typing import Any, Literal
+
+import pytest
+
+sys.path.insert(0, str(pathlib.Path(__file__).resolve().parents[1]))
+from tracehost import Action, Call, Compute, Decision, Enter, Held, Host, Leave, Raise, Request, Rule, Signal
+from tracehost.names import CALLER_OPS
+from tracehost.refusals import Asked, Rows, asked_by, causes
+
+FORMAT = pathlib.Path(__file__).resolve().parents[3] / "docs" / "FORMAT.md"
+TRANSPORTS: list[Literal["library", "pipe"]] = ["library", "pipe"]
+Step = dict[str, Any]
+
+
+# ---- sessions of random steps
+
+
+class Chance(random.Random):
+    """Numbers of a user, most of them those of the first few processes and LWPs."""
+
+    def of_user(self, uid: int) -> Chance:
+        self.first_pid, self.first_lwp = (uid - 1000) * 1000, 100_000 + (uid - 1001) * 4000
+        return self
+
+    def pid(self) -> int:
+        return self.choice((self.first_pid, *(self.first_pid + n for n in range(7)), 1, 99))
+
+    def lwp(self) -> int:
+        return self.first_lwp + self.randrange(9)
+
+    def signal(self) -> int:
+        return self.choice((0, 1, 9, 15, 17, 19, 20, 31, 32))
+
+
+def random_step(chance: Chance) -> Step:
+    """A step of one of two users."""
+    uid = chance.choice((1001, 1001, 1001, 1002))
+    chance.of_user(uid)
+    op = chance.choice(("spawn", "turn", "turn", "turn", "ptrace", "ptrace", "ptrace", *CALLER_OPS))
+    if op == "spawn":
+        return {"user": uid, "op": op}
+    if op == "turn":
+        return {"user": uid, "op": op, "lwp": chance.lwp(), **random_act(chance)}
+    return {"user": uid, "op": op, "caller": chance.pid(), **random_arguments(op, chance)}
+
+
+def random_act(chance: Chance) -> Step:
+    act = chance.choice(("compute", "raise", "block", "enter", "enter", "leave", "leave"))
+    if act == "raise":
+        return {"act": act, "signal": chance.signal()}
+    if act == "block":
+        return {"act": act, "set": [chance.randint(1, 31)]}
+    if act == "enter":
+        call = chance.choice(list(Call))
+        code = {"code": 7} if call in (Call.EXIT, Call.OTHER) else {}
+        return {"act": act, "call": call.value, **code}
+    return {"act": act}
+
+
+def random_arguments(op: str, chance: Chance) -> Step:
+    if op == "ptrace":
+        request = chance.choice([*Request, Request.PT_ATTACH, Request.PT_ATTACH, Request.PT_CONTINUE])
+        target = {} if request == Request.PT_TRACE_ME else {"target": chance.choice((chance.pid(), chance.lwp()))}
+        more: Step = {"data": chance.signal()} if target else {}
+        if request == Request.PT_SET_EVENT_MASK:
+            more = {"mask": ["PTRACE_FORK", "PTRACE_LWP"]}
+        return {"request": request.name, **target, **more}
+    pid = chance.pid()
+    arguments: dict[str, Step] = {
+        "wait4": {"which": chance.choice((-1, -1, -2, 0, pid))},
+        "kill": {"which": chance.choice((-1, -2, 0, pid, pid, pid)), "signal": chance.signal()},
+        "sigaction": {"signal": chance.signal(), "action": chance.choice(("default", "ignore", "catch"))},
+        "install": {"rules": [{"decision": "continue"}]},
+    }
+    return arguments.get(op, {})
+
+
+def first_cause(host: Host, asked: Asked) -> str | None:
+    """The errno of the first condition that holds."""
+    rows = Rows(host._rows(asked.uid))
+    return next((cause.errno for cause in causes(asked) if cause.holds(asked, rows)), None)
+
+
+@pytest.mark.parametrize("transport, sessions", [("library", 120), ("pipe", 10)])
+def test_the_first_condition_that_holds_gives_the_errno(transport: Literal["library", "pipe"], sessions: int) -> None:
+    met: set[str] = set()
+    for seed in range(sessions):
+        chance = Chance(seed)
+        with Host(transport=transport) as host:
+            for _ in range(250):
+                step = random_step(chance)
+                asked = asked_by(step)
+                unknowable = asked.op == "install"  # rows have no stop handlers
+                before = None if unknowable else first_cause(host, asked)
+                try:
+                    words = host.step(step).split()
+                except Held:
+                    continue
+                except OSError as error:
+                    name = errno.errorcode[error.errno or 0]
+                    assert unknowable or before == name, (seed, step, str(error))
+                    assert f": {name}, " in str(error)
+                    met.add(f"{asked.op} {name}: " + re.sub(r"\d+", "N", str(error).split(f"{name}, ")[1]))
+                    continue
+                if words[2] in ("stopped", "caught", "ended") and asked.op == "turn":
+                    continue  # in place of the act
+                assert unknowable or before is None, (seed, step, words)
+    if transport == "library":
+        print("\n".join(sorted(met)))
+        assert len(met) >= 30, sorted(met)
+
+
+# ---- the texts
+
+
+def told(call: Callable[[], object]) -> str:
+    with pytest.raises(OSError) as caught:
+        call()
+    assert str(caught.value).startswith(f"[Errno {caught.value.errno}] ")
+    return str(caught.value).split("] ", 1)[1]
+
+
+@pytest.fixture(params=TRANSPORTS)
+def host(request: pytest.FixtureRequest) -> Iterator[Host]:
+    with Host(transport=request.param) as made:
+        yield made
+
+
+def test_each_call_and_why(host: Host) -> None:
+    user = host.user(1001)
+    one, two = user.process(user.spawn()), user.spawn()
+    three = user.process(user.spawn())
+    turn, ptrace = user.turn, one.ptrace
+    assert told(lambda: ptrace(Request.PT_CONTINUE, 1005)) == (
+        "ptrace(PT_CONTINUE, 1005) by 1000: ESRCH, user 1001 has no process 1005"
+    )
+    assert told(lambda: ptrace(Request.PT_LWPINFO, 100009)) == (
+        "ptrace(PT_LWPINFO, 100009) by 1000: ESRCH, user 1001 has no LWP 100009"
+    )
+    assert told(lambda: user.process(1005).list()) == "list() by 1005: ESRCH, 1005 isn't a live process of user 1001"
+    assert told(lambda: ptrace(Request.PT_DETACH, 1001, 9)) == (
+        "ptrace(PT_DETACH, 1001, SIGKILL) by 1000: EPERM, 1001 isn't traced"
+    )
+    assert told(lambda: ptrace(Request.PT_TRACE_ME)) == "ptrace(PT_TRACE_ME) by 1000: EPERM, the parent of 1000 is process 1"
+    assert told(lambda: ptrace(Request.PT_ATTACH, 1000)).endswith("EINVAL, a process can't trace itself")
+    ptrace(Request.PT_ATTACH, 1001)
+    assert told(lambda: ptrace(Request.PT_CONTINUE, 1001)) == (
+        "ptrace(PT_CONTINUE, 1001) by 1000: EBUSY, no wait has reported the stop of 1001"
+    )
+    assert told(lambda: three.ptrace(Request.PT_ATTACH, 1001)).endswith("by 1002: EBUSY, 1001 is traced already")
+    assert told(lambda: three.ptrace(Request.PT_KILL, 1001)).endswith("EBUSY, another process traces 1001")
+    one.wait4()
+    assert told(lambda: ptrace(Request.PT_CONTINUE, 1001, 32)) == (
+        "ptrace(PT_CONTINUE, 1001, 32) by 1000: EINVAL, 32 is no signal"
+    )
+    assert told(lambda: ptrace(Request.PT_GETLWPLIST, 1001, 0)).endswith("EINVAL, data is 0, and has to be how many LWPs to list")
+    assert told(lambda: ptrace(Request.PT_SET_EVENT_MASK, 1001, 0x41)) == (
+        "ptrace(PT_SET_EVENT_MASK, 1001, 0x41) by 1000: EINVAL, an event of the mask has no name"
+    )
+    ptrace(Request.PT_CONTINUE, 1001)
+    assert told(lambda: ptrace(Request.PT_CONTINUE, 1001)).endswith("EBUSY, 1001 is in no trace stop")
+    assert told(lambda: one.wait4(0)) == "wait4(0) by 1000: EINVAL, which is 0, and there are no process groups"
+    assert told(lambda: one.wait4(1002)).endswith("ECHILD, 1002 is neither a child of 1000 nor traced by it")
+    assert told(lambda: three.handle()) == "handle() by 1002: ECHILD, 1002 has no child and traces no process"
+    assert told(lambda: one.kill(1005, Signal.SIGTERM)) == "kill(1005, SIGTERM) by 1000: ESRCH, user 1001 has no process 1005"
+    assert told(lambda: one.kill(1001, 77)) == "kill(1001, 77) by 1000: EINVAL, 77 is no signal"
+    assert told(lambda: one.sigaction(Signal.SIGKILL, Action.CATCH)) == (
+        "sigaction(SIGKILL, CATCH) by 1000: EINVAL, 9 is SIGKILL or SIGSTOP, which can be neither caught nor ignored"
+    )
+    assert told(lambda: turn(two.tid, Leave())) == "turn(100001, Leave()) by user 1001: EINVAL, LWP 100001 is in no system call"
+    turn(two.tid, Enter(Call.OTHER, 4))
+    assert told(lambda: turn(two.tid, Compute())).endswith("EINVAL, LWP 100001 is in a system call, which it has to leave first")
+    assert told(lambda: turn(100077, Compute())).endswith("ESRCH, user 1001 has no LWP 100077")
+    assert told(lambda: turn(100002, Raise(32))) == "turn(100002, Raise(32)) by user 1001: EINVAL, 32 is no signal"
+    assert told(lambda: host.step({"user": 1001, "op": "kill", "caller": 1000, "which": 0, "signal": 9})) == (
+        "kill(0, SIGKILL) by 1000: EINVAL, which is 0, and there are no process groups"
+    )
+
+
+def test_limits(host: Host) -> None:
+    user = host.user(1002)
+    first = user.spawn()
+    process = user.process(first)
+    for _ in range(64):
+        process.install([])
+    assert told(lambda: process.install([Rule(Decision.LEAVE)])) == (
+        "install(1 rules) by 2000: EAGAIN, user 1002 has 64 stop handlers"
+    )
+    user.turn(first.tid, Enter(Call.FORK))
+    for _ in range(249):
+        user.spawn()
+    assert told(user.spawn) == "spawn() by user 1002: EAGAIN, user 1002 has 250 processes"
+    assert told(lambda: user.turn(first.tid, Leave())) == (
+        "turn(104000, Leave()) by user 1002: EAGAIN, user 1002 has 250 processes"
+    )
+
+
+def test_the_limit_of_lwps(host: Host) -> None:
+    user = host.user(1001)
+    lwp = user.spawn().tid
+    for _ in range(999):
+        user.turn(lwp, Enter(Call.THR_NEW))
+        user.turn(lwp, Leave())
+    assert told(user.spawn) == "spawn() by user 1001: EAGAIN, user 1001 has 1000 LWPs"
+
+
+def test_an_ended_target_and_cycles(host: Host) -> None:
+    user = host.user(1001)
+    parent, child = user.spawn(), 1001
+    user.turn(parent.tid, Enter(Call.FORK))
+    user.turn(parent.tid, Leave())
+    debugger = user.process(parent)
+    user.process(child).ptrace(Request.PT_ATTACH, parent.pid)
+    user.process(child).wait4()
+    user.process(child).ptrace(Request.PT_CONTINUE, parent.pid)
+    assert told(lambda: user.process(child).ptrace(Request.PT_TRACE_ME)) == (
+        "ptrace(PT_TRACE_ME) by 1001: EINVAL, 1001 traces its parent, directly or through others"
+    )
+    assert told(lambda: debugger.ptrace(Request.PT_ATTACH, child)).endswith(
+        "EINVAL, 1001 traces 1000, directly or through others"
+    )
+
+
+def test_a_target_that_has_ended(host: Host) -> None:
+    user = host.user(1001)
+    parent = user.spawn()
+    user.turn(parent.tid, Enter(Call.FORK))
+    user.turn(parent.tid, Leave())
+    user.process(parent).kill(1001, Signal.SIGKILL)
+    assert told(lambda: user.process(parent).ptrace(Request.PT_ATTACH, 1001)).endswith("ESRCH, 1001 has ended")
+
+
+def test_without_rows_each_possible_condition_is_told(monkeypatch: pytest.MonkeyPatch) -> None:
+    monkeypatch.setenv("TRACEHOST_LIBRARY", "/nowhere/libtracehost.so")
+    with Host(transport="pipe") as session:
+        user = session.user(1001)
+        debugger = user.process(user.spawn())
+        user.spawn()
+        debugger.ptrace(Request.PT_ATTACH, 1001)
+        assert told(lambda: debugger.ptrace(Request.PT_STEP, 1001)) == (
+            "ptrace(PT_STEP, 1001) by 1000: EBUSY, another process traces 1001, or 1001 is in no trace stop, or no wait has"
+            " reported the stop of 1001"
+        )
+
+
+# ---- against the tables of docs/FORMAT.md
+
+
+def table(heading: str, after: str) -> list[list[str]]:
+    """The rows of the first table behind a heading, without the head. An empty first cell repeats the one above."""
+    text = FORMAT.read_text(encoding="utf-8").split(after, 1)[1].split(heading, 1)[1]
+    lines = re.search(r"(?:^\|.*\n)+", text, re.MULTILINE)
+    assert lines is not None
+    rows = [[cell.strip() for cell in line.strip("|\n").split("|")] for line in lines[0].splitlines()[2:]]
+    for above, row in zip(rows, rows[1:]):
+        row[0] = row[0] or above[0]
+    return rows
+
+
+def errnos(asked: Asked) -> list[str]:
+    """The errnos of the call's conditions, each once, in order; those of its caller aside."""
+    names = [cause.errno for cause in causes(asked)][1 if asked.caller else 0 :]
+    return [name for n, name in enumerate(names) if n == 0 or names[n - 1] != name]
+
+
+def test_the_table_of_requests() -> None:
+    rows = table("### Errors", "## 3. Requests")
+    passing = {"PT_CONTINUE", "PT_STEP", "PT_TO_SCE", "PT_TO_SCX", "PT_SYSCALL", "PT_DETACH"}
+    for request in Request:
+        name = request.name
+        wanted = []
+        for who, code, _ in rows:
+            applies = {
+                "`PT_TRACE_ME`": name == "PT_TRACE_ME",
+                "all others": name != "PT_TRACE_ME",
+                "`PT_ATTACH`": name == "PT_ATTACH",
+                "all but these two": name not in ("PT_TRACE_ME", "PT_ATTACH"),
+                "those that pass on a signal": name in passing,
+                "`PT_GETLWPLIST`": name == "PT_GETLWPLIST",
+            }[who]
+            if applies:
+                wanted.append(code)
+        data = 0 if name == "PT_GETLWPLIST" else 77 if name in passing else 1
+        assert errnos(Asked("ptrace", 1001, 1000, (request, 1001, data))) == wanted, name
+
+
+def test_the_table_of_ops() -> None:
+    faulty: dict[str, Sequence[Any]] = {
+        "spawn": (),
+        "wait4": (0, 0),
+        "kill": (0, 77),
+        "sigaction": (0, Action.CATCH),
+        "install": ([],),
+        "handle": (),
+        "list": (),
+    }
+    rows = table("### Errors", "## 2. Steps")
+    for op, arguments in faulty.items():
+        wanted = [code for who, code, _ in rows if who == f"`{op}`"]
+        assert errnos(Asked(op, 1001, 0 if op == "spawn" else 1000, arguments)) == wanted, op
+
+
+def test_the_table_of_turns() -> None:
+    wanted = [row[0] for row in table("\n4. ", "## 4. Turns")]
+    assert wanted == ["ESRCH", "EINVAL", "EAGAIN"]
+    assert errnos(Asked("turn", 1001, 0, (100000, Leave()))) == wanted
+    assert errnos(Asked("turn", 1001, 0, (100000, Raise(32)))) == wanted[:2]

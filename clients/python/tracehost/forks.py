@@ -1,0 +1,30 @@
+"""What fork(2) does to sessions: the child gets told, so that it never uses what is its parent's."""
+
+from __future__ import annotations
+
+import os
+import weakref
+from typing import Protocol
+
+
+class Inherited(Protocol):
+    """What a forked child has a copy of."""
+
+    def in_child(self) -> None:
+        """Called in the child, whose only thread is the one that called fork."""
+
+
+_all: weakref.WeakSet[Inherited] = weakref.WeakSet()
+
+
+def tell(thing: Inherited) -> None:
+    """From now on a forked child calls the thing's `in_child`."""
+    _all.add(thing)
+
+
+def _tell_all() -> None:
+    for thing in list(_all):
+        thing.in_child()
+
+
+os.register_at_fork(after_in_child=_tell_all)

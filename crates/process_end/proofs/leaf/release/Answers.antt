@@ -1,9 +1,0 @@
-use Rattle.process_end.proofs.CommonNames.{rules, ◌==◌, released}
-use Rattle.process_end.proofs.LwpEdits.{released-tid, released-pid}
-use Rattle.process_end.proofs.leaf.release.Goals as goal
-
-pub edit_lwps-requires-clause-change : goal.edit_lwps-requires-clause-change
-edit_lwps-requires-clause-change c = (released (λ n. n == c.args.child) c.args.process.now, search (rules, released-tid, released-pid))
-
-pub returns : goal.returns
-returns c = c.edit_lwps.ensures.rows (released (λ n. n == c.args.child) c.args.process.now) (λ l k there returned. search rules)

@@ -1,0 +1,5 @@
+pub mod CommonNames
+pub mod BindLemmas
+pub mod WriteLemmas
+pub mod LineLemmas
+pub mod RunLemmas

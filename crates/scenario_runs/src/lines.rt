@@ -1,0 +1,146 @@
+//! The lines of replies.
+ghost use Rattle.std.specs.Prelude.{◌≡◌, ◌+◌, ◌-◌, ◌^◌, ◌<◌, ◌≤◌, ◌++◌, ◌==◌, ℕ, map, Option, IfOk, OnOk, string_bytes, slice_index, slice_set};
+ghost use Rattle.pid_blocks.specs.Blocks.{slot};
+ghost use Rattle.scenario_runs.specs.Lines.{line, shown_line};
+ghost use Rattle.scenario_runs.specs.declared.style.Style.TheVariants as style;
+ghost use Rattle.scenario_runs.specs.Runs.{answered, shown};
+
+use crate::running::{LineOptions, RunOptions};
+use crate::short_lines::{ROOM, push_short};
+use crate::style::Style;
+use arrayvec::ArrayString;
+use itoa::Buffer;
+use pid_blocks::Uid;
+use reply_json::ObjectWriter;
+use requests::Reply;
+use scenario_text::USERS;
+use std::alloc::{AllocError, Global};
+
+/// Adds the line of a reply as text.
+fn push_text(text: &mut String, uid: Uid, number: u64, reply: &Reply) -> Result<(), AllocError>
+    ensures { OnOk result (string_bytes text.new
+        ≡ string_bytes text.old ++ (line style.Text number (answered (uid, reply.now))).text) }
+{
+    let mut digits = Buffer::new();
+    let mut line = ArrayString::<ROOM>::new();
+    line.push_str(digits.format(uid.get()));
+    line.push_str(" ");
+    line.push_str(digits.format(number));
+    if push_short(&mut line, reply) {
+        return text.push_str(line.as_str());
+    }
+    text.push_str(line.as_str())?;
+    writeln!(text, " {reply}")?;
+    Ok(())
+}
+
+/// Adds the line of a reply as a JSON object.
+fn push_object(
+    alloc: Global,
+    objects: &mut ObjectWriter,
+    text: &mut String,
+    uid: Uid,
+    number: u64,
+    reply: &Reply,
+) -> Result<(), AllocError>
+    ensures { OnOk result (string_bytes text.new
+        ≡ string_bytes text.old ++ (line style.Json number (answered (uid, reply.now))).text) }
+{
+    objects.push_reply(alloc, text, uid, number, reply)?;
+    text.push_str("\n")
+}
+
+/// Adds the line of the user's reply with this number. A JSON line is put together in `objects`.
+pub fn push_line(
+    alloc: Global,
+    style: Style,
+    objects: &mut ObjectWriter,
+    text: &mut String,
+    uid: Uid,
+    number: u64,
+    reply: &Reply,
+) -> Result<(), AllocError>
+    ensures { OnOk result (string_bytes text.new
+        ≡ string_bytes text.old ++ (line style number (answered (uid, reply.now))).text) }
+{
+    match style {
+        Style::Text => push_text(text, uid, number, reply),
+        Style::Json => push_object(alloc, objects, text, uid, number, reply),
+    }
+}
+
+/// Adds the line of a reply, if the options show it.
+pub fn push_shown(
+    alloc: Global,
+    options: &LineOptions,
+    objects: &mut ObjectWriter,
+    text: &mut String,
+    uid: Uid,
+    number: u64,
+    reply: &Reply,
+) -> Result<(), AllocError>
+    ensures { OnOk result (string_bytes text.new
+        ≡ string_bytes text.old ++ shown_line options.now.user (line options.now.style number (answered (uid, reply.now)))) }
+{
+    let is_shown = match options.user {
+        Some(user) => uid == user,
+        None => true,
+    };
+    if is_shown {
+        push_line(alloc, options.style, objects, text, uid, number, reply)?;
+    }
+    Ok(())
+}
+
+/// Counts one more reply of the user, and returns the new count.
+pub fn count_reply(made: &mut [u64; USERS], uid: Uid) -> u64
+    requires { (k : ℕ) → slice_index made.old k + 1 < 2 ^ 64 }
+    ensures range { (1001 ≤ uid) × (uid ≤ 1064) }
+    ensures number { result ≡ slice_index made.old (uid - 1001) + 1 }
+    ensures after { made.new ≡ slice_set made.old (uid - 1001) result }
+{
+    let slot = uid.slot();
+    let _user = uid.get();
+    made[slot] += 1;
+    made[slot]
+}
+
+/// Returns the text of the replies in order, in the style of the options. Each has a line with its user and the user's
+/// own step number. If the options name a user, the text has only that user's lines. An error means out of memory.
+pub fn render_with(
+    alloc: Global,
+    replies: &[(Uid, Reply)],
+    options: LineOptions,
+) -> Result<String, AllocError>
+    ensures { IfOk result (λ s. string_bytes s ≡ shown options.style options.user (map answered replies.now)) }
+{
+    let mut text = String::new(alloc);
+    let mut objects = ObjectWriter::new(alloc);
+    let mut made = [0u64; USERS];
+    for reply in replies {
+        let number = count_reply(&mut made, reply.0);
+        push_shown(
+            alloc,
+            &options,
+            &mut objects,
+            &mut text,
+            reply.0,
+            number,
+            &reply.1,
+        )?;
+    }
+    Ok(text)
+}
+
+/// Returns the text of the replies in order, in words. Each has a line with its user and the user's own step number. If
+/// a user is named, the text has only that user's lines. An error means out of memory.
+pub fn render(
+    alloc: Global,
+    replies: &[(Uid, Reply)],
+    user: Option<Uid>,
+) -> Result<String, AllocError>
+    ensures { IfOk result (λ s. string_bytes s ≡ shown style.Text user (map answered replies.now)) }
+{
+    let options = LineOptions::in_words(RunOptions { user });
+    render_with(alloc, replies, options)
+}

@@ -1,6 +1,0 @@
-use Rattle.std.proofs.Common.{◌≡◌, ◌++◌, map, Some}
-use Rattle.threaded_runs.proofs.CommonNames.{into_iter_items, text_in}
-use Rattle.threaded_runs.proofs.threading.texts_of.Given as goal
-
-abbrev pub invariant-loop-transcript : goal.invariant-loop-transcript
-invariant-loop-transcript l = map (λ text. Some text) l.texts.items ++ map text_in (into_iter_items l.transcript-iterator) ≡ map text_in l.fn.transcripts.items

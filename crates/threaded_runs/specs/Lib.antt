@@ -1,3 +1,0 @@
-pub mod Grouped
-pub mod Unseen
-pub mod Scripts

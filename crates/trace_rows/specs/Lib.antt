@@ -1,0 +1,12 @@
+pub mod CommonNames
+pub mod Limits
+pub mod Post
+pub mod Detach
+pub mod End
+pub mod Stop
+pub mod Sound
+pub mod Facts
+pub mod Laws
+pub mod Reports
+pub mod Edits
+pub mod Before

@@ -1,0 +1,114 @@
+//! Signals posted to live processes and their LWPs, as kill(2) and thr_kill(2) post them.
+
+ghost use Rattle.std.specs.Prelude.{◌≡◌, ◌∷◌, [], None, Some, true, is_none};
+ghost use Rattle.proc_table.specs.Processes.{process_of};
+ghost use Rattle.proc_table.specs.Rows.{change, is_numbered};
+ghost use Rattle.proc_table.specs.Kept.{IsRow};
+ghost use Rattle.trace_rows.specs.declared.edits.Edit.TheVariants as edit;
+ghost use Rattle.trace_rows.specs.Facts.{IsSound};
+ghost use Rattle.trace_rows.specs.Before.{IsSoundButPending, MayTell};
+ghost use Rattle.trace_rows.specs.Post.{unwanted, continues, settle, posted_set, posted_process, posted_lwp, notified, notifies, posted};
+ghost use Rattle.trace_rows.specs.Stop.{tracers};
+
+use crate::edits::{Edit, add_pending, edit_lwps};
+use pid_blocks::{Pid, Tid};
+use proc_table::{ProcData, State, Tables};
+use signals::{SigSet, Signal};
+
+/// Returns the signals that an untraced process's pending sets lose, since their action is nothing.
+pub fn unwanted(p: &ProcData) -> SigSet
+    ensures { result ≡ unwanted p.now }
+{
+    if p.tracer.is_some() {
+        SigSet::empty()
+    } else {
+        p.dispositions.nothing()
+    }
+}
+
+/// Removes the signals whose action is nothing from an untraced process's pending sets.
+#[tactic(auto, using(crate::proofs::Found::found_rows))]
+pub fn settle(tables: &mut Tables, pid: Pid)
+    requires there { IsRow tables.old.rows pid }
+    ensures rows { tables.new.rows ≡ settle pid tables.old.rows }
+    ensures sound { IsSoundButPending pid tables.old.rows → IsSound tables.new.rows }
+{
+    let p = tables.process(pid).unwrap();
+    let lost = unwanted(&p);
+    tables.set_pending(pid, p.pending.difference(lost));
+    edit_lwps(tables, pid, &Edit::Settle(lost));
+}
+
+/// Tests whether the signal continues the process, which job control has stopped.
+fn continues(signal: Signal, p: &ProcData) -> bool
+    ensures { result ≡ continues signal p.now }
+{
+    signal == Signal::CONT && matches!(p.state, State::Job { .. })
+}
+
+/// Returns the pending set of a process after the signal is posted to it, or to an LWP of it.
+fn posted_set(p: &ProcData, signal: Signal, to: &Option<Tid>) -> SigSet
+    ensures { result ≡ posted_set signal (is_none to.now) p.now p.now.pending }
+{
+    add_pending(p.pending, signal, to.is_none()).difference(unwanted(p))
+}
+
+/// Returns what the post of the signal changes in the LWPs of the process.
+fn posted_lwps(p: &ProcData, signal: Signal, to: &Option<Tid>) -> Edit
+    ensures { result ≡ edit.Post signal to.now (unwanted p.now) }
+{
+    Edit::Post {
+        signal,
+        to: *to,
+        lost: unwanted(p),
+    }
+}
+
+/// Puts a signal into the pending set of a process or of an LWP of it. SIGCONT continues a process that job
+/// control has stopped. Then the result is the process's parent, which the caller notifies.
+#[tactic(auto, using(crate::proofs::Found::found_rows))]
+fn put(tables: &mut Tables, pid: Pid, signal: Signal, to: &Option<Tid>) -> Option<u32>
+    requires there { IsRow tables.old.rows pid }
+    ensures rows { tables.new.rows ≡ change (is_numbered pid) (posted_process signal to.now) (posted_lwp signal to.now) tables.old.rows }
+    ensures notifies { tracers result ≡ notifies signal (process_of pid tables.old.rows.processes) }
+{
+    let p = tables.process(pid).unwrap();
+    let pending = posted_set(&p, signal, to);
+    let edit = posted_lwps(&p, signal, to);
+    let parent = if continues(signal, &p) {
+        tables.set_process(ProcData {
+            state: State::Run,
+            continued: true,
+            pending,
+            ..p
+        });
+        Some(p.parent)
+    } else {
+        tables.set_pending(pid, pending);
+        None
+    };
+    edit_lwps(tables, pid, &edit);
+    parent
+}
+
+/// Posts SIGCHLD to the process with this number, if any.
+#[tactic(auto, using(crate::proofs::Notified::tells_none))]
+pub fn post_sigchld(tables: &mut Tables, number: u32)
+    ensures rows { tables.new.rows ≡ notified (number ∷ []) tables.old.rows }
+    ensures sound { IsSound tables.old.rows → MayTell tables.old.rows number → IsSound tables.new.rows }
+{
+    if let Some(p) = tables.process_by_number(number) {
+        let _ = put(tables, p.pid, Signal::CHLD, &None);
+    }
+}
+
+/// Posts a signal other than SIGKILL to a process, or to an LWP of it. Allocates nothing.
+#[tactic(auto, using(crate::proofs::Notified::tells_none))]
+pub fn post_other(tables: &mut Tables, pid: Pid, signal: Signal, to: &Option<Tid>)
+    requires { IsRow tables.old.rows pid }
+    ensures { tables.new.rows ≡ posted signal to.now pid tables.old.rows }
+{
+    if let Some(parent) = put(tables, pid, signal, to) {
+        post_sigchld(tables, parent);
+    }
+}

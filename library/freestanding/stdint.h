@@ -1,0 +1,6 @@
+typedef __UINT8_TYPE__ uint8_t;
+typedef __UINT32_TYPE__ uint32_t;
+typedef __UINT64_TYPE__ uint64_t;
+typedef __INT64_TYPE__ int64_t;
+#define UINT32_C(number) number##U
+#define UINT32_MAX 0xffffffffU

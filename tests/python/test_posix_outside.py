@@ -1,0 +1,173 @@
+"""A test suite that nobody here wrote: Debian's `posixtestsuite`, the Open POSIX Test Suite, on the model.
+
+Its source package is downloaded into a folder of its own, and nothing of it stays; `POSIXTESTSUITE` may name an unpacked
+one. Each program of the interfaces below runs plain and under 20 seeds. All have to pass, but for those of
+clients/posix/tests/OUTSIDE.txt, which have the result and the reason that it names. It takes a quarter of an hour: it runs if
+`TRACEHOST_OUTSIDE_SUITE` is 1. Where source packages can't be had the tests are skipped. Programs that would set the clock are left out, and nothing here runs as root.
+"""
+
+from __future__ import annotations
+
+import os
+import pathlib
+import re
+import shutil
+import subprocess
+import sys
+import tempfile
+from collections.abc import Iterator
+from concurrent.futures import ThreadPoolExecutor
+from typing import Any, NamedTuple
+
+import pytest
+
+TOP = pathlib.Path(__file__).resolve().parents[2]
+POSIX = TOP / "clients" / "posix"
+TABLE = POSIX / "tests" / "OUTSIDE.txt"
+SCHEDULES = 20
+PASSING = 1000
+"""At least so many pass plain."""
+INTERFACES = re.compile(
+    r"sig.*|raise|kill|killpg|fork|getpid|sem_.*|nanosleep|clock_.*|time|sched_yield|timer_.*"
+    r"|pthread_(atfork|create|join|exit|detach|kill|self|equal|once|key.*|[gs]etspecific|cleanup.*|mutex.*|cond.*|barrier.*"
+    r"|rwlock.*|spin.*|cancel|testcancel|setcancel.*|sigmask|attr_.*)"
+)
+SETS_THE_CLOCK = re.compile(r"clock_settime|settimeofday|adjtime")
+RESULTS = {"compile", "fail", "unresolved", "unsupported", "untested", "refused", "end", "deadlock", "hang", "slow", "seeds", "varies"}
+"""`seeds`: it passes plain, and fails under a seed. `varies`: with the machine or its load."""
+STATUSES = {"1": "fail", "255": "fail", "2": "unresolved", "4": "unsupported", "5": "untested"}
+SECONDS = 120
+APT = """\
+Dir::Etc::SourceList "{room}/sources.list"; Dir::Etc::SourceParts "/dev/null"; Dir::State "{room}/state"; Dir::Cache "{room}/cache";
+"""
+SOURCES = "deb-src [signed-by=/usr/share/keyrings/debian-archive-keyring.gpg] http://deb.debian.org/debian bookworm main\n"
+
+pytestmark = pytest.mark.skipif(
+    os.environ.get("TRACEHOST_OUTSIDE_SUITE") != "1",
+    reason="TRACEHOST_OUTSIDE_SUITE=1 runs the outside suite, in a quarter of an hour",
+)
+
+
+class Expected(NamedTuple):
+    result: str
+    reason: str
+
+
+def expected() -> dict[str, Expected]:
+    """The programs that don't simply pass."""
+    rows = (line.split() for line in TABLE.read_text().splitlines() if line and line[0] != "#")
+    return {name: Expected(result, reason) for name, result, reason in rows}
+
+
+class Outside:
+    """Runs commands as an unprivileged user, in a folder of that user's."""
+
+    def __init__(self, room: pathlib.Path) -> None:
+        self.room = room
+        program = os.environ.get("TRACEHOST", str(TOP / "release" / f"{os.uname().machine}-linux" / "tracehost"))
+        self._environment = dict(os.environ, HOME=str(room), TMPDIR=str(room), TRACEHOST=program, APT_CONFIG=str(room / "apt.conf"))
+        self._environment.pop("XDG_CACHE_HOME", None)
+        self._user: dict[str, Any] = {"user": "nobody", "group": "nogroup", "extra_groups": []} if os.geteuid() == 0 else {}
+        if self._user:
+            room.chmod(0o755)
+            shutil.chown(room, "nobody", "nogroup")
+
+    def run(self, words: list[object], seconds: float = SECONDS) -> subprocess.CompletedProcess[str]:
+        return subprocess.run(
+            [str(word) for word in words], capture_output=True, text=True, errors="replace", timeout=seconds,
+            cwd=self.room, env=self._environment, stdin=subprocess.DEVNULL, **self._user,
+        )  # fmt: skip
+
+    def source(self) -> pathlib.Path:
+        """The suite's folder, unpacked here."""
+        given = os.environ.get("POSIXTESTSUITE")
+        if given:
+            return pathlib.Path(given)
+        for command in ("apt-get", "dpkg-source"):
+            if shutil.which(command) is None:
+                pytest.skip(f"{command} isn't installed: no source packages")
+        for folder in ("state/lists/partial", "cache/archives/partial"):
+            self.run(["mkdir", "-p", folder])
+        (self.room / "sources.list").write_text(SOURCES)
+        (self.room / "apt.conf").write_text(APT.format(room=self.room))
+        for words in (["apt-get", "-q", "update"], ["apt-get", "-q", "source", "--download-only", "posixtestsuite"]):
+            done = self.run([*words], 300)
+            if done.returncode != 0:
+                pytest.skip(f"{' '.join(words)}: {done.stderr.strip()[-200:]}")
+        done = self.run(["sh", "-c", "dpkg-source -x posixtestsuite_*.dsc suite"])
+        assert done.returncode == 0, done.stderr
+        return self.room / "suite"
+
+
+def result(done: subprocess.CompletedProcess[str]) -> str:
+    """What came of a search of `tracehost-run`, in a word."""
+    if re.search(r"^tracehost-run: \d+ schedules passed", done.stderr, re.MULTILINE):
+        return "pass"  # also of one that makes no call, whose status is 4
+    why = re.search(r"fails under (the plain schedule|--seed \d+), after \d+ schedules that passed: (.*)", done.stderr)
+    if why is None:
+        return f"status {done.returncode}: {done.stderr.strip()[-300:]}"
+    if why[1] != "the plain schedule":
+        return "seeds"
+    exited = re.search(r"exited with status (\d+)", why[2])
+    if exited is not None:
+        return STATUSES.get(exited[1], why[2])
+    words = {"which isn't among the calls": "refused", "no end": "end", "deadlock": "deadlock", "hang": "hang"}
+    return next((word for text, word in words.items() if text in why[2]), why[2])
+
+
+def run_one(outside: Outside, suite: pathlib.Path, source: pathlib.Path) -> str:
+    """Compiles a program and runs it."""
+    program = outside.room / f"{source.parent.name}_{source.stem}"
+    flags = ["-g", "-w", "-std=gnu99", "-include", outside.room / "sigpoll.h", "-I", suite / "include", "-I", source.parent]
+    if outside.run([POSIX / "tracehost-cc", *flags, "-o", program, source, "-lrt", "-lm"]).returncode != 0:
+        return "compile"
+    try:
+        return result(outside.run([sys.executable, POSIX / "tracehost-run", "--patience", "5", "--schedules", SCHEDULES, program]))
+    except subprocess.TimeoutExpired:
+        return "slow"
+    finally:
+        program.unlink()
+
+
+@pytest.fixture(scope="module")
+def results() -> Iterator[dict[str, str]]:
+    """What came of each program, by `INTERFACE/FILE`."""
+    root = os.geteuid() == 0  # whose folders for temporary files another user may not enter
+    room = pathlib.Path(tempfile.mkdtemp(prefix="tracehost-outside-", dir="/tmp" if root else None))
+    try:
+        outside = Outside(room)
+        if outside.run(["test", "-r", POSIX / "tracehost-run"]).returncode != 0:
+            pytest.skip("this folder can't be read by an unprivileged user, and the suite isn't run as root")
+        suite = outside.source()
+        # FreeBSD has SIGIO, and not its other name
+        (room / "sigpoll.h").write_text("#define SIGPOLL SIGIO\n")
+        sources = [path for path in sorted(suite.glob("conformance/interfaces/*/*.c")) if INTERFACES.fullmatch(path.parent.name)]
+        sources = [path for path in sources if re.fullmatch(r"\d+-\d+(-buildonly)?", path.stem)]
+        sources = [path for path in sources if not SETS_THE_CLOCK.search(path.read_text(errors="replace"))]
+        with ThreadPoolExecutor(max(1, (os.cpu_count() or 2) // 2)) as pool:
+            found = pool.map(lambda source: run_one(outside, suite, source), sources)
+            yield {f"{source.parent.name}/{source.stem}": word for source, word in zip(sources, found)}
+    finally:
+        shutil.rmtree(room, ignore_errors=True)
+
+
+def test_the_table_says_what_each_reason_is() -> None:
+    said = set(re.findall(r"^#   ([a-zA-Z_-]+): ", TABLE.read_text(), re.MULTILINE))
+    for name, row in expected().items():
+        assert row.result in RESULTS and row.reason in said, name
+    assert said == {row.reason for row in expected().values()}
+
+
+def test_all_have_the_results_of_the_table(results: dict[str, str]) -> None:
+    rows = expected()
+    wanted = {name: rows[name].result if name in rows else "pass" for name in results}
+    differ = [f"{name}: {found}, where {wanted[name]} was due" for name, found in results.items() if wanted[name] not in (found, "varies")]
+    assert not differ, "\n".join(differ)
+
+
+def test_the_table_names_no_other_program(results: dict[str, str]) -> None:
+    assert expected().keys() <= results.keys()
+
+
+def test_enough_pass(results: dict[str, str]) -> None:
+    assert sum(word in ("pass", "seeds") for word in results.values()) >= PASSING

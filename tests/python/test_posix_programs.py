@@ -1,0 +1,69 @@
+"""Small programs that make awkward calls: each has to do under `tracehost-run` what it does natively.
+
+A program's first comment has what it prints (`|` is a line's end), how many schedules it passes besides the plain one
+(`schedules`; 0 if its outcome depends on the order of sleeps), the compiler's `flags`, and `natively: no` if it can't run on this host: it is
+FreeBSD's, or takes minutes there. All others are compiled by the plain compiler too, and have to print the same.
+"""
+
+from __future__ import annotations
+
+import pathlib
+import re
+import shutil
+import subprocess
+
+import pytest
+
+TOP = pathlib.Path(__file__).resolve().parents[2]
+POSIX = TOP / "clients" / "posix"
+PROGRAMS = sorted((POSIX / "tests" / "programs").glob("*.c*"))
+FLAGS = ["-g", "-w", "-pthread"]
+
+
+def header(program: pathlib.Path) -> dict[str, str]:
+    """The lines `NAME: TEXT` of the program's first comment."""
+    comment = program.read_text().partition("*/")[0]
+    return dict(re.findall(r"^ \* ([a-z]+): (.*?) *$", comment, re.MULTILINE))
+
+
+def compilers(program: pathlib.Path) -> list[str]:
+    names = ["cc", "clang"] if program.suffix == ".c" else ["g++", "clang++"]
+    return [name for name in names if shutil.which(name)]
+
+
+def run(words: list[object]) -> subprocess.CompletedProcess[str]:
+    return subprocess.run([str(word) for word in words], capture_output=True, text=True, timeout=200)
+
+
+def build(program: pathlib.Path, compiler: str, to: pathlib.Path) -> None:
+    flags = header(program).get("flags", "").split()
+    done = run(["env", f"CC={compiler}", POSIX / "tracehost-cc", *FLAGS, *flags, "-o", to, program])
+    assert done.returncode == 0, done.stderr
+
+
+@pytest.mark.parametrize("program", PROGRAMS, ids=[program.stem for program in PROGRAMS])
+def test_natively(program: pathlib.Path, tmp_path: pathlib.Path) -> None:
+    wanted = header(program)
+    if wanted.get("natively") == "no":
+        pytest.skip("it can't run natively here")
+    flags = wanted.get("flags", "").split()
+    assert run([compilers(program)[0], *FLAGS, *flags, "-o", tmp_path / "native", program]).returncode == 0
+    done = run([tmp_path / "native"])
+    assert (done.stdout, done.returncode) == (_lines(wanted), 0), done.stderr
+
+
+@pytest.mark.parametrize("program", PROGRAMS, ids=[program.stem for program in PROGRAMS])
+def test_on_the_model(program: pathlib.Path, tmp_path: pathlib.Path) -> None:
+    wanted = header(program)
+    for compiler in compilers(program):
+        build(program, compiler, tmp_path / "program")
+        done = run([POSIX / "tracehost-run", tmp_path / "program"])
+        assert (done.stdout, done.returncode) == (_lines(wanted), 0), done.stderr
+    schedules = wanted.get("schedules", "0")
+    if schedules != "0":
+        done = run([POSIX / "tracehost-run", "--verify", "--schedules", schedules, tmp_path / "program"])
+        assert done.returncode == 0, done.stderr
+
+
+def _lines(wanted: dict[str, str]) -> str:
+    return "".join(f"{line}\n" for line in wanted["prints"].split("|")) if "prints" in wanted else ""

@@ -1,0 +1,72 @@
+"""The texts of tests/, and hostile ones, are read alike as scenarios are read and by serde_json.
+
+The program test_scenarios compares the readings: crates/test_scenarios/src/readings.rt. $READINGS is its path.
+"""
+
+import json
+import os
+import random
+import subprocess
+from collections.abc import Iterable, Iterator
+from pathlib import Path
+
+from fuzz_texts import hostile
+from test_mistakes import read
+
+TOP = Path(__file__).resolve().parents[2]
+ROWS = sorted([*TOP.glob('tests/rows/*/*.json'), *TOP.glob('examples/*.json')])
+HOSTILE = 5_000
+
+
+def texts_of_tests() -> Iterator[bytes]:
+    """Each row file and each of its lines, and the inputs of the mistakes."""
+    for path in ROWS:
+        text = path.read_bytes()
+        yield text
+        yield from text.splitlines()
+    for mistake in read(str(TOP / 'tests/mistakes.tsv')):
+        yield mistake.input
+        yield from mistake.input.splitlines()
+
+
+def value_of(path: Path) -> object:
+    try:
+        value: object = json.loads(path.read_bytes())
+    except ValueError:
+        return None
+    return value
+
+
+def hostile_texts(chance: random.Random) -> Iterator[bytes]:
+    """Faulty texts, made of the smaller scenarios of the row files."""
+    scenarios = [value for path in ROWS if path.stat().st_size < 4000 and isinstance(value := value_of(path), dict)]
+    for _ in range(HOSTILE):
+        yield hostile(chance, chance.choice(scenarios))
+
+
+def compare(texts: Iterable[bytes]) -> subprocess.CompletedProcess[bytes]:
+    framed = b''.join(b'%d\n%s' % (len(text), text) for text in texts)
+    return subprocess.run([os.environ['READINGS']], input=framed, capture_output=True, timeout=300)
+
+
+def check_alike(texts: list[bytes]) -> None:
+    done = compare(texts)
+    assert done.stderr == b''
+    assert done.stdout == b'%d texts of the input and 100000 by chance are read alike\n' % len(texts)
+    assert done.returncode == 0
+
+
+def test_the_texts_of_tests() -> None:
+    texts = list(texts_of_tests())
+    assert len(texts) > 1000
+    check_alike(texts)
+
+
+def test_hostile_texts() -> None:
+    check_alike(list(hostile_texts(random.Random(44))))
+
+
+def test_an_input_that_is_cut_off_is_no_success() -> None:
+    for framed in (b'x\n', b'2\n[', b'-1\n'):
+        done = subprocess.run([os.environ['READINGS']], input=framed, capture_output=True, timeout=300)
+        assert (done.stdout, done.returncode != 0) == (b'', True)

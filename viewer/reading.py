@@ -1,0 +1,269 @@
+"""Reading of what tracehost prints with --json and --json=trace, and of scenarios, by the rules of src/read.mjs."""
+
+from __future__ import annotations
+
+import json
+import re
+from collections.abc import Callable, Iterable, Mapping
+from typing import Any, Optional
+
+Object = dict[str, Any]
+Check = Callable[[Any], bool]
+_ABSENT = object()
+NO_JSON = object()
+_MOST_SHOWN = 160
+
+SIGNALS = ["SIG" + name for name in (
+    "HUP INT QUIT ILL TRAP ABRT EMT FPE KILL BUS SEGV SYS PIPE ALRM TERM URG STOP TSTP CONT CHLD TTIN TTOU IO XCPU XFSZ"
+    " VTALRM PROF WINCH INFO USR1 USR2"
+).split()]  # fmt: skip
+
+
+def is_whole(value: Any) -> bool:
+    return type(value) is int
+
+
+def is_word(value: Any) -> bool:
+    return is_whole(value) and 0 <= value < 1 << 32
+
+
+def is_user(value: Any) -> bool:
+    return is_whole(value) and 1001 <= value <= 1064
+
+
+def is_signal(value: Any) -> bool:
+    return type(value) is str and value in SIGNALS
+
+
+def is_name(value: Any) -> bool:
+    return type(value) is str and re.fullmatch(r"[A-Za-z0-9_]{1,32}", value) is not None
+
+
+def is_object(value: Any) -> bool:
+    return type(value) is dict
+
+
+def list_of(check: Check) -> Check:
+    return lambda value: type(value) is list and all(map(check, value))
+
+
+def one_of(*values: object) -> Check:
+    return lambda value: any(type(value) is type(one) and value == one for one in values)
+
+
+def wrong_member(value: Object, members: Mapping[str, Check]) -> Optional[str]:
+    """The first member of the object that isn't of its form."""
+    return next((name for name, check in members.items() if not check(value.get(name, _ABSENT))), None)
+
+
+_FLAGS: dict[str, Check] = {"flags": list_of(is_name), "child": is_word, "code": is_word}
+_STATUS: dict[str, Check] = {"word": is_word}
+_SIGNAL: dict[str, Check] = {"signal": is_signal, "number": is_word}
+
+
+def _is_stop(value: Any) -> bool:
+    return is_object(value) and wrong_member(value, {"lwp": is_word, **_SIGNAL, **_FLAGS}) is None
+
+
+def _is_passed(value: Any) -> bool:
+    return value is _ABSENT or value is None or (is_object(value) and wrong_member(value, _SIGNAL) is None)
+
+
+# the members of each reply
+REPLIES: dict[str, dict[str, Check]] = {
+    "ok": {},
+    "nothing": {},
+    "held": {},
+    "new": {"pid": is_word, "lwp": is_word},
+    "number": {"number": is_word},
+    "status": {"pid": is_word, **_STATUS},
+    "info": {
+        "lwp": is_word, "event": one_of("SIGNAL", "NONE"), "mask": list_of(is_signal), "pending": list_of(is_signal), **_FLAGS,
+    },
+    "lwps": {"lwps": list_of(is_word)},
+    "pids": {"pids": list_of(is_word)},
+    "mask": {"events": list_of(is_name)},
+    "handled": {
+        "pid": is_word, **_STATUS, "at": _is_stop, "by": lambda by: by is None or is_word(by),
+        "decision": one_of("decline", "leave", "continue", "detach", "kill"), "pass": _is_passed,
+    },
+    "stopped": {"lwp": is_word, **_SIGNAL, "flags": list_of(is_name)},
+    "caught": _SIGNAL,
+    "ended": _STATUS,
+    "error": {"errno": is_name, "number": is_word},
+}  # fmt: skip
+# the members of a status, one of which says what its word means
+_MEANINGS: dict[str, Check] = {"exited": is_word, "signaled": is_signal, "stopped": is_signal, "continued": one_of(True)}
+# tools/format ops
+# the replies of each op, beside error and held
+ANSWERS: dict[str, tuple[str, ...]] = {
+    "spawn": ("new",), "ptrace": ("ok", "number", "info", "lwps", "mask",), "wait4": ("status", "nothing",),
+    "kill": ("ok",), "sigaction": ("ok",), "list": ("pids",), "install": ("ok",),
+    "handle": ("handled", "status", "nothing",), "turn": ("ok", "new", "stopped", "caught", "ended",),
+}  # fmt: skip
+# the keys that a step of each op has, beside user and op
+NEEDED: dict[str, tuple[str, ...]] = {
+    "spawn": (), "ptrace": ("caller", "request",), "wait4": ("caller", "which",),
+    "kill": ("caller", "which", "signal",), "sigaction": ("caller", "signal", "action",), "list": ("caller",),
+    "install": ("caller", "rules",), "handle": ("caller",), "turn": ("lwp", "act",),
+}  # fmt: skip
+# the keys that an act has
+NEEDED_BY_ACT: dict[str, tuple[str, ...]] = {
+    "compute": (), "raise": ("signal",), "block": ("set",), "enter": ("call",), "leave": (),
+}  # fmt: skip
+# end
+_KEYS: dict[str, Check] = {
+    "caller": is_word, "lwp": is_word, "which": is_whole, "signal": is_word, "target": is_word, "data": is_word,
+    "code": is_word, "request": is_name, "act": is_name, "call": is_name, "action": is_name, "options": list_of(is_name),
+    "mask": list_of(is_name), "set": list_of(is_word), "rules": list_of(is_object),
+}  # fmt: skip
+
+
+def fault_of_step(step: Any) -> Optional[str]:
+    """What is wrong with a step; None for nothing."""
+    if not is_object(step) or not is_user(step.get("user")) or type(step.get("op")) is not str or step["op"] not in ANSWERS:
+        return "no step"
+    needed = NEEDED[step["op"]]
+    if step["op"] == "turn" and type(step.get("act")) is str:
+        needed = (*needed, *NEEDED_BY_ACT.get(step["act"], ()))
+    for key, check in _KEYS.items():
+        if not check(step[key]) if key in step else key in needed:
+            return f'"{key}" is missing or of a wrong form'
+    return None
+
+
+def can_answer(step: Object, reply: Object) -> bool:
+    return bool(step["user"] == reply["user"] and reply["reply"] in ("error", "held", *ANSWERS[step["op"]]))
+
+
+def fault_of_reply(reply: Any) -> Optional[str]:
+    """What is wrong with a line of --json, with the step that a trace has in it; None for nothing."""
+    if not is_object(reply):
+        return "no JSON" if reply is NO_JSON else "no object"
+    if is_name(reply.get("refused")) and "reply" not in reply:
+        return None
+    if not is_user(reply.get("user")):
+        return "no user from 1001 to 1064"
+    if not is_whole(reply.get("step")) or reply["step"] < 1:
+        return "no number of a step"
+    if type(reply.get("reply")) is not str or reply["reply"] not in REPLIES:
+        return "no reply that is known"
+    members = REPLIES[reply["reply"]]
+    wrong = wrong_member(reply, members)
+    if wrong is not None:
+        return f'"{wrong}" is missing or of a wrong form'
+    meanings = [name for name in _MEANINGS if name in reply]
+    if "word" in members and (len(meanings) != 1 or not _MEANINGS[meanings[0]](reply[meanings[0]])):
+        return "it has no status"
+    return _fault_in_trace(reply)
+
+
+def _fault_in_trace(reply: Object) -> Optional[str]:
+    if "asked" not in reply and "index" not in reply:
+        return None
+    if not is_whole(reply.get("index")) or reply["index"] < 1:
+        return "no index of a step"
+    if not is_object(reply.get("asked")):
+        return "no step"
+    step = step_in(reply)
+    fault = fault_of_step(step)
+    if fault is not None:
+        return f"in its step: {fault}"
+    return None if can_answer(step, reply) else f'its step can\'t be answered by "{reply["reply"]}"'
+
+
+def step_in(reply: Object) -> Object:
+    """The step in a line of a trace, as a scenario has it."""
+    return {"user": reply["user"], **reply["asked"]}
+
+
+def parsed(text: str) -> Any:
+    """The value of a JSON text; NO_JSON if it is none."""
+    try:
+        return json.loads(text)
+    except (ValueError, RecursionError):
+        return NO_JSON
+
+
+class Read:
+    """What a file holds, by its form: the replies of a run, or a scenario (also as a line for each step)."""
+
+    def __init__(self, name: str, text: str) -> None:
+        self.name = name
+        self.faults: list[str] = []
+        self.replies: list[Object] = []
+        self.steps: Optional[list[Optional[Object]]] = None
+        whole = parsed(text)
+        lines = [(number, line, parsed(line)) for number, line in enumerate(text.split("\n"), 1) if line.strip()]
+        first = next((value for _, _, value in lines if is_object(value)), None)
+        if is_object(whole) and "steps" in whole:
+            self._read_steps(whole["steps"])
+        elif first is not None and "op" in first:
+            self._read_steps([value for _, _, value in lines])
+        elif first is not None:
+            self._read_replies(lines)
+        else:
+            self.faults.append(f"{name}: {_strange(text)}")
+
+    def is_empty(self) -> bool:
+        """Whether nothing in it can be drawn."""
+        return not self.replies and not any(self.steps or ()) and bool(self.faults)
+
+    def _read_replies(self, lines: Iterable[tuple[int, str, Any]]) -> None:
+        for number, text, value in lines:
+            fault = fault_of_reply(value)
+            if fault is None:
+                self.replies.append(value)
+            else:
+                self.faults.append(f"{self.name}, line {number}: {fault}: {excerpt(text)}")
+
+    def _read_steps(self, steps: Any) -> None:
+        if type(steps) is not list:
+            self.faults.append(f'{self.name}: "steps" is no array')
+            return
+        self.steps = []
+        for number, step in enumerate(steps, 1):
+            fault = fault_of_step(step)
+            self.steps.append(step if fault is None else None)
+            if fault is not None:
+                shown = "no JSON" if step is NO_JSON else json.dumps(step)
+                self.faults.append(f"{self.name}, step {number}: {fault}: {excerpt(shown)}")
+
+
+def fault_of_pair(lines: Read, scenario: Read) -> Optional[str]:
+    """Why this isn't the scenario of these lines; None if it may be. Refused lines are answered one by one."""
+    steps = scenario.steps or []
+    answered: dict[tuple[int, ...], Optional[Object]]
+    keys: list[tuple[int, ...]]
+    if any("refused" in reply for reply in lines.replies):
+        answered = {(index,): step for index, step in enumerate(steps)}
+        keys = [(index,) for index in range(len(lines.replies))]
+    else:
+        answered, counts = {}, dict.fromkeys(range(1001, 1065), 0)
+        for step in filter(is_object, steps):
+            assert step is not None
+            counts[step["user"]] += 1
+            answered[step["user"], counts[step["user"]]] = step
+        keys = [(reply["user"], reply["step"]) for reply in lines.replies]
+    for key, reply in zip(keys, lines.replies):
+        answers = answered.get(key)
+        if "refused" not in reply and not (answers and can_answer(answers, reply)):
+            of = f'its step {reply["step"]} of user {reply["user"]} can\'t be answered by "{reply["reply"]}"'
+            return f"{scenario.name} isn't the scenario of these lines: {of}"
+    return None
+
+
+def excerpt(text: str) -> str:
+    """The text in one line of ASCII, cut."""
+    shown = text if len(text) <= _MOST_SHOWN else text[:_MOST_SHOWN] + " .."
+    return "".join(one if " " <= one <= "~" else one.encode("unicode_escape").decode() for one in shown)
+
+
+def _strange(text: str) -> str:
+    if not text.strip():
+        return "there is nothing in it"
+    if re.match(r'\s*\{\s*"(steps|kill_on_debugger_exit)"', text):
+        return "this scenario is cut short, or no JSON"
+    if re.match(r"\d{4} \d+ [a-z]+", text):
+        return "these are lines of the plain text; run tracehost with --json"
+    return f"neither lines of --json nor a scenario: {excerpt(text)}"
