@@ -1,5 +1,6 @@
 /*
- * A debugger that counts the calls of a function by a breakpoint, which it takes out to step over it. FreeBSD on amd64.
+ * A debugger counts the calls of a function with a breakpoint. It takes the breakpoint out to step over it. FreeBSD on
+ * amd64.
  *
  * The race: while one thread is stepped, the others run too, and may come by where the breakpoint was.
  * The remedy: the other threads are suspended for the step.

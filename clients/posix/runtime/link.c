@@ -1,8 +1,8 @@
 /* The socket of a thread: one question at a time, and its answer.
  *
  * A message is a line without a line feed: `WHERE NAME ARGUMENT..`, WHERE being the address of the program's call. The
- * answer is `ok [N..]`, `error ERRNO [N]`, with `step` in front where the thread goes on by one instruction, and with
- * `land` where it asks `user` as its call returns. Before it there may come `handler SIGNAL CODE SENDER STATUS ADDRESS`
+ * answer is `ok [N..]` or `error ERRNO [N]`. `step` comes in front if the thread goes on by one instruction, and `land` if it asks
+ * `user` as its call returns. Before it there may come `handler SIGNAL CODE SENDER STATUS ADDRESS`
  * (the program's handler runs, and `handled` is sent), `registers CODE` (`at ADDRESS` is sent: of the record) and `apply
  * KIND` (`done` is sent). Other answers are `end` (the process has ended in the model; its last handlers may run in the host) and
  * `die`. No answer comes before this thread may run: between two questions no other thread of any process runs. */

@@ -1,5 +1,5 @@
 /* Process descriptors, pdfork(2): one end of a pair of sockets, whose other end is closed as the process ends, so that
- * poll(2) reports POLLHUP. They are the maker's alone. */
+ * poll(2) reports POLLHUP. Only the process that made one can use it. */
 #define _GNU_SOURCE
 #include <fcntl.h>
 #include <sys/socket.h>

@@ -1,5 +1,5 @@
-/* Stacks. The runtime has two of its own for each thread: on one run the program's calls (entry.S), on the other the host's
- * signals. So nothing of it is on the program's stack, where a debugger may write below a stopped thread's stack pointer.
+/* Stacks. The runtime has two stacks for each thread. The program's calls run on one (entry.S), and the host's signals on
+ * the other. So nothing of the runtime is on the program's stack, where a debugger may write below a stopped thread's stack pointer.
  * The program's handlers run on the program's stack, as a kernel calls them, or on that of sigaltstack(2). */
 #define _GNU_SOURCE
 #include <string.h>

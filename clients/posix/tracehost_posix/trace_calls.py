@@ -108,7 +108,7 @@ def memory(turns: Turns, lwp: Lwp, target: int, writes: int = 0) -> Leg:
     return f"ok {process.real}" if process is not None else EINVAL
 
 
-# ---- what the model doesn't have: registers. Who may ask, and of which LWP, is the model's answer
+# ---- registers, which the model doesn't have. The model only answers who may ask, and about which LWP
 
 
 def _stopped(turns: Turns, lwp: Lwp, target: int) -> Generator[Union[Wait, Handle, None], None, tuple[Lwp, Reply] | str]:

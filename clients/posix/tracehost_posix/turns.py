@@ -179,7 +179,7 @@ class Turns:
         yield from self.block(lwp, lwp.mask - {SEGV})
         yield from self.turn(lwp, f'"act":"raise","signal":{SEGV}')
 
-    # ---- signals that FreeBSD discards as they are posted, where the model's traced process keeps them, and stops
+    # ---- signals that FreeBSD discards as they are posted. A traced process of the model keeps them, and stops
 
     def is_discarded(self, process: Process, signal: int) -> bool:
         """Whether a traced process doesn't stop for it: its action is nothing. SIGCONT, and a trap, stop it in any case."""

@@ -51,7 +51,7 @@ fn flush<W: Write>(writer: &mut W) -> io::Result<()>
 /// # Errors
 ///
 /// Those of the writer, except `Interrupted`, after which it retries; or `WriteZero` if the writer took no byte. The
-/// writer then has a front of the bytes.
+/// writer then has the beginning of the bytes.
 pub fn write_flushed<W: Write>(writer: &mut W, bytes: &[u8]) -> io::Result<()>
     ensures ok { OnOk result (Appends (W.contents writer.old) (W.contents writer.new) bytes.now) }
     ensures err { OnErr result ((n : ℕ) × Appends (W.contents writer.old) (W.contents writer.new) (take n bytes.now)) }

@@ -158,7 +158,7 @@ fn mode_of<'a>(arguments: Arguments<'a>, user: Option<Uid>) -> Mode<'a>
 ///
 /// # Errors
 ///
-/// Fails where the number of `--user` isn't from 1001 to 1064.
+/// Fails if the number of `--user` isn't from 1001 to 1064.
 pub fn asked_for<'a>(
     arguments: Arguments<'a>,
     terminals: Terminals,

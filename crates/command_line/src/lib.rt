@@ -1,4 +1,4 @@
-//! The command line: its options, what it asks for, and what helps where it is refused.
+//! The command line: its options, what it asks for, and what helps if it is refused.
 #![tactic(auto)]
 
 ghost use Rattle.std.specs.Prelude.{IfOk, codes};
@@ -218,7 +218,7 @@ fn conflict_advice(alloc: Global, words: &[String]) -> Result<String, AllocError
     Ok(String::new(alloc))
 }
 
-/// What helps against a command line that `clap` refuses; empty where that says enough.
+/// What helps against a command line that `clap` refuses; empty if that says enough.
 fn advice(alloc: Global, kind: ErrorKind, words: &[String]) -> Result<String, AllocError> {
     match kind {
         ErrorKind::MissingRequiredArgument => String::from_str(alloc, SETTING_ADVICE),
@@ -276,7 +276,7 @@ fn arguments_of<'a>(matches: &ArgMatches<'a>) -> Result<Arguments<'a>, Refusal>
 /// # Errors
 ///
 /// `Command` where the words are refused, or ask for help or for the version, which is that of the program. `User` where
-/// the user isn't from 1001 to 1064. `Memory` where memory runs out.
+/// the user isn't from 1001 to 1064. `Memory` if memory runs out.
 pub fn asked_of<'a>(
     alloc: Global,
     version: &'a str,

@@ -16,7 +16,7 @@ use stop_handlers::{ByPolicy, Handler};
 use trace_stop::Settings;
 use wait4::Options;
 
-/// A host, shared by a session of each of the users. None where memory ran out.
+/// A host, shared by a session of each of the users. None if memory ran out.
 fn open_two(
     alloc: Global,
     host: Host<ByPolicy>,
@@ -43,7 +43,7 @@ fn both(alloc: Global, first: Session, second: Session) -> Option<Vec<Session>>
     Some(sessions)
 }
 
-/// The host and the journal, once both sessions are handed in. None where memory ran out.
+/// The host and the journal, once both sessions are handed in. None if memory ran out.
 fn close_two(
     alloc: Global,
     host: SharedHost<ByPolicy>,
@@ -64,7 +64,7 @@ struct Worked {
     replies: Vec<Reply>,
 }
 
-/// Makes the steps. None where memory ran out, or the session has made all its calls.
+/// Makes the steps. None if memory ran out, or the session has made all its calls.
 fn work<R: Wait>(
     rt: &R,
     alloc: Global,
@@ -147,14 +147,14 @@ fn by_policy(
     Ok(steps)
 }
 
-/// Returns the steps of the first session and of the second one. `None` where memory ran out.
+/// Returns the steps of the first session and of the second one. `None` if memory ran out.
 fn steps(alloc: Global) -> Option<(Vec<Step<Handler<ByPolicy>>>, Vec<Step<Handler<ByPolicy>>>)> {
     let first = by_policy(alloc, &attach()).ok()?;
     let second = by_policy(alloc, &fork()).ok()?;
     Some((first, second))
 }
 
-/// Runs both sessions at the same time, each with its steps. None where memory ran out.
+/// Runs both sessions at the same time, each with its steps. None if memory ran out.
 fn run_both<R: Threads + Wait + Sync>(
     rt: &R,
     alloc: Global,

@@ -53,7 +53,7 @@ fn signal_of(number: u32) -> Option<Option<Signal>>
 }
 
 impl FlatRule {
-    /// Returns the rule with these numbers. `None` where a flag, the signal, the decision or the signal that it passes
+    /// Returns the rule with these numbers. `None` if a flag, the signal, the decision or the signal that it passes
     /// on doesn't exist.
     pub fn rule(&self) -> Option<Rule>
         ensures { result ≡ rule_numbered self.now }

@@ -99,8 +99,8 @@ impl<F: Decider + Send + Drop> SharedHost<F> {
     ///
     /// # Errors
     ///
-    /// `NoSessions` where no user is named and `TooMany` where more than `MAX_SESSIONS` are: the host is given back.
-    /// `Memory` where memory runs out: the host is dropped.
+    /// `NoSessions` if no user is named and `TooMany` if more than `MAX_SESSIONS` are: the host is given back.
+    /// `Memory` if memory runs out: the host is dropped.
     pub fn open(
         alloc: Global,
         host: Host<F>,

@@ -39,7 +39,7 @@ impl<F: Decider + Send + Drop, J: CallLog + Send + Drop> Model for SharedState<F
     ghost invariant = { λ h. IsLegal h.start.value (J.entries h.journal) × (h.host.value ≡ replay h.start.value (J.entries h.journal)) × Users (asked (J.entries h.journal)) };
 }
 
-/// Makes a step on the host. A step changes nothing where memory ran out, and where the reply is a list.
+/// Makes a step on the host. A step changes nothing if memory ran out, or if the reply is a list.
 #[inline(always)]
 fn answered<F: Decider + Send + Drop, H: OwnHandler<F>>(
     host: &mut Host<F>,
@@ -56,7 +56,7 @@ fn answered<F: Decider + Send + Drop, H: OwnHandler<F>>(
 }
 
 impl<F: Decider + Send + Drop, J: CallLog + Send + Drop> SharedState<F, J> {
-    /// Makes a step, and adds it to the journal as `plain`, the same step. Changes nothing where memory runs out.
+    /// Makes a step, and adds it to the journal as `plain`, the same step. Changes nothing if memory runs out.
     #[inline(always)]
     pub(crate) fn make<H: OwnHandler<F>>(
         &mut self,

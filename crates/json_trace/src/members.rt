@@ -9,7 +9,7 @@ pub(crate) fn push_number(out: &mut Writer, name: &str, number: u32) -> Result<(
     out.u64(u64::from(number))
 }
 
-/// Writes a number that is 0 where its key is missing.
+/// Writes a number that is 0 if its key is missing.
 pub(crate) fn push_nonzero(out: &mut Writer, name: &str, number: u32) -> Result<(), AllocError> {
     if number == 0 {
         return Ok(());

@@ -61,7 +61,7 @@ impl<'a> Lexer<'a> {
         self.at = spaces_end(self.text.as_bytes(), self.at + 1);
     }
 
-    /// Takes a string, or returns `None` where it is none.
+    /// Takes a string, or returns `None` if it is none.
     #[inline(always)]
     #[tactic(auto, using(crate::proofs::Texts::strings_read))]
     pub(crate) fn string(&mut self) -> Option<&'a str>

@@ -11,7 +11,7 @@ abbrev pub lines_in : List ℕ → List (List ℕ)
 lines_in [] = []
 lines_in (byte ∷ bytes) = if byte == 10 then (byte ∷ []) ∷ lines_in bytes else in_first byte (lines_in bytes)
 
--- the length of the first line of a text; 0 where there is none
+-- the length of the first line of a text; 0 if there is none
 abbrev pub line_length : List ℕ → ℕ
 line_length [] = 0
 line_length (byte ∷ bytes) = if byte == 10 then 1 else line_length bytes + 1

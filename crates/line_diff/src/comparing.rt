@@ -33,7 +33,7 @@ fn line_length(text: &[u8]) -> usize
     }
 }
 
-/// Returns the first line of the text, and the rest of the text. Both are empty where the text is.
+/// Returns the first line of the text, and the rest of the text. Both are empty if the text is.
 #[tactic(auto, using(crate::proofs::LineLemmas::first_line))]
 fn split_line(text: &[u8]) -> (&[u8], &[u8])
     ensures text { result.0.now ++ result.1.now ≡ text.now }
@@ -44,14 +44,14 @@ fn split_line(text: &[u8]) -> (&[u8], &[u8])
     text.split_at(line_length(text))
 }
 
-/// Returns a line that was split off; `None` where the text had ended.
+/// Returns a line that was split off; `None` if the text had ended.
 fn line_there(line: &[u8]) -> Option<&[u8]>
     ensures { option_map (λ l. l.now) result ≡ line_there line.now }
 {
     if line.is_empty() { None } else { Some(line) }
 }
 
-/// Returns the first line at which `got` differs from `expected`; `None` where the texts are equal.
+/// Returns the first line at which `got` differs from `expected`; `None` if the texts are equal.
 pub fn first_difference<'a>(expected: &'a [u8], got: &'a [u8]) -> Option<Difference<'a>>
     ensures same { (result ≡ None) ↔ (expected.now ≡ got.now) }
     ensures first { IfSome result (λ d. IsFirstDifference (lines_in expected.now) (lines_in got.now) d) }

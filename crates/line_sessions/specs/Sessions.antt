@@ -23,7 +23,7 @@ text_of style rs = text_after style [] rs
 
 -- ---- the input and output of a session
 
--- the exit status of a session that ended early: 1 where the input is refused, 3 where reading, writing or memory failed
+-- the exit status of a session that ended early: 1 if the input is refused, 3 if reading, writing or memory failed
 abbrev pub serve_fault_status : ServeError → ℕ
 serve_fault_status ServeError.TooManyLines = 1
 serve_fault_status e = 3
@@ -44,9 +44,9 @@ abbrev pub max_lines : ℕ
 max_lines = 2 ^ 64 - 1
 
 -- A session from the host m on. At the end of the input all lines were answered, and the writer has got the text of the
--- answers. If a write failed, the writer has got a front of that text. Else it has got the whole text, and a last line,
--- of which nothing, a part or all was taken, has no answer. A line is answered when its line feed or the end of the
--- input was read. There are too many lines after `max_lines` answers, and then no more is taken.
+-- answers. If a write failed, the writer has got the beginning of that text. Else it has got the whole text. A last
+-- line then has no answer, whether nothing, a part or all of it was taken. A line is answered when its line feed or the
+-- end of the input was read. There are too many lines after `max_lines` answers, and then no more is taken.
 abbrev pub Serves : Style → Result ⊤ ServeError → Machine → (read unread had has : Option (List ℕ)) → Type 0
 Serves style (Ok done) m read unread had has =
     (rs : List LineReply) × Talk m read unread [] rs × Appends had has (text_of style rs) × Ended read unread

@@ -7,7 +7,7 @@ use Rattle.{open_sessions.specs.Answers.{LineReply, AnswersLine, reply_text, mad
 abbrev pub kept : List ℕ → List ℕ
 kept text = take (max_step_bytes + 1) text
 
--- a text was written; if the write failed, the writer has a front of it, and if memory ran out, nothing
+-- a text was written; if the write failed, the writer has the beginning of it, and if memory ran out, nothing
 abbrev pub Writes : Result ⊤ ServeError → List ℕ → (had has : Option (List ℕ)) → Type 0
 Writes (Ok done) text had has = Appends had has text
 Writes (Err Write) text had has = (n : ℕ) × Appends had has (take n text)
@@ -18,7 +18,7 @@ Writes (Err e) text had has = ⊥
 abbrev pub FullStep : List ℕ → (made : List ℕ) → Type 0
 FullStep text made = (a : UserStep) × IsStep text (Ok a) × (slice_index made (a.uid - 1001) + 1 ≡ 2 ^ 64)
 
--- a line was answered, by a host that is m before and k after; if the write failed, the writer has a front of the
+-- a line was answered, by a host that is m before and k after; if the write failed, the writer has the beginning of the
 -- answer, and after another error nothing; no reader fails here
 abbrev pub Told : Style → Result ⊤ ServeError → List ℕ → (m k : Machine) → (made after : List ℕ) → (had has : Option (List ℕ)) → Type 0
 Told style (Ok done) text m k made after had has =

@@ -75,8 +75,8 @@ fn answer_all<R: LineSource, W: Write>(
 /// # Errors
 ///
 /// `Read` if the reader failed. `Memory` if memory ran out for a line or for an answer's text. In both cases all lines
-/// before were answered. `Write` if the writer failed, or took no byte: it has a front of the answers. `TooManyLines`
-/// after 2^64 - 1 lines. A reply ENOMEM to a step is not an error of the session.
+/// before were answered. `Write` if the writer failed, or took no byte: it has the beginning of the answers.
+/// `TooManyLines` after 2^64 - 1 lines. A reply ENOMEM to a step is not an error of the session.
 pub fn serve<R: LineSource, W: Write>(
     alloc: Global,
     settings: Settings,

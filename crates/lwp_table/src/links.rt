@@ -265,7 +265,7 @@ fn mark(heads: &mut NumberIndex<ListHead>, pid: Pid, may_pend: bool)
     }
 }
 
-/// Does what `mark` does, where the ends have said `before`.
+/// Does what `mark` does, if the ends said `before`.
 pub fn mark_change(heads: &mut NumberIndex<ListHead>, pid: Pid, before: bool, may_pend: bool)
     requires { before ≡ (ends_at heads.old.entries pid).may_pend }
     ensures ends { (q : ℕ) → ends_at heads.new.entries q ≡ (if nat_eq pid q then marked may_pend (ends_at heads.old.entries q) else ends_at heads.old.entries q) }

@@ -58,6 +58,6 @@ numbers_of r = []
 abbrev pub last_numbers : Option LineReply → List ℕ
 last_numbers last = unwrap_or (option_map numbers_of (last_reply last)) []
 
--- a room with the front of a text that fits into it, and after it what was there before
+-- a room with the beginning of a text that fits into it, and after it what was there before
 abbrev pub shown : {X : Type 0} → List X → List X → List X
 shown text room = take (length room) text ++ drop (length text) room

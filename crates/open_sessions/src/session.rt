@@ -99,7 +99,7 @@ impl Session {
     ///
     /// # Errors
     ///
-    /// `Memory` where memory ran out for the line, and `TooManyAnswers`. A reply ENOMEM is not an error of the session.
+    /// `Memory` if memory ran out for the line, and `TooManyAnswers`. A reply ENOMEM is not an error of the session.
     pub fn answer(&mut self, alloc: Global, line: &[u8]) -> Result<(), SessionFault>
         ensures answered { OnOk result (Answers line.now self.old self.new) }
         ensures room { OnOk result (¬ FullFor line.now self.old) }

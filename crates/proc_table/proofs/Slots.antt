@@ -121,7 +121,7 @@ module _ (slots : ℕ → Option ProcData) (es : List (ℕ × ℕ)) (counts : Li
           rows,
         )
 
-    -- a slot's row has its number alone
+    -- only a slot's own number leads to its row
     module _ (before : ProcData) (has : slots at ≡ Some before) where
       leads_on : (pid : ℕ) → lookup (nat_eq pid) es ≡ cond (nat_eq before.pid pid) (Some at) (lookup (nat_eq pid) es)
       leads_on pid = grind (arith, nat_tests, kept.stored.listed at before has)

@@ -51,12 +51,12 @@ abbrev pub view_members : StopView → List Member
 view_members v =
     (codes "lwp", natural v.tid) ∷ (signal_members v.sig ++ (flags_of v.flags ∷ call_members v.child v.code))
 
--- the handler's index among the caller's, or null where all declined
+-- the handler's index among the caller's, or null if all declined
 abbrev pub index_of : Option ℕ → Json
 index_of None = null
 index_of (Some i) = natural i
 
--- the signal that is passed on, or null where none is
+-- the signal that is passed on, or null if none is
 abbrev pub pass_of : ℕ → Json
 pass_of s = if s == 0 then null else object_of (signal_members s)
 

@@ -48,7 +48,7 @@ pub(crate) fn push_status(out: &mut Writer, status: &Status) -> Result<(), Alloc
     push_kind(out, status.kind())
 }
 
-/// Returns the name of the signal with this number, or an empty text where no signal has it.
+/// Returns the name of the signal with this number, or an empty text if no signal has it.
 #[tactic(auto, using(crate::proofs::SignalLemmas::no_name))]
 fn name_of(number: u32) -> &'static str
     ensures { result.now ≡ signal_name number }

@@ -1,4 +1,4 @@
--- A step that may need a handler, where none is given.
+-- A step that may need a handler, if none is given.
 use Rattle.std.specs.Prelude.{◌≡◌}
 use Rattle.requests.specs.CommonNames.{ℕ, Option, Some, None, Reply, PlainStep}
 use Rattle.requests.specs.Hosts.{Steps}

@@ -111,7 +111,7 @@ fn named_lwp(target: u32, reporting: Tid) -> Tid
     }
 }
 
-/// Makes a request of the tracer about an LWP of its stopped tracee. Refused with EINVAL where `arg` is wrong. An
+/// Makes a request of the tracer about an LWP of its stopped tracee. Refused with EINVAL if `arg` is wrong. An
 /// error means out of memory for a list of LWPs.
 #[tactic(auto, using(std::proofs::lemmas::Bool::Decides::nat_tests, crate::proofs::Tracees::few_own, crate::proofs::Tracees::given, crate::proofs::Tracees::gives_as))]
 fn command(
@@ -161,7 +161,7 @@ fn command(
 }
 
 /// PT_CONTINUE, PT_STEP, PT_TO_SCE, PT_TO_SCX and PT_SYSCALL: resumes the process with these events added to its mask,
-/// these LWPs stepping, and a signal or 0. Refused with EINVAL where `arg` is above 31.
+/// these LWPs stepping, and a signal or 0. Refused with EINVAL if `arg` is above 31.
 fn resume_with(
     tables: &mut Tables,
     settings: Settings,
@@ -217,7 +217,7 @@ fn suspend(tables: &mut Tables, lwp: Tid, suspended: bool) -> Reply
     Reply::Done
 }
 
-/// PT_DETACH: ends the tracing of the process, and resumes it with a signal or with 0. Refused with EINVAL where
+/// PT_DETACH: ends the tracing of the process, and resumes it with a signal or with 0. Refused with EINVAL if
 /// `arg` is above 31.
 fn detach_with(tables: &mut Tables, settings: Settings, process: &ProcData, arg: u32) -> Reply
     requires sound { IsSound tables.old.rows }
@@ -233,7 +233,7 @@ fn detach_with(tables: &mut Tables, settings: Settings, process: &ProcData, arg:
     Reply::Done
 }
 
-/// PT_SET_EVENT_MASK: sets the event mask of the process. Refused with EINVAL where a bit is not an event's.
+/// PT_SET_EVENT_MASK: sets the event mask of the process. Refused with EINVAL if a bit is not an event's.
 fn set_events(tables: &mut Tables, process: &ProcData, bits: u32) -> Reply
     requires at { process_of process.now.pid tables.old.rows.processes ≡ Some process.now }
     ensures { let known = set_mask (λ mask. record { 0 = bits }) process.now.pid tables.old.rows in
@@ -291,7 +291,7 @@ fn show_lwp(tables: &Tables, process: &ProcData, lwp: Tid) -> Reply
     }
 }
 
-/// PT_GETLWPLIST. Refused with EINVAL where the count is 0. An error means out of memory.
+/// PT_GETLWPLIST. Refused with EINVAL if the count is 0. An error means out of memory.
 fn list_lwps(tables: &Tables, alloc: Global, pid: Pid, count: u32) -> Result<Reply, AllocError>
     ensures { let rows = tables.now.rows in
         Attempts true (if count == 0

@@ -38,7 +38,7 @@ fn fits<H>(step: &Step<H>)
     }
 }
 
-/// Returns the reply of an attempt: ENOMEM where memory ran out.
+/// Returns the reply of an attempt: ENOMEM if memory ran out.
 fn attempted_reply(attempted: Result<Reply, AllocError>) -> Reply
     ensures { result ≡ attempted_reply attempted }
 {
@@ -209,7 +209,7 @@ impl<F: Decider + Send + Drop> Host<F> {
         }
     }
 
-    /// Makes a step of the user. Refused as the manual page of its call says, and with ENOMEM where memory runs out. A
+    /// Makes a step of the user. Refused as the manual page of its call says, and with ENOMEM if memory runs out. A
     /// refused step changes nothing.
     #[inline(always)]
     pub fn step(&mut self, alloc: Global, user: Uid, step: Step<Handler<F>>) -> Reply

@@ -5,7 +5,7 @@ use Rattle.step_types.specs.declared.Settings.{Settings}
 use Rattle.trace_rows.specs.End.{end}
 use Rattle.trace_rows.specs.Facts.{IsSound}
 
--- among a user's rows, the end of one of the user's processes has the same result as where only these rows exist
+-- among a user's rows, the end of one of the user's processes has the same result as if only these rows existed
 abbrev pub EndOwn : Type 0
 EndOwn = (settings : Settings) (rows : Rows) (u p status : ℕ) → IsSound rows → owns u p rows.processes ≡ true
     → only_of u (end settings p status rows) ≡ end settings p status (only_of u rows)

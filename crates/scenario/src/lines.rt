@@ -55,7 +55,7 @@ pub(crate) struct LineDraft {
     replies: Option<Snapshot<Replies>>,
 }
 
-/// The lines of a user's replies, and the replies, which only contracts see. There are no lines where memory ran out,
+/// The lines of a user's replies, and the replies, which only contracts see. There are no lines if memory ran out,
 /// here or for one of the steps.
 #[derive(Drop)]
 pub(crate) struct UserLines {
@@ -136,8 +136,8 @@ fn usual_bytes(options: &LineOptions, uid: Uid, replies: usize) -> usize {
     }
 }
 
-/// Adds the line of a reply to the text, if the options show it. There is no text any more where memory runs out, here
-/// or for the step.
+/// Adds the line of a reply to the text, if the options show it. There is no text any more if memory runs out, here or
+/// for the step.
 fn add_line(
     alloc: Global,
     options: &LineOptions,

@@ -159,7 +159,7 @@ fn texts_of(alloc: Global, transcripts: Vec<Transcript<UserLines>>) -> Result<Ve
     Ok(texts)
 }
 
-/// Writes the texts in order, or a front of them where the writer fails.
+/// Writes the texts in order, or the beginning of them if the writer fails.
 fn write_texts<W: Write>(writer: &mut W, texts: &[String]) -> Result<(), RunFault>
     ensures writes { Writes result (W.contents writer.old) (W.contents writer.new) (flat_map string_bytes texts.now) }
     ensures kind { IfErr result (λ e. e ≡ WriteFault) }
@@ -226,7 +226,7 @@ pub fn run_threads_with<F: Decider + Send + Drop, W: Write, R: Threads + Wait + 
 ///
 /// # Errors
 ///
-/// Those of `run`, and `Start` where a thread could not be started: then nothing was written.
+/// Those of `run`, and `Start` if a thread could not be started: then nothing was written.
 pub fn run_threads<F: Decider + Send + Drop, W: Write, R: Threads + Wait + Sync>(
     rt: &R,
     alloc: Global,

@@ -25,7 +25,7 @@ paired steps list = map (λ p. record { uid = p.0.uid; reply = p.1 }) (zip steps
 abbrev pub answers_of : Plan → List Answered
 answers_of plan = paired plan.steps (replies plan.steps (empty plan.settings))
 
--- the writer has got the text, or a front of it where a write failed, and else nothing
+-- the writer has got the text, or the beginning of it if a write failed, and else nothing
 abbrev pub Writes : Result ⊤ RunFault → Option (List ℕ) → Option (List ℕ) → List ℕ → Type 0
 Writes (Ok done) old new text = Appends old new text
 Writes (Err Write) old new text = (n : ℕ) × Appends old new (take n text)

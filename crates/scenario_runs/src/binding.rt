@@ -82,7 +82,7 @@ fn bound<F: Decider + Send + Drop>(
 ///
 /// # Errors
 ///
-/// `Mismatch` where the handlers don't answer by the policies of the installs. `Memory` where they do and memory runs
+/// `Mismatch` if the handlers don't answer by the policies of the installs. `Memory` if they do and memory runs
 /// out.
 pub fn bind<F: Decider + Send + Drop>(
     alloc: Global,

@@ -29,7 +29,7 @@ pub enum RunFault {
     /// A thread could not be started. Nothing was written.
     #[error("tracehost: cannot start a worker")]
     Start,
-    /// The writer failed, or took no byte. Before that it took a front of the text.
+    /// The writer failed, or took no byte. Before that it took the beginning of the text.
     #[error("tracehost: cannot write")]
     Write,
     /// The handlers are not those of the scenario's policies, one for each in order. Nothing was written.
@@ -121,7 +121,7 @@ fn text_of<F: Decider + Send + Drop>(
     Ok(text)
 }
 
-/// Writes all the bytes, or a front of them where the writer fails.
+/// Writes all the bytes, or the beginning of them if the writer fails.
 pub fn write_whole<W: Write>(writer: &mut W, bytes: &[u8]) -> Result<(), RunFault>
     ensures writes { Writes result (W.contents writer.old) (W.contents writer.new) bytes.now }
     ensures kind { IfErr result (λ e. e ≡ WriteFault) }
@@ -195,9 +195,9 @@ pub fn run_with<F: Decider + Send + Drop, W: Write>(
 ///
 /// # Errors
 ///
-/// `Mismatch` where the handlers' policies aren't those of the scenario in their order. `Memory` where memory ran out,
-/// also for a step. In both cases nothing was written. `Write` where the writer failed or took no byte: then it has a
-/// front of the text.
+/// `Mismatch` if the handlers' policies aren't those of the scenario in their order. `Memory` if memory ran out, also
+/// for a step. In both cases nothing was written. `Write` if the writer failed or took no byte: then it has the
+/// beginning of the text.
 pub fn run<F: Decider + Send + Drop, W: Write>(
     alloc: Global,
     scenario: &Scenario,

@@ -20,6 +20,6 @@ SetOfOne = (k : Key) (name : List ℕ) → IsTrue (has (key_set k) name) ↔ (ke
 abbrev pub SetOfBoth : Type 0
 SetOfBoth = (a b : Keys) (name : List ℕ) → has (a ∪ b) name ≡ (has a name || has b name)
 
--- the keys of an object are among the allowed ones exactly where each member's name is
+-- the keys of an object are among the allowed ones exactly if each member's name is
 abbrev pub SetOfObject : Type 0
 SetOfObject = (allowed : Keys) (ms : Members) → are_among allowed (keys_in ms) ≡ has_all allowed ms

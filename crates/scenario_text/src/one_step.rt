@@ -54,7 +54,7 @@ impl StepReader {
     /// # Errors
     ///
     /// The first check that fails: at most `MAX_STEP_BYTES` bytes, a JSON text, and then the step's keys as `parse`
-    /// checks them. The step has the number 1. `Memory` where memory runs out. Never `Read`. After an error the reader
+    /// checks them. The step has the number 1. `Memory` if memory runs out. Never `Read`. After an error the reader
     /// reads on as before.
     #[tactic(auto, using(crate::specs::OneStep::too_long, crate::specs::OneStep::no_value, crate::specs::OneStep::value))]
     pub fn parse_step(&mut self, alloc: Global, bytes: &[u8]) -> Result<(Uid, PlainStep), Fault>

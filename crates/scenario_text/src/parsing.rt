@@ -191,7 +191,7 @@ fn read_text(alloc: Global, text: &str) -> Result<Result<Scenario, Fault>, Stop>
 ///
 /// The first check that fails: at most `MAX_BYTES` bytes, a JSON text, the shape of the whole, at most `MAX_STEPS`
 /// steps, and then each step in order. Of a step, the keys are checked in the order of its op, and then that it has no
-/// other keys. `Memory` where memory runs out. Never `Read`.
+/// other keys. `Memory` if memory runs out. Never `Read`.
 #[tactic(auto, using(crate::specs::Scenarios::too_long, crate::specs::Scenarios::no_value, crate::specs::Scenarios::value))]
 pub fn parse(alloc: Global, bytes: &[u8]) -> Result<Scenario, Fault>
     ensures stands { Answers result (StandsFor bytes.now) }

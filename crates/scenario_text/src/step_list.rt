@@ -71,7 +71,7 @@ impl<'a> Iterator for Steps<'a> {
     }
 }
 
-/// Returns the step with the first of the policies, if it installs one. `None` where it does and there is no policy.
+/// Returns the step with the first of the policies, if it installs one. `None` if it does and there is no policy.
 fn step_with_policy(bare_step: &BareStep, policies: &[Policy]) -> Option<PlainStep>
     ensures { result ≡ with_handler (first policies.now) bare_step.now }
 {

@@ -36,7 +36,7 @@ AllTell {S} {O} tells ss ts = (k : ℕ) (s : S) (t : Transcript O) → k < lengt
 abbrev pub entries_by : ℕ → List Entry → List Entry
 entries_by u log = filter (λ e. e.uid == u) log
 
--- every user's entries have the replies that the machine gives to the user's own steps where no other user has made a
+-- every user's entries have the replies that the machine gives to the user's own steps if no other user has made a
 -- step, and the user's view at the end is the same
 abbrev pub OwnEntries : Machine → List Entry → Type 0
 OwnEntries m log = (u : ℕ) → IsUser u

@@ -20,7 +20,7 @@ pub trait Report: Sized + Send + Drop {
     /// The replies that it was made of, in order.
     ghost made_of: { Self.Output → List Reply };
 
-    /// What else is known of it, where the replies are to this user.
+    /// What else is known of it, if the replies are to this user.
     ghost tells: { Self → ℕ → Self.Output → Type 0 };
 
     /// The draft was begun by this report for this user. It has room for so many more replies, and was made of these.

@@ -32,8 +32,8 @@ use stop_handlers::Decider;
 ///
 /// # Errors
 ///
-/// `TooMany` where there are more scripts than a host may have sessions, `Memory` where memory ran out before the first
-/// worker began, `Start` where a thread could not be started. The host is dropped.
+/// `TooMany` if there are more scripts than a host may have sessions, `Memory` if memory ran out before the first
+/// worker began, `Start` if a thread could not be started. The host is dropped.
 pub fn run_sessions<F: Decider + Send + Drop, S: Scripted<F>, G: Gate, R: Threads + Wait + Sync>(
     rt: &R,
     alloc: Global,

@@ -20,7 +20,7 @@ use std::thread::Threads;
 use stop_handlers::Decider;
 
 /// Runs all session scripts at the same time, the first in the calling thread and each other in a thread of its own.
-/// Returns `None` where a thread could not be started.
+/// Returns `None` if a thread could not be started.
 #[cycle(run)]
 pub(crate) fn run_all<
     F: Decider + Send + Drop,
@@ -74,7 +74,7 @@ fn run_here<F: Decider + Send + Drop, J: CallLog + Send + Drop, T: Report, G: Ga
     done
 }
 
-/// Runs one session script in a thread of its own, and the others at the same time. Returns `None` where a thread could
+/// Runs one session script in a thread of its own, and the others at the same time. Returns `None` if a thread could
 /// not be started.
 #[cycle(run)]
 fn run_beside<

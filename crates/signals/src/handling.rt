@@ -30,7 +30,7 @@ impl Dispositions {
         }
     }
 
-    /// Sets what the process does with the signal. Fails where SIGKILL or SIGSTOP is to be ignored or caught,
+    /// Sets what the process does with the signal. Fails if SIGKILL or SIGSTOP is to be ignored or caught,
     /// and then leaves the dispositions unchanged.
     pub fn set(&mut self, signal: Signal, disposition: Disposition) -> Result<(), BadDisposition>
         ensures allowed { IsOk result ↔ IsTrue (may_have signal disposition) }

@@ -15,7 +15,7 @@ impl Reply {
         matches!(self, Reply::Errno(Errno::ENOMEM))
     }
 
-    /// Returns an equal reply. Refused where memory runs out: only a list takes memory.
+    /// Returns an equal reply. Refused if memory runs out: only a list takes memory.
     pub fn copy(&self, alloc: Global) -> Result<Reply, AllocError>
         ensures copied { IfOk result (λ r. r ≡ self.now) }
         ensures refused { OnErr result (is_listing self.now ≡ true) }

@@ -77,7 +77,7 @@ impl<H> Step<H> {
         }
     }
 
-    /// Returns the step, with `handler` in place of its own if it installs one. `None` where it installs one and no
+    /// Returns the step, with `handler` in place of its own if it installs one. `None` if it installs one and no
     /// handler is given.
     pub fn with_handler<G: Drop>(&self, handler: Option<G>) -> Option<Step<G>>
         ensures { result ≡ with_handler handler self.now }

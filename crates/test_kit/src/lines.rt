@@ -11,7 +11,7 @@ use stop_handlers::{ByPolicy, Handler, Policy};
 /// The user of lines that name none.
 const FIRST: u32 = 1001;
 
-/// Returns the user and the step in these words, or `None` where they are none.
+/// Returns the user and the step in these words, or `None` if they are none.
 fn asked(words: &[&str], policy: Option<&Policy>) -> Option<(Uid, PlainStep)> {
     let (first, rest) = words.split_first()?;
     let (user, words) = match first.parse() {

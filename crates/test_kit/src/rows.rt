@@ -53,7 +53,7 @@ pub struct Section<'a> {
     pub text: &'a str,
 }
 
-/// Returns a section, or `None` where it has no heading.
+/// Returns a section, or `None` if it has no heading.
 fn section_of(text: &str) -> Option<Section<'_>> {
     let (heading, text) = text.trim_ascii().split_once('\n')?;
     let (start, name) = heading.strip_prefix("[")?.split_once("] ")?;

@@ -1,4 +1,4 @@
-//! The laws of isolation, on hosts. A step or a list is refused where memory runs out.
+//! The laws of isolation, on hosts. A step or a list is refused if memory runs out.
 
 ghost use Rattle.std.specs.Prelude.{◌≡◌};
 

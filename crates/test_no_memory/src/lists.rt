@@ -1,4 +1,4 @@
-//! Lists of steps. A list or a step is refused where memory runs out.
+//! Lists of steps. A list or a step is refused if memory runs out.
 
 use crate::steps::{Case, TRIES, answer, new_host};
 use pid_blocks::Uid;
@@ -9,7 +9,7 @@ use stop_handlers::{ByPolicy, Handler, Policy};
 use test_kit::{TestError, expect};
 use visibility::run_list;
 
-/// Returns a handler for each policy of the scenario, or `None` where that is refused.
+/// Returns a handler for each policy of the scenario, or `None` if that is refused.
 fn policy_handlers(case: &Case<'_>) -> Option<Vec<Handler<ByPolicy>>> {
     let policies = policies(case.alloc, case.scenario).ok()?;
     let make = |policy: Policy| ByPolicy(policy);

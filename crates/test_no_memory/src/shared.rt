@@ -1,4 +1,4 @@
-//! Calls of a shared host. A call is refused where memory runs out.
+//! Calls of a shared host. A call is refused if memory runs out.
 
 ghost use Rattle.std.specs.Prelude.{All, IfOk};
 ghost use Rattle.host_lock.specs.Sessions.{IsOf, IsSame};
@@ -25,7 +25,7 @@ fn open(case: &Case<'_>) -> Result<(SharedHost<ByPolicy>, Vec<Session>), TestErr
     )
 }
 
-/// Makes a call, and returns its reply, or `None` where it is refused. Checks that it counts as one call in both cases.
+/// Makes a call, and returns its reply, or `None` if it is refused. Checks that it counts as one call in both cases.
 fn replied<R: Wait>(
     rt: &R,
     alloc: Global,

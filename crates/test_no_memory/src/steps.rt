@@ -1,4 +1,4 @@
-//! Steps made one after another. A step is refused where memory runs out.
+//! Steps made one after another. A step is refused if memory runs out.
 
 ghost use Rattle.std.specs.Prelude.{◌≡◌, IfOk};
 ghost use Rattle.requests.specs.Machine.{empty};
@@ -75,7 +75,7 @@ pub fn new_host(alloc: Global, settings: Settings) -> Result<Host<ByPolicy>, Tes
     retry!(Ok(host) = Host::new(alloc, settings))
 }
 
-/// Makes a step, and returns the reply, or `None` where it is refused.
+/// Makes a step, and returns the reply, or `None` if it is refused.
 fn replied(alloc: Global, host: &mut Host<ByPolicy>, user: Uid, step: &PlainStep) -> Option<Reply> {
     let reply = host.step(alloc, user, step.by_policy());
     if reply.is_memory() { None } else { Some(reply) }

@@ -1,4 +1,4 @@
-//! Sessions in threads of their own. A run is refused where memory runs out or a thread can't be started.
+//! Sessions in threads of their own. A run is refused if memory runs out or a thread can't be started.
 
 ghost use Rattle.std.specs.Prelude.{All, IfOk};
 ghost use Rattle.sessions.specs.Runs.{IsShort};
@@ -92,7 +92,7 @@ struct Left {
     transcripts: Vec<Transcript>,
 }
 
-/// Runs the scripts on an unused host. `None` where that is refused; workers that were started have ended by then.
+/// Runs the scripts on an unused host. `None` if that is refused; workers that were started have ended by then.
 fn ran<R: Threads + Wait + Sync>(
     rt: &R,
     case: &Case<'_>,

@@ -132,7 +132,7 @@ impl Draft {
         Ok(())
     }
 
-    /// Adds a key where the next value is a member's.
+    /// Adds a key if the next value is a member's.
     fn key(&mut self, dice: &mut Dice) -> Result<(), AllocError> {
         if self.open.last() == Some(&b'{') {
             let kinds = if dice.below(20) == 0 { 8 } else { 6 };

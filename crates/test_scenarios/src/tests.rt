@@ -56,7 +56,7 @@ fn handlers_by_policy(alloc: Global, scenario: &Scenario) -> Result<Vec<Handler<
     )?)
 }
 
-/// Returns the fault's name and step, or `accepted` where there is none.
+/// Returns the fault's name and step, or `accepted` if there is none.
 fn fault_name(alloc: Global, fault: Option<Fault>) -> Result<String, AllocError> {
     let Some(fault) = fault else {
         return String::from_str(alloc, "accepted");

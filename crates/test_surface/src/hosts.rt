@@ -10,7 +10,7 @@ use stop_handlers::{ByPolicy, Handler, Policy};
 use test_kit::{Row, TestError, expect, step_in};
 use trace_stop::Settings;
 
-/// Creates an unused host. `None` where memory ran out.
+/// Creates an unused host. `None` if memory ran out.
 pub fn new_host(alloc: Global) -> Option<Host<ByPolicy>> {
     Host::<ByPolicy>::new(alloc, Settings::standard()).ok()
 }

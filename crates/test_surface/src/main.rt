@@ -1,5 +1,5 @@
 //! Uses the public calls, types, fields and variants that the library has for numbers, tables, steps, views, shared hosts
-//! and scenarios, and checks what they answer. It prints the name of each part, and ends with status 1 where a check
+//! and scenarios, and checks what they answer. It prints the name of each part, and ends with status 1 if a check
 //! fails. A name that is gone doesn't build.
 #![tactic(auto)]
 

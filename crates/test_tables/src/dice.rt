@@ -20,7 +20,7 @@ impl Dice {
         (self.seed >> 33) as u32
     }
 
-    /// Returns one of the items; `None` where there is none.
+    /// Returns one of the items; `None` if there is none.
     pub fn pick<T: Copy>(&mut self, items: &[T]) -> Option<T> {
         let at = self.roll() as usize;
         if items.is_empty() {

@@ -37,7 +37,7 @@ pub enum Stepping {
     Unchanged,
     /// None.
     Nobody,
-    /// This one alone.
+    /// Only this one.
     Only(Tid),
 }
 

@@ -10,21 +10,21 @@ use Rattle.trace_rows.specs.Facts.{MidStepInvariant, IsSound}
 abbrev pub traces_live : ℕ → Rows → Bool
 traces_live q rows = list_any (λ r. is_live r && traces q r) rows.processes
 
--- the rows after q alone has ended
+-- the rows after only q has ended
 abbrev pub end_alone : ℕ → ℕ → Rows → Rows
 end_alone q status rows = end_each (λ r. r.pid == q) (λ n. n == q) q status rows
 
--- a process without live tracees ends alone
+-- if a process without live tracees ends, no other process ends
 abbrev pub LeafEnd : Type 0
 LeafEnd = (settings : Settings) (rows : Rows) (q status : ℕ) → settings.kill_on_debugger_exit ≡ true → MidStepInvariant rows
     → is_process rows q ≡ true → traces_live q rows ≡ false → end settings q status rows ≡ end_alone q status rows
 
--- and so does a process whose tracees are detached
+-- nor does one if its tracees are detached
 abbrev pub DetachedEnd : Type 0
 DetachedEnd = (settings : Settings) (rows : Rows) (q status : ℕ) → settings.kill_on_debugger_exit ≡ false
     → is_process rows q ≡ true → end settings q status rows ≡ end_alone q status (left_alone settings q rows)
 
--- where a debugger's end kills, a process that ends with p can end before p, once it has no live tracee
+-- if a debugger's end kills, a process that ends with p can end before p, once it has no live tracee
 abbrev pub LeafEndsFirst : Type 0
 LeafEndsFirst = (settings : Settings) (rows : Rows) (p q status : ℕ) → settings.kill_on_debugger_exit ≡ true → MidStepInvariant rows
     → (q == p) ≡ false → dooms settings rows.processes p q ≡ true → traces_live q rows ≡ false
@@ -43,7 +43,7 @@ LeafExists = (settings : Settings) (rows : Rows) (p x : ℕ) → settings.kill_o
     → (x == p) ≡ false → dooms settings rows.processes p x ≡ true
     → (q : ℕ) × ((q == p) ≡ false) × (dooms settings rows.processes p q ≡ true) × (traces_live q rows ≡ false)
 
--- After the end of a live process q without live tracees, where a debugger's end kills
+-- After the end of a live process q without live tracees, if a debugger's end kills
 
 -- all processes that were live are live, except q
 abbrev pub LeafEndsNoOther : Type 0

@@ -2,24 +2,24 @@
 
 ghost use Rattle.trace_stop.specs.Laws.{LeafEnd, DetachedEnd, LeafEndsFirst, TraceeDoomed, LeafExists, LeafEndsNoOther, LeafEndLeavesFewer, LeafEndSparesNoDoomed, EndSound};
 
-/// A process without live tracees ends alone.
+/// If a process without live tracees ends, no other process ends.
 #[tactic(auto, using(crate::proofs::LeafEnd::leaf_end))]
 pub fn leaf_end()
     ensures { LeafEnd }
 {}
 
-/// A process whose tracees are detached at its end ends alone.
+/// If a process ends and its tracees are detached, no other process ends.
 pub fn detached_end()
     ensures { DetachedEnd }
 {}
 
-/// Where a debugger's end kills, a process without live tracees that ends with another can end first: the result is
+/// If a debugger's end kills, a process without live tracees that ends with another can end first: the result is
 /// the same.
 pub fn leaf_ends_first()
     ensures { LeafEndsFirst }
 {}
 
-/// Where a debugger's end kills, a live tracee of a process that ends, or of a process that ends with it, ends with it
+/// If a debugger's end kills, a live tracee of a process that ends, or of a process that ends with it, ends with it
 /// too.
 pub fn tracee_doomed()
     ensures { TraceeDoomed }
@@ -31,12 +31,12 @@ pub fn leaf_exists()
     ensures { LeafExists }
 {}
 
-/// Where a debugger's end kills, the end of a process without live tracees ends no other process.
+/// If a debugger's end kills, the end of a process without live tracees ends no other process.
 pub fn leaf_ends_no_other()
     ensures { LeafEndsNoOther }
 {}
 
-/// Where a debugger's end kills, fewer processes are live after the end of a process without live tracees.
+/// If a debugger's end kills, fewer processes are live after the end of a process without live tracees.
 pub fn leaf_end_leaves_fewer()
     ensures { LeafEndLeavesFewer }
 {}

@@ -71,7 +71,7 @@ fn line_of_difference(
     Ok(text)
 }
 
-/// A line in quotes, or the words for a text's end. Its line feed is printed only where the other line has none.
+/// A line in quotes, or the words for a text's end. Its line feed is printed only if the other line has none.
 #[derive(Clone, Copy, Drop)]
 struct Quoted<'a> {
     line: Option<&'a [u8]>,

@@ -59,7 +59,7 @@ fn bytes_of<R: Files + Input + AllocGlobal>(rt: &R, file: Option<&str>) -> io::R
     }
 }
 
-/// The scenario of the bytes. Its explanation is printed where it is one, and else goes with the fault.
+/// The scenario of the bytes. Its explanation is printed if it is one, and else goes with the fault.
 fn parse_explained<R: Eprint + AllocGlobal>(
     rt: &R,
     bytes: &[u8],
@@ -99,7 +99,7 @@ pub(crate) fn prompt<R: Eprint>(rt: &R, mode: &Mode<'_>) {
     let _ = eprintln!(rt; "{expected}");
 }
 
-/// Says that the run prints nothing, where the scenario has no step of the user whose lines are asked for.
+/// Says that the run prints nothing, if the scenario has no step of the user whose lines are asked for.
 pub(crate) fn explain_empty_run<R: Eprint>(rt: &R, scenario: &Scenario, shown: &Selection) {
     let Some(user) = shown.user else {
         return;

@@ -5,7 +5,7 @@
 //! `tracehost --lines [FILE] [--kill-on-debugger-exit 0|1]` makes the step of each line, and prints its reply before it reads the next
 //! one.
 //!
-//! Both read standard input where FILE is missing or `-`. With `--json` each line is a JSON object, and with
+//! Both read standard input if FILE is missing or `-`. With `--json` each line is a JSON object, and with
 //! `--json=trace` it has the step that it answers, too. `--explain` explains on standard error where and why input is refused; on a terminal
 //! it does so without being asked.
 #![tactic(auto)]
@@ -274,7 +274,7 @@ fn text_of_run<R: AllocGlobal + Threads + Wait + Sync, F: Decider + Send + Drop>
     let mut text = Vec::new(rt.alloc());
     match write_run(rt, scenario, handlers, shown, &mut text) {
         Ok(()) => Ok(text),
-        // a write into memory fails only where none is left
+        // a write into memory fails only if none is left
         Err(RunFault::Write) => Err(RunFault::Memory),
         Err(fault) => Err(fault),
     }

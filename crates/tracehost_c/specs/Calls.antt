@@ -9,7 +9,7 @@ style_of json = if json then Json else Text
 
 -- ---- lines
 
--- the room has the front of the text, or of the rows, that fits, and n is the whole length
+-- the room has the beginning of the text, or of the rows, that fits, and n is the whole length
 abbrev pub Shows : {X : Type 0} → (text room filled : List X) → ℕ → Type 0
 Shows text room filled n = (filled ≡ shown text room) × (n ≡ length text)
 

@@ -1,4 +1,4 @@
--- What a handle owns: its session's block, where it has a session.
+-- What a handle owns: its session's block, if it has a session.
 use base.Fml.{Fml, ftrue}
 use denote.RawPtr.{Ptr}
 use Rattle.std.specs.{Prelude.{ℕ, Option, Some, None}, Coded.{Coded, coded_option}, Box.Ownership.box_owns, Global.Global, contracts.impls.GlobalAllocator.TheImpl.ghosts}

@@ -5,7 +5,7 @@ use Rattle.open_sessions.specs.{Answers.LineReply, Calls.OpenSession, Laws.{Call
 use Rattle.tracehost_c.specs.Calls.{LineCall, TypedCall}
 
 -- a call that may change a session: one of a user, which is a step if its numbers are those of a step, or a line. All
--- others leave the session as it was, but for those that open and close a handle.
+-- others leave the session as it was, except those that open and close a handle.
 pub data HandleCall : Type 0 where
   typed_call : ℕ → Option PlainStep → HandleCall
   line_call : List ℕ → HandleCall

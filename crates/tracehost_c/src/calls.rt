@@ -16,7 +16,7 @@ use std::alloc::Global;
 /// The call was answered.
 pub(crate) const ANSWERED: u32 = 0;
 
-/// The handle isn't open, or is open where it is to be opened.
+/// The handle isn't open, or is open although it is to be opened.
 pub(crate) const NOT_OPEN: u32 = 1;
 
 /// Memory ran out. Nothing has changed.

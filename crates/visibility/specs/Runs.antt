@@ -12,7 +12,7 @@ use Rattle.requests.specs.Isolation.{reply_of, host_after, replies_to, answered,
 abbrev pub asked : ℕ × PlainStep → UserStep
 asked s = record { uid = s.0; step = s.1 }
 
--- a reply, or None where memory ran out
+-- a reply, or None if memory ran out
 abbrev pub reply_given : Reply → Option Reply
 reply_given r = if is_memory r then None else Some r
 

@@ -10,7 +10,7 @@ abbrev pub ReportedLeast : Type 0
 ReportedLeast = (rows : Rows) (caller : ℕ) (which : ℤ) (options : Options) → IsSound rows
     → LeastOrNone (λ p. (is_child caller p && fits which p) && reportable options caller p) 0 rows.processes (reported caller which options rows)
 
--- for a process of the user, the reported child and the answer are the same where no other user has rows
+-- for a process of the user, the reported child and the answer are the same as if no other user had rows
 abbrev pub ReportedOwn : Type 0
 ReportedOwn = (rows : Rows) (u caller : ℕ) (which : ℤ) (options : Options) → IsSound rows → owns u caller rows.processes ≡ true
     → reported caller which options (only_of u rows) ≡ reported caller which options rows

@@ -9,7 +9,7 @@ pub fn the_least_is_reported()
     ensures { ReportedLeast }
 {}
 
-/// Among its user's rows, a wait reports, answers and leaves the same as where no other user has rows. It
+/// Among its user's rows, a wait reports, answers and leaves the same as if no other user had rows. It
 /// leaves every other user's rows unchanged.
 #[tactic(auto, using(crate::proofs::LemmaSets::of_waits))]
 pub fn waits_are_apart()

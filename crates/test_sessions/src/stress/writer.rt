@@ -117,7 +117,7 @@ impl Writer {
         Some(process)
     }
 
-    /// Returns the number of one of the user's processes; 0 where there is none.
+    /// Returns the number of one of the user's processes; 0 if there is none.
     fn number(&mut self) -> u32 {
         match self.process() {
             Some(process) => process.pid.get(),

@@ -11,7 +11,7 @@ use std::sync::Wait;
 use std::thread::{Threads, join};
 use stop_handlers::{ByPolicy, Handler};
 
-/// Makes one call of the session. `None` where it has made all its calls.
+/// Makes one call of the session. `None` if it has made all its calls.
 pub fn ask<R: Wait>(
     rt: &R,
     alloc: Global,
@@ -86,7 +86,7 @@ struct Worked {
     replies: Vec<Reply>,
 }
 
-/// Makes the steps. `None` where memory or the calls ran out.
+/// Makes the steps. `None` if memory or the calls ran out.
 fn work<R: Wait>(
     rt: &R,
     alloc: Global,

@@ -38,7 +38,7 @@ fn at_trap(flags: StopFlags, decision: Decision) -> Rule
     }
 }
 
-/// Returns the policy's decision about a stop, and whether its first rule fits it. `None` where there is no such stop.
+/// Returns the policy's decision about a stop, and whether its first rule fits it. `None` if there is no such stop.
 fn decided(policy: &Policy, signal: u32, flags: u32) -> Option<(Decision, bool)> {
     let view = stop(signal, flags)?;
     let first = policy.rules().first();
