@@ -8,15 +8,30 @@ import collections
 import hashlib
 import html.parser
 import json
+import os
+import pathlib
+import shutil
 import subprocess
 import sys
 import unittest
 
 import viewer_runs as runs
 from viewer_browser import Tab
-from viewer_pages import BROWSER, EXAMPLES, MAKE, HAS_BROWSER, NO_BROWSER, TOP, Pages, lines_of, run, run_make
+from viewer_pages import BROWSER, EXAMPLES, HAS_BROWSER, MAKE, NO_BROWSER, PROGRAM, TOP, Pages, lines_of, run, run_make
 
 ALARM = "document.body.dataset.executed = 1"
+# files that nothing can be drawn of: the name, the bytes, what is said of it, and what the program explains
+NO_RUNS = (
+    ("elf", b"\x7fELF\x02\n\x1b[31m", "neither lines of --json nor a scenario: \\x7fELF\\x02\\n\\x1b[31m",
+     r"line 1, column 1: `\u{7f}ELF\u{2}` is no value of JSON; texts stand in double quotes"),
+    ("empty", b"\n", "there is nothing in it", "line 2, column 1: expected a value, but the text ends"),
+    ("plain", (TOP / "examples" / "first.out").read_bytes(),
+     "these are lines of the plain text; run tracehost with --json",
+     "line 1: this is a line that tracehost printed; run the scenario that it came from"),
+    ("cut", b'{"steps":[{"user', "this scenario is cut short, or no JSON",
+     "line 1, column 17: the text that begins at line 1, column 12 has no quotes at its end"),
+    ("no array", b'{"steps":7}', '"steps" is no array', "steps: expected an array of steps, got 7"),
+)
 
 
 class Make(unittest.TestCase):
@@ -55,7 +70,8 @@ class Make(unittest.TestCase):
         self.assertEqual(data, {"title": "b.json", "files": [{"name": "a.lines", "text": line},
                                                              {"name": "b.json", "text": steps}]})
         self.assertEqual((scripts, made.returncode), (2, 1))
-        self.assertEqual(made.stderr, b'viewer/make: b.json, step 2: no step: "</script>"\n')
+        self.assertEqual(made.stderr.decode().splitlines(), ['viewer/make: b.json, step 2: no step: "</script>"',
+                                                             '  steps[1]: expected an object, got "</script>"'])
 
     def test_only_the_data_differs_from_the_empty_page(self):
         lines = self.pages.file("a.lines", b'{"refused":"BadJson"}\n')
@@ -84,35 +100,53 @@ class Make(unittest.TestCase):
         self.assertRegex(done.stderr.decode(), r"\Aviewer/make: .*none.lines: No such file or directory\n\Z")
         self.assertFalse(page.exists())
 
-    def told(self, *words):
-        """What is said of files that aren't a run, and whether there is a page."""
+    def told(self, *words, **how):
+        """The lines that are said of files that aren't a run, and whether there is a page."""
         page = self.pages.room / "page.html"
         page.unlink(missing_ok=True)
-        done = run_make(*words, "-o", page)
+        done = run_make(*words, "-o", page, **how)
         self.assertEqual((done.returncode, done.stdout), (1, b""), done.stderr)
         text = done.stderr.decode()
-        self.assertEqual(text.count("\n"), 1)
-        return text.removeprefix("viewer/make: ").rstrip("\n"), page.exists()
+        self.assertTrue(text.startswith("viewer/make: ") and text.endswith("\n"), text)
+        return text.removeprefix("viewer/make: ").removesuffix("\n").split("\n"), page.exists()
 
     def test_what_is_no_run_is_refused(self):
-        """With a status and a line; a page is made where some of it can be drawn."""
-        file, first = self.pages.file, TOP / "examples" / "first.json"
-        lines = lines_of(first)
-        strange = "neither lines of --json nor a scenario: "
-        self.assertEqual(self.told(file("elf", b"\x7fELF\x02\n\x1b[31m")), (f"elf: {strange}\\x7fELF\\x02\\n\\x1b[31m", False))
-        self.assertEqual(self.told(file("empty", b"\n")), ("empty: there is nothing in it", False))
-        plain = (TOP / "examples" / "first.out").read_bytes()
-        self.assertEqual(self.told(file("plain", plain)),
-                         ("plain: these are lines of the plain text; run tracehost with --json", False))
-        self.assertEqual(self.told(file("cut", b'{"steps":[{"user')), ("cut: this scenario is cut short, or no JSON", False))
-        self.assertEqual(self.told(file("no array", b'{"steps":7}')), ('no array: "steps" is no array', False))
-        text, is_made = self.told(file("half", lines[:-20]))
+        """With a status, a line, and what the program says of it."""
+        for name, data, fault, explanation in NO_RUNS:
+            with self.subTest(name):
+                self.assertEqual(self.told(self.pages.file(name, data)), ([f"{name}: {fault}", f"  {explanation}"], False))
+
+    def test_without_a_program_what_is_no_run_is_refused_by_its_line_only(self):
+        """None is named, on the path, beside the viewer or in a checkout."""
+        folder = self.pages.room / "prefix" / "share" / "viewer"
+        shutil.copytree(TOP / "viewer", folder)
+        alone = {"make": folder / "make", "env": {**os.environ, "TRACEHOST": "", "PATH": str(folder)}}
+        for name, data, fault, _ in NO_RUNS:
+            with self.subTest(name):
+                self.assertEqual(self.told(self.pages.file(name, data), **alone), ([f"{name}: {fault}"], False))
+
+    def test_a_program_that_explains_nothing(self):
+        """One that refuses the option, says nothing, or is ended by a signal: that on the path is asked instead."""
+        name, data, fault, explanation = NO_RUNS[0]
+        file, path = self.pages.file(name, data), self.pages.room / "bin"
+        path.mkdir()
+        (path / "tracehost").symlink_to(pathlib.Path(PROGRAM).resolve())
+        for words in ("echo usage >&2; echo more >&2; exit 2", "exit 1", "kill -9 $$"):
+            silent = self.pages.file("silent", f"#!/bin/sh\n{words}\n".encode())
+            silent.chmod(0o755)
+            env = {**os.environ, "TRACEHOST": str(silent), "PATH": f"{path}:/usr/bin:/bin"}
+            with self.subTest(words):
+                self.assertEqual(self.told(file, env=env), ([f"{name}: {fault}", f"  {explanation}"], False))
+
+    def test_a_page_is_made_of_what_can_be_drawn(self):
+        """And what can't is told in a line: the program isn't asked of lines that it has printed."""
+        lines = lines_of(TOP / "examples" / "first.json")
+        (text,), is_made = self.told(self.pages.file("half", lines[:-20]))
         self.assertTrue(is_made)
         self.assertRegex(text, r"^half, line \d+: no JSON: ")
-        text, is_made = self.told(file("two", b"[]\n" + lines + b"{}\n"))
-        self.assertTrue(is_made)
-        self.assertEqual(text, "two, line 1: no object: [] (and 1 more, which the page lists)")
-        text, is_made = self.told(file("lines", lines), TOP / "examples" / "sandbox.json")
+        self.assertEqual(self.told(self.pages.file("two", b"[]\n" + lines + b"{}\n")),
+                         (["two, line 1: no object: [] (and 1 more, which the page lists)"], True))
+        (text,), is_made = self.told(self.pages.file("lines", lines), TOP / "examples" / "sandbox.json")
         self.assertTrue(is_made)
         self.assertRegex(text, r"^sandbox.json isn't the scenario of these lines: its step \d+ of user \d+ can't be answered")
 

@@ -1,6 +1,7 @@
 """Pages of the viewer, for its tests."""
 
 import importlib.machinery
+import os
 import pathlib
 import subprocess
 import sys
@@ -19,8 +20,10 @@ NO_BROWSER = "Chromium isn't installed, so no page is opened"
 BROWSER = Browser(sys.argv[2]) if HAS_BROWSER else None
 
 
-def run_make(*words, **how):
-    return subprocess.run([sys.executable, str(MAKE), *map(str, words)], capture_output=True, **how)
+def run_make(*words, make=MAKE, **how):
+    """viewer/make with these words; it asks the program that is tested, unless `env` names another one."""
+    how.setdefault("env", {**os.environ, "TRACEHOST": PROGRAM})
+    return subprocess.run([sys.executable, str(make), *map(str, words)], capture_output=True, **how)
 
 
 def lines_of(*words):
