@@ -42,7 +42,7 @@ else
   skip "there is no library, so the client in Python runs over a pipe alone"
 fi
 
-# ---- C, with the checks of the compiler's sanitizers where they are there
+# ---- C, with the checks of the compiler's sanitizers if they are there
 warnings=(-Wall -Wextra -Wpedantic -Werror)
 flags=(-std=c11 "${warnings[@]}" -g -pthread)
 sanitizers=("-fsanitize=address,undefined" -fno-sanitize-recover=all)

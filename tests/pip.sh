@@ -19,7 +19,7 @@ run_first() { "$@" examples/first.json | diff examples/first.out -; }
 block() { awk -v fence="\`\`\`$2" '/^```/ { inside = $0 == fence; n += inside; next } inside && n == 1' "$1"; }
 printed() { sed -n '/^prints$/,/^[^ ]/ s/^    //p' "$1"; }
 
-# what the installed client takes where nothing is named
+# what the installed client takes if nothing is named
 transport() { (cd "$room" && "$bin/python" -c 'import tracehost; print(tracehost.Host().transport)'); }
 
 fails() { ! "$@"; }

@@ -57,7 +57,7 @@ check "the scenarios from Rust" env TRACEHOST_WORDS="$room/words" cargo test --o
 replayed=$(sed -nE 's/^([0-9]+) scenarios, .*/\1/p' "$room/.output")
 check "all ${#scenarios[@]} scenarios from Rust" test "${replayed:-0}" -eq "${#scenarios[@]}"
 
-# codes that the library returns where memory runs out
+# codes that the library returns if memory runs out
 if need cc ar; then
   mkdir "$room/memory"
   check "cc library.c" cc -std=c11 -Wall -Werror -O1 -fPIC -I include -c -o "$room/memory/library.o" \

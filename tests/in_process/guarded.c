@@ -38,7 +38,7 @@ static uint8_t *new_room(void)
     return pages + ROOM;
 }
 
-/* the last `size` bytes of a room, with a word before them; `size` is a multiple of 4 where words are stored */
+/* the last `size` bytes of a room, with a word before them; `size` is a multiple of 4 if words are stored */
 static void *guarded(int which, size_t size)
 {
     uint32_t word = WORD;

@@ -1,9 +1,9 @@
 """Prints how many lines the tests reach: of the client in C and of the runtime of C programs on the model (gcov), the
-client in Python (coverage.py) and the viewer's script (V8's counts by node and Chromium's are joined where both are here).
+client in Python (coverage.py) and the viewer's script (V8's counts by node and Chromium's are joined if both are here).
 
     python3 tests/python/coverage_of.py PROGRAM LIBRARY [python | c | viewer | runtime]
 
-Each part prints `NAME: P% of N lines`. The status is 1 where a part is below its bound.
+Each part prints `NAME: P% of N lines`. The status is 1 if a part is below its bound.
 """
 
 from __future__ import annotations

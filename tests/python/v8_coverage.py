@@ -68,7 +68,7 @@ def of_node(folder: pathlib.Path) -> set[Line]:
 
 
 def of_pages(folder: pathlib.Path) -> set[Line]:
-    """By the files that viewer_browser.py leaves for each tab where VIEWER_COVERAGE names this folder."""
+    """By the files that viewer_browser.py leaves for each tab if VIEWER_COVERAGE names this folder."""
     source = f"\n{MAKER.script(SOURCES)}"
     lines = page_lines()
     assert len(lines) == len(source.split("\n")), "the page's script has other lines"

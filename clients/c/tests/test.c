@@ -4,7 +4,7 @@
  *
  *     test PROGRAM FAKE FOLDER MILLISECONDS [emulated]
  *
- * FAKE is a program that answers each line as the environment's FAKE says: with that line, or by ending where it is empty. The
+ * FAKE is a program that answers each line as the environment's FAKE says: with that line, or by ending if it is empty. The
  * folder is for files. Signals interrupt calls each so many milliseconds. With `emulated` nothing is expected of a
  * program that isn't there: in valgrind posix_spawn(3) starts it all the same. Compiled with -DTRACEHOST_IN_PROCESS, the
  * sessions with PROGRAM are in the process (session.h).

@@ -27,7 +27,7 @@ impl<'a> Words<'a> {
         self.word().parse().expect("a word of 32 bits")
     }
 
-    /// A signal, 0 for none; `None` where the types of the crate don't have it.
+    /// A signal, 0 for none; `None` if the types of the crate don't have it.
     fn pass(&mut self) -> Option<Option<Signal>> {
         match self.number() {
             0 => Some(None),
@@ -139,7 +139,7 @@ fn disposition(words: &mut Words) -> Disposition {
     }
 }
 
-/// Makes the step by a typed call; `None` where the types of the crate don't have it.
+/// Makes the step by a typed call; `None` if the types of the crate don't have it.
 fn typed(session: &mut Session, line: &str) -> Option<Answer> {
     let mut words = Words(line.split_ascii_whitespace());
     let (op, user) = (words.word(), words.number());
