@@ -24,6 +24,7 @@
 #   need COMMAND..        is true if all these commands are installed, and else counts one skip
 #   count TEXT COMMAND..  runs a command that counts its own checks and prints them as its last line, and adds them
 #   run_pytest WORD..     runs pytest with these words, and adds the tests that it counts
+#   block PAGE LANGUAGE   prints the first block of a page in this language
 #
 # At the end the script prints `N passed, M failed, K skipped`.  Its status is 0 if it counted checks and none failed.
 set -uo pipefail
@@ -124,6 +125,8 @@ run_pytest() {
   done
   skip "no python3 here has pytest: $*"
 }
+
+block() { awk -v fence="\`\`\`$2" '/^```/ { inside = $0 == fence; n += inside; next } inside && n == 1' "$1"; }
 
 # prints the absolute path of the program to test, $1 if it isn't empty
 find_program() {

@@ -71,7 +71,6 @@ crate run --quiet --example debugger >"$room/out"
 same clients/debugger.out "$room/out" "the output of clients/rust/examples/debugger.rs"
 
 # the code in docs/CLIENTS.md, in a package that depends on the crate; away from the checkout pkg-config has the library
-block() { awk -v fence="\`\`\`$2" '/^```/ { inside = $0 == fence; n += inside; next } inside && n == 1' "$1"; }
 page() {
   (cd "$room/page" && env -u TRACEHOST_LIB_DIR PKG_CONFIG_LIBDIR="$room/pkgconfig" cargo run --offline --quiet)
 }

@@ -11,6 +11,7 @@
  */
 #define _POSIX_C_SOURCE 200809L
 
+#include "check.h"
 #include "session.h"
 
 #include <signal.h>
@@ -20,23 +21,6 @@
 #include <sys/time.h>
 #include <sys/wait.h>
 #include <unistd.h>
-
-static int failed;
-
-#define CHECK(truth) \
-    do { \
-        if (!(truth)) { \
-            printf("FAILED: line %d: %s\n", __LINE__, #truth); \
-            failed = 1; \
-        } \
-    } while (0)
-
-/* the call is refused with this errno */
-#define REFUSED(error, call) \
-    do { \
-        errno = 0; \
-        CHECK((call) == -1 && errno == (error)); \
-    } while (0)
 
 static const th_caller self = {1001, 1000};
 
