@@ -1,6 +1,6 @@
 /*
  * Random calls of the library, on four handles, with rooms that end at a page which can't be touched, and a word before them
- * that has to stay. A call that is refused leaves its reply alone; a closed handle refuses each call.
+ * that has to stay. A call that is refused doesn't write its reply; a closed handle refuses each call.
  *
  *     guarded FROM TO        a run of up to 400 calls for each seed
  */

@@ -42,7 +42,7 @@ def page_lines() -> list[Line | None]:
 
 
 def run_lines(source: str, functions: Iterable[dict[str, Any]]) -> Iterator[int]:
-    """The lines of a script of which some part has run: V8 nests its ranges, and the innermost one counts."""
+    """The lines of a script that have run in part: V8 nests its ranges, and the innermost one counts."""
     counts = [0] * len(source)
     ranges = [one for function in functions for one in function["ranges"]]
     for one in sorted(ranges, key=lambda one: (one["startOffset"], -one["endOffset"])):

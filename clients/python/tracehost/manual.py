@@ -101,4 +101,4 @@ def explain(name: str) -> str:
         default = "stops" if name in _STOPS else "is discarded by" if name in _DISCARDED else "ends"
         return f"Signal {int(Signal[name])}, which {default} a process by default."
     near = difflib.get_close_matches(name, topics(), 1)
-    return f"No help for {name}{f'; did you mean {near[0]}?' if near else '.'} `help` alone lists the steps."
+    return f"No help for {name}{f'; did you mean {near[0]}?' if near else '.'} `help` lists the steps."

@@ -173,7 +173,7 @@ class TypedCalls:
         return handled
 
     def _made(self, code: int, uid: int) -> Any:
-        """What the reply stands for. Raises Held and Answered if it is one of these."""
+        """The reply as the calls return it. Raises Held and Answered if it is one of these."""
         if code == INVALID:
             raise NotTyped
         if code:
