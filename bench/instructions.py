@@ -4,9 +4,9 @@
     python3 bench/instructions.py [PROGRAM ..] [--steps N] [--peak] [--top N]
 
 PROGRAM is a built program (default: crates/tracehost/out/tracehost, which ./tracehost builds); several are compared,
-numbered from 1. Each runs ten loads of N steps (default 40,000; as many as fit, where these are longer than the program
+numbered from 1. Each runs ten loads of N steps (default 40,000; as many as fit, if these are longer than the program
 reads). Printed is a row for each load and program: millions of instructions of the whole run, of reading the scenario,
-of binding handlers to its steps, of the host's steps, and of the text; `-` where a part has no function of its own in
+of binding handlers to its steps, of the host's steps, and of the text; `-` if a part has no function of its own in
 that program. With --peak also the resident memory at most, in times the scenario's bytes. With --top the N functions
 that cost most by themselves follow, for each load and program.
 """
@@ -46,7 +46,7 @@ PARTS = {
     'steps': (
         r'requests::host::Host::(step|make)\b.*',
         r'visibility::runs::run_list\b.*',
-        # the steps and what is around them, where they are inlined: in `text_of` the text too
+        # the steps and what is around them, if they are inlined: in `text_of` the text too
         r'scenario_runs::running::(text_of|replies_of)\b.*',
     ),
     'text': (

@@ -79,7 +79,7 @@ def grouped(text):
 
 
 def lines(program, *words):
-    """What the program prints. Ends all where the program refuses the run."""
+    """What the program prints. Ends all if the program refuses the run."""
     run = subprocess.run([program, *words], capture_output=True)
     if run.returncode != 0:
         error = run.stderr.decode(errors='replace').strip()

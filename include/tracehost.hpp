@@ -48,7 +48,7 @@ public:
         return reply;
     }
 
-    // tracehost_handle, with a function that decides where the rules of the caller leave or decline the stop. It gets the
+    // tracehost_handle. If the rules of the caller leave or decline the stop, a function decides. It gets the
     // reply of the stop, with the system call's number in `code`, and returns TRACEHOST_CONTINUE .. or such a decision with
     // the signal to pass on, `tracehost_session::passing(TRACEHOST_CONTINUE, 15)`. Then the request is made, which is a step
     // of its own; its reply is returned if it is an error. Else the reply is that of the stop, with that decision.

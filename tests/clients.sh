@@ -42,7 +42,7 @@ else
   skip "there is no library, so the client in Python runs over a pipe alone"
 fi
 
-# ---- C, with the checks of the compiler's sanitizers where they are there
+# ---- C, with the checks of the compiler's sanitizers if they are there
 warnings=(-Wall -Wextra -Wpedantic -Werror)
 flags=(-std=c11 "${warnings[@]}" -g -pthread)
 sanitizers=("-fsanitize=address,undefined" -fno-sanitize-recover=all)
@@ -170,15 +170,14 @@ check "the session that it leaves" "$program" "$room/fails/signal_twice.json" --
 check "the page that it leaves" grep -q '</html>' "$room/fails/signal_twice.html"
 
 # ---- the code in docs/CLIENTS.md, with the output that the page shows
-block() { awk -v fence="$1" '/^```/ { inside = $0 == "```" fence; n += inside; next } inside && n == 1' docs/CLIENTS.md; }
-block python >"$room/page.py"
+block docs/CLIENTS.md python >"$room/page.py"
 sed -n 's/^    \(Waited(.*\|None .*\|SIGSEGV\)$/\1/p' docs/CLIENTS.md >"$room/wanted"
 for library in "${libraries[@]}"; do
   TRACEHOST_LIBRARY=$library PYTHONPATH=clients/python python3 "$room/page.py" >"$room/out"
   check "the code in docs/CLIENTS.md in Python: the status" test $? -eq 0
   same "$room/wanted" "$room/out" "the code in docs/CLIENTS.md in Python ${library:+by the library}"
 done
-block c >"$room/page.c"
+block docs/CLIENTS.md c >"$room/page.c"
 check "cc of the code in docs/CLIENTS.md" cc "${flags[@]}" -I clients/c -o "$room/page" "$room/page.c" "$room/tracehost.o"
 need c++ && check "the code in docs/CLIENTS.md in C++" c++ -std=c++11 "${warnings[@]}" -fsyntax-only -I clients/c -x c++ "$room/page.c"
 "$room/page" "$program" >"$room/out" 2>&1

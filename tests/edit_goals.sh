@@ -10,7 +10,7 @@ source "$(dirname "${BASH_SOURCE[0]}")/lib.sh"
 need python3 || exit
 check "each edit of the table is there" tools/edit_goals
 
-# the complaints about one edit of the table, where a log has this line about it
+# the complaints about one edit of the table, if a log has this line about it
 complaints() { tools/edit_goals --log <(printf '%s\n' "$1") | grep -F 'proc_table/pids_from_one_counter_for_all_users'; }
 edit='rt: must-fail proc_table/pids_from_one_counter_for_all_users.edit: refused, as it must be'
 line_of() { grep -n "pub fn $1" crates/proc_table/src/tables.rt | cut -d: -f1; }

@@ -96,7 +96,7 @@ says "minus zero" 1 "" 'tracehost: refused: BadShape at step 1
   steps[0].caller: expected a whole number from 0 to 4294967295, got -0
 ' --explain
 
-# ---- a key that stands more than once is told of where the scenario is run, too
+# ---- a key that comes more than once is reported although the scenario is run
 echo "{\"steps\":[{\"user\":7,\"op\":\"spawn\",\"user\":1001}]}" >input
 says "a key twice" 0 '1001 1 new 1000 100000
 ' '  steps[0]: the key "user" stands twice; the last counts

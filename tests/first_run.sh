@@ -1,6 +1,6 @@
 #!/usr/bin/env bash
 # What a first ./tracehost prints while it proves and builds, with a stand-in for rt that proves nothing: what the gate is
-# given, each crate once, where one fails, and that an interrupted run leaves nothing behind and goes on later, with a kit
+# given, each crate once, what is said if one fails, and that an interrupted run leaves nothing behind and goes on later, with a kit
 # that keeps a record of what passed and with one that keeps none.
 #
 #   bash tests/first_run.sh
@@ -10,7 +10,7 @@ source "$(dirname "${BASH_SOURCE[0]}")/lib.sh"
 need python3 git flock || exit
 
 # a copy without what was built, and the stand-in: its scheduler takes the tasks in the order of crates.txt, and it fails
-# where a crate is missing, or in the crate that FAILS names. It keeps in KEPT what has passed, if RECORD isn't empty, and
+# if a crate is missing, and in the crate that FAILS names. It keeps in KEPT what has passed, if RECORD isn't empty, and
 # notes in GIVEN what it was given
 mkdir "$room/copy" "$room/bin" "$room/kept" "$room/tmp"
 echo "a kit" >"$room/KIT-ID"
@@ -233,7 +233,7 @@ echo "another kit" >"$room/KIT-ID"
 run_without_record
 same "$room/whole" <(proved) "another kit proves all again"
 
-# waits until the gate has begun; false where the run with this process id has ended before
+# waits until the gate has begun; false if the run with this process id has ended before
 has_begun() {
   until grep -qx begin "$CALLS"; do
     kill -0 "$1" 2>/dev/null || return

@@ -45,7 +45,7 @@ names() {
     grep -vxE "$allowed" >"$room/others"
   same /dev/null "$room/others" "other names that libtracehost.so needs"
 }
-# a release's library is older than its header where the header's calls have changed since
+# a release's library is older than its header if the header's calls have changed since
 is_present=yes
 if ! grep -qF "$(tools/version)" "$library/libtracehost.so" || ! grep -qF tracehost_version "$library/libtracehost.so"; then
   is_present=

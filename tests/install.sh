@@ -17,9 +17,6 @@ version=$(tools/version)
 # what a command prints for examples/first.json, against the lines next to it
 run_first() { "$@" examples/first.json | diff examples/first.out -; }
 
-# the first block of a page in this language
-block() { awk -v fence="\`\`\`$2" '/^```/ { inside = $0 == fence; n += inside; next } inside && n == 1' "$1"; }
-
 complete_in() { bash --norc -c 'source "$1" && complete -p tracehost' - "$1"; }
 same_page() {
   tracehost --json examples/first.json >"$room/lines" || return

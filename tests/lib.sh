@@ -15,17 +15,18 @@
 #   pass [TEXT]           counts a passed check
 #   fail TEXT             counts a failed one
 #   skip TEXT             counts one that can't be made here
-#   check TEXT COMMAND..  runs a command; it passes where its status is 0, and else its output is shown
+#   check TEXT COMMAND..  runs a command; it passes if its status is 0, and else its output is shown
 #   same WANTED GOT TEXT  compares two files
 #   answers TEXT STATUS OUT ERR WORD..
 #                         runs the program with these words: it has to end with this status, and to print what the files
 #                         OUT and ERR contain on standard output and standard error
 #   find_library          prints the folder of the library to test
-#   need COMMAND..        is true where all these commands are installed, and else counts one skip
+#   need COMMAND..        is true if all these commands are installed, and else counts one skip
 #   count TEXT COMMAND..  runs a command that counts its own checks and prints them as its last line, and adds them
 #   run_pytest WORD..     runs pytest with these words, and adds the tests that it counts
+#   block PAGE LANGUAGE   prints the first block of a page in this language
 #
-# At the end the script prints `N passed, M failed, K skipped`.  Its status is 0 where it counted checks and none failed.
+# At the end the script prints `N passed, M failed, K skipped`.  Its status is 0 if it counted checks and none failed.
 set -uo pipefail
 
 passed=0
@@ -125,7 +126,9 @@ run_pytest() {
   skip "no python3 here has pytest: $*"
 }
 
-# prints the absolute path of the program to test, $1 where it isn't empty
+block() { awk -v fence="\`\`\`$2" '/^```/ { inside = $0 == fence; n += inside; next } inside && n == 1' "$1"; }
+
+# prints the absolute path of the program to test, $1 if it isn't empty
 find_program() {
   local named=${1:-${TRACEHOST:-}} built=$top/crates/tracehost/out/tracehost release
   release=$top/release/$(uname -m)-linux/tracehost
@@ -139,7 +142,7 @@ find_program() {
 }
 
 # prints the absolute path of the folder with the library to test, libtracehost.a and libtracehost.so: $TRACEHOST_LIB_DIR,
-# else that of the one built here, else the release's; its status is 1 where there is none
+# else that of the one built here, else the release's; its status is 1 if there is none
 find_library() {
   local folder
   for folder in ${TRACEHOST_LIB_DIR:+"$TRACEHOST_LIB_DIR"} "$top/crates/tracehost_c/out" "$top/release/$(uname -m)-linux"; do

@@ -15,11 +15,10 @@ version=$(tools/version)
 # what a command prints for examples/first.json, against the lines next to it
 run_first() { "$@" examples/first.json | diff examples/first.out -; }
 
-# the first block of a page in this language, and the indented lines that it prints
-block() { awk -v fence="\`\`\`$2" '/^```/ { inside = $0 == fence; n += inside; next } inside && n == 1' "$1"; }
+# the indented lines that a page's block prints
 printed() { sed -n '/^prints$/,/^[^ ]/ s/^    //p' "$1"; }
 
-# what the installed client takes where nothing is named
+# what the installed client takes if nothing is named
 transport() { (cd "$room" && "$bin/python" -c 'import tracehost; print(tracehost.Host().transport)'); }
 
 fails() { ! "$@"; }

@@ -18,7 +18,7 @@ if ! python=$(python_with_both); then
   skip "no python3 here has pytest and hypothesis: the plugin isn't tried"
   exit
 fi
-# -rN leaves out the closing summary, which repeats more where CI is set
+# -rN leaves out the closing summary, which repeats more if CI is set
 run_pytest() { "$python" -m pytest -q -rN -p tracehost.pytest_plugin -p no:cacheprovider "$@"; }
 
 need mypy && MYPYPATH=clients/python check "mypy" mypy --strict --python-executable "$python" --cache-dir "$room/mypy" \

@@ -57,7 +57,7 @@ check "the scenarios from Rust" env TRACEHOST_WORDS="$room/words" cargo test --o
 replayed=$(sed -nE 's/^([0-9]+) scenarios, .*/\1/p' "$room/.output")
 check "all ${#scenarios[@]} scenarios from Rust" test "${replayed:-0}" -eq "${#scenarios[@]}"
 
-# codes that the library returns where memory runs out
+# codes that the library returns if memory runs out
 if need cc ar; then
   mkdir "$room/memory"
   check "cc library.c" cc -std=c11 -Wall -Werror -O1 -fPIC -I include -c -o "$room/memory/library.o" \
@@ -71,7 +71,6 @@ crate run --quiet --example debugger >"$room/out"
 same clients/debugger.out "$room/out" "the output of clients/rust/examples/debugger.rs"
 
 # the code in docs/CLIENTS.md, in a package that depends on the crate; away from the checkout pkg-config has the library
-block() { awk -v fence="\`\`\`$2" '/^```/ { inside = $0 == fence; n += inside; next } inside && n == 1' "$1"; }
 page() {
   (cd "$room/page" && env -u TRACEHOST_LIB_DIR PKG_CONFIG_LIBDIR="$room/pkgconfig" cargo run --offline --quiet)
 }

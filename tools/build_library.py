@@ -5,9 +5,9 @@
                                            its folder out/, where tools/library finds them
     tools/build_library.py ARCHIVE FOLDER  makes both in FOLDER of an archive that `rt lib` built in crates/tracehost_c
 
-`rt ci` proves a static library and builds none. What it left of the crates below has their statements alone, and `rt lib`
+`rt ci` proves a static library and builds none. What it left of the crates below has only their statements, and `rt lib`
 would prove these crates anew. So this gives `rattle build` the words that rt itself makes for the crate: that checks the
-whole crate from nothing, as the gate did, and then compiles what it has just proved. tools/unwinding_clang stands in the
+whole crate from nothing, as the gate did, and then compiles what it has just proved. tools/unwinding_clang takes the
 place of the kit's clang there, and asks it for unwind tables.
 
 The words of its codes, and its version, are of library/words.c. Both files contain the kit's functions for memory, which call

@@ -117,7 +117,7 @@ class Progress:
 
 
 def report_of(log_path: str, failed: str) -> str:
-    """Returns the last lines of what the gate printed of a crate that failed, or where none is known of all."""
+    """Returns the last lines of what the gate printed of a crate that failed; of all if none is known."""
     with open(log_path, encoding="utf-8", errors="replace") as text:
         lines = text.readlines()
     begins, ends = f"== {failed}\n", f"rt: {failed} NOT PROVED\n"
@@ -193,7 +193,7 @@ def prove() -> int:
 
 
 def main() -> int:
-    # also where the caller ignores interrupts, as a shell does for what it runs in the background
+    # also if the caller ignores interrupts, as a shell does for what it runs in the background
     for number in SIGNALS:
         signal.signal(number, interrupt)
     try:

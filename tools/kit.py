@@ -11,7 +11,7 @@ import types
 
 
 def load_rt() -> types.ModuleType:
-    """Returns the command rt as a module. Ends this program where there is none, or where it isn't a Python program."""
+    """Returns the command rt as a module. Ends this program if there is none, or if it isn't a Python program."""
     path = shutil.which("rt")
     if path is None:
         sys.exit(f"{os.path.basename(sys.argv[0])}: the command rt of the Rattle kit is missing")

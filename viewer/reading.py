@@ -92,7 +92,7 @@ REPLIES: dict[str, dict[str, Check]] = {
     "ended": _STATUS,
     "error": {"errno": is_name, "number": is_word},
 }  # fmt: skip
-# the members of a status, one of which says what its word means
+# the members of a status; one of them says what its word means
 _MEANINGS: dict[str, Check] = {"exited": is_word, "signaled": is_signal, "stopped": is_signal, "continued": one_of(True)}
 # tools/format ops
 # the replies of each op, beside error and held

@@ -56,7 +56,7 @@ static void view(tracehost *h, uint32_t user, size_t process_count, size_t lwp_c
     wanted(processes_length == process_count && lwps_length == lwp_count, "not the rows that there are");
 }
 
-/* its own function, so that callgrind can collect here alone */
+/* its own function, so that callgrind can count only here */
 __attribute__((noinline)) static void look(tracehost *h, size_t own)
 {
     view(h, USER, own, own);
@@ -76,7 +76,7 @@ int main(int count, char **words)
     for (size_t i = 0; i < own; i++)
         spawn(&h, USER);
     for (int i = 0; i < 16; i++)
-        view(&h, USER, own, own); /* then malloc has memory of these sizes at hand, whatever was freed before */
+        view(&h, USER, own, own); /* then malloc has memory of these sizes at hand */
     look(&h, own);
     tracehost_close(&h);
     return 0;

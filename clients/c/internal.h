@@ -51,7 +51,7 @@ struct thp_wait {
 struct thp_transport {
     /* Sends the line in `step`, and stores the line of its answer in `answer`; -1 with errno. */
     int (*exchange)(th_host *h);
-    /* Stores why the last step was refused, at most size - 1 bytes and a NUL; "" where that isn't known. */
+    /* Stores why the last step was refused, at most size - 1 bytes and a NUL; "" if that isn't known. */
     void (*read_reason)(th_host *h, char *reason, size_t size);
     /* Nothing more is exchanged. */
     void (*stop)(th_host *h);
@@ -89,7 +89,7 @@ struct th_host {
 th_host *thp_new(const struct thp_transport *transport, const struct th_settings *settings);
 void thp_free(th_host *h);
 void thp_add_bytes(struct thp_text *text, const char *bytes, size_t length);
-/* at least `more` bytes of room; -1 where memory ran out */
+/* at least `more` bytes of room; -1 if memory ran out */
 int thp_room_for(struct thp_text *text, size_t more);
 /* No more is sent or received: the next calls answer EPIPE. */
 void thp_break_off(th_host *h);
@@ -138,7 +138,7 @@ void thp_key_names(th_host *h, const char *key, const struct thp_table *table, i
 
 /* The length of the word at *at, which moves past it and the space that follows. */
 size_t thp_word_length(const char **at, const char **word);
-/* Each of these takes a part of the reply at the cursor; -1 where it isn't there. */
+/* Each of these takes a part of the reply at the cursor; -1 if it isn't there. */
 int thp_take_word(const char **at, const char *wanted);
 int thp_take_number(const char **at, uint32_t *number);
 int thp_take_int(const char **at, int *number);

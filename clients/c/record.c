@@ -17,7 +17,7 @@ static int may_have_size(off_t size)
     return getrlimit(RLIMIT_FSIZE, &limit) != 0 || limit.rlim_cur == RLIM_INFINITY || (rlim_t)size <= limit.rlim_cur;
 }
 
-/* Writes the bytes from `at` on, where the file ends in `before`; -1 with errno, and the file ends as before. */
+/* Writes the bytes from `at` on, if the file ends in `before`; -1 with errno, and the file ends as before. */
 static int replace_end(int file, const char *bytes, size_t length, off_t at, const char *before)
 {
     size_t done = 0, kept = strlen(before);

@@ -28,7 +28,7 @@ void thp_end_threads(th_host *h)
     pthread_mutex_destroy(&h->lock);
 }
 
-/* the wait that is asked next; NULL where none is due */
+/* the wait that is asked next; NULL if none is due */
 static struct thp_wait *first_due(const th_host *h)
 {
     struct thp_wait *wait = h->waits;
@@ -76,7 +76,7 @@ static struct timespec deadline_in(int timeout)
     return at;
 }
 
-/* Sleeps until something has changed; ETIMEDOUT where `deadline`, if there is one, has passed. */
+/* Sleeps until something has changed; ETIMEDOUT if there is a `deadline` and it has passed. */
 static int sleep_until(th_host *h, const struct timespec *deadline)
 {
     if (deadline == NULL)
@@ -125,7 +125,7 @@ th_pid thp_block(th_host *h, th_pid (*ask)(th_host *h, void *call), void *call, 
     return pid;
 }
 
-/* whether `count` waits are blocked, and none of them is to be asked again; where the session is broken, no wait blocks */
+/* whether `count` waits are blocked, and none of them is to be asked again; if the session is broken, no wait blocks */
 static int are_blocked(const th_host *h, size_t count)
 {
     size_t blocked = 0;

@@ -12,7 +12,7 @@
  *     th_wait4(h, self, -1, &status, 0);          // TH_WIFSTOPPED(status), TH_WSTOPSIG(status) == TH_SIGSTOP
  *     th_close(h);
  *
- * A call has the signature of its manual page, with the session and the caller before it. It returns -1 and sets errno where
+ * A call has the signature of its manual page, with the session and the caller before it. It returns -1 and sets errno if
  * it is refused:
  *
  *   - ESRCH, EPERM, ECHILD, EBUSY, EINVAL, EAGAIN, ENOMEM: as the model answers. These are the host system's numbers;
@@ -161,7 +161,7 @@ struct th_lwpinfo {
 #define TH_SIGUSR1 30
 #define TH_SIGUSR2 31
 
-/* the name of a signal, as "SIGHUP"; NULL where there is none */
+/* the name of a signal, as "SIGHUP"; NULL if there is none */
 const char *th_signame(int sig);
 
 /*
@@ -202,14 +202,14 @@ struct th_settings {
 };
 
 /*
- * Starts the program, looked up on PATH where its name has no slash, with a new host. `settings` may be NULL:
- * then the end of a debugger kills the processes that it traces. NULL and errno where it can't be started.
+ * Starts the program, looked up on PATH if its name has no slash, with a new host. `settings` may be NULL:
+ * then the end of a debugger kills the processes that it traces. NULL and errno if it can't be started.
  */
 th_host *th_start(const char *program, const struct th_settings *settings);
 
 /*
  * The same without a program: the library answers. It makes no process, and has no standard error, so that th_reason is "".
- * NULL and ENOMEM where memory runs out. Compile with -DTRACEHOST_IN_PROCESS, and link with -ltracehost.
+ * NULL and ENOMEM if memory runs out. Compile with -DTRACEHOST_IN_PROCESS, and link with -ltracehost.
  */
 th_host *th_open(const struct th_settings *settings);
 
@@ -221,14 +221,14 @@ int th_close(th_host *h);
 
 /*
  * Why the calling thread's last step was refused: the fault as docs/FORMAT.md names it, "BadUser" as an example, and the line
- * of --explain, "line 3, user: 1065 is out of range; ..". Both are "" where it wasn't, and stay until the thread's next call.
+ * of --explain, "line 3, user: 1065 is out of range; ..". Both are "" if it wasn't, and stay until the thread's next call.
  */
 const char *th_fault(const th_host *h);
 const char *th_reason(const th_host *h);
 
 /*
  * Records the session from its beginning: all steps that were answered as a scenario, and their lines in a second file, unless
- * `lines` is NULL. Both are whole after each step, also where the test ends by abort(3). `tracehost SCENARIO --expect LINES`
+ * `lines` is NULL. Both are whole after each step, also if the test ends by abort(3). `tracehost SCENARIO --expect LINES`
  * then makes the session again. EBUSY after the first step.
  *
  * A step that can't be written, as on a full disk, is answered TH_ERECORD, and ends the session. Both files are then those of
@@ -266,7 +266,7 @@ typedef struct th_caller {
  */
 int th_ptrace(th_host *h, th_caller caller, int request, th_pid pid, void *addr, int data);
 
-/* wait4(2) without its rusage. It doesn't block: 0 where there is nothing to collect, with every option. `status` may be NULL. */
+/* wait4(2) without its rusage. It doesn't block: 0 if there is nothing to collect, with every option. `status` may be NULL. */
 th_pid th_wait4(th_host *h, th_caller caller, th_pid wpid, int *status, int options);
 
 /*
@@ -279,7 +279,7 @@ th_pid th_wait4_block(th_host *h, th_caller caller, th_pid wpid, int *status, in
 
 /*
  * Sleeps until `count` waits are blocked: all debuggers have done what they could, and the next step is the caller's. Returns 0;
- * -1 with ETIMEDOUT after `timeout` milliseconds (-1: none), or with EPIPE where the program has ended.
+ * -1 with ETIMEDOUT after `timeout` milliseconds (-1: none), or with EPIPE if the program has ended.
  */
 int th_until_blocked(th_host *h, size_t count, int timeout);
 
@@ -317,7 +317,7 @@ struct th_handled {
     int flags;
     th_pid child;
     unsigned code;
-    int handler; /* which of the caller's handlers decided, from 0; -1 where all declined */
+    int handler; /* which of the caller's handlers decided, from 0; -1 if all declined */
     enum th_decision decision;
     int pass;
 };
@@ -339,7 +339,7 @@ enum th_call { TH_CALL_EXIT, TH_CALL_FORK, TH_CALL_VFORK, TH_CALL_EXEC, TH_CALL_
 enum th_outcome { TH_DONE, TH_NEW, TH_STOPPED, TH_CAUGHT, TH_ENDED };
 struct th_turned {
     enum th_outcome what;
-    th_pid pid;   /* TH_NEW: the new process, or the LWP's own where an LWP was made */
+    th_pid pid;   /* TH_NEW: the new process, or the LWP's own if an LWP was made */
     th_lwpid lwp; /* TH_NEW: the new LWP; TH_STOPPED: the LWP that stopped */
     int signal;   /* TH_STOPPED, TH_CAUGHT */
     int flags;    /* TH_STOPPED */

@@ -1,4 +1,4 @@
-"""Builds the client. Its version is the program's. The wheel contains the program and the library, where the repository
+"""Builds the client. Its version is the program's. The wheel contains the program and the library, if the repository
 has them, and the viewer.
 """
 
@@ -20,7 +20,7 @@ VIEWER = HERE.parent.parent / "viewer"
 
 
 def answer_of(tool: str) -> str | None:
-    """What a script in tools/ prints; None where it finds nothing, or outside the repository."""
+    """What a script in tools/ prints; None if it finds nothing, or outside the repository."""
     if not (TOOLS / tool).exists():
         return None
     done = subprocess.run([TOOLS / tool], stdout=subprocess.PIPE, text=True)

@@ -1,5 +1,5 @@
 //! Finds `libtracehost.a`: in the folder $TRACEHOST_LIB_DIR, else in the release of the checkout that this crate is part
-//! of, else where pkg-config has `tracehost`.
+//! of, else by pkg-config.
 
 use std::env;
 use std::path::{Path, PathBuf};

@@ -9,7 +9,7 @@ static tracehost_reply reply, before;
 static const tracehost_rule rule = {0, 0, TRACEHOST_DECLINE, 0};
 static unsigned long answered;
 
-/* Checks a call with `code`, which may only write where it has answered. */
+/* Checks a call with `code`, which may only write if it has answered. */
 #define RETURNS(code, call)                                                                 \
     do {                                                                                    \
         memset(&reply, 0xa5, sizeof reply);                                                 \
@@ -66,7 +66,7 @@ static void on_a_closed_handle(tracehost *closed)
     CHECK(tracehost_numbers(closed, numbers, 1, &length) == code && numbers[0] == 7);
     CHECK(strcmp((char *)out, "abc") == 0 && length == 9);
     each_call(closed, FIRST_USER, code);
-    each_call(closed, 0, code); /* also where a number doesn't exist */
+    each_call(closed, 0, code); /* also if a number doesn't exist */
     RETURNS(code, tracehost_turn(closed, FIRST_USER, 100000, 9, 9, 9, &reply));
 }
 
@@ -123,7 +123,7 @@ static void numbers_that_do_not_exist(void)
     RETURNS(bad, tracehost_turn(&h, 1001, 1, TRACEHOST_BLOCK, 0, UINT32_MAX, &reply));
 }
 
-/* Numbers that every call takes, whatever they are. Also `call` and `argument`, where the act has none. */
+/* Numbers that every call takes, whatever they are. Also `call` and `argument`, if the act has none. */
 static void numbers_that_may_be_any(void)
 {
     const uint32_t words[] = {0, 1, 255, 256, 999, 1000, INT32_MAX, UINT32_C(1) << 31, UINT32_MAX};

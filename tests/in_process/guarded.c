@@ -1,6 +1,6 @@
 /*
  * Random calls of the library, on four handles, with rooms that end at a page which can't be touched, and a word before them
- * that has to stay. A call that is refused leaves its reply alone; a closed handle refuses each call.
+ * that has to stay. A call that is refused doesn't write its reply; a closed handle refuses each call.
  *
  *     guarded FROM TO        a run of up to 400 calls for each seed
  */
@@ -38,7 +38,7 @@ static uint8_t *new_room(void)
     return pages + ROOM;
 }
 
-/* the last `size` bytes of a room, with a word before them; `size` is a multiple of 4 where words are stored */
+/* the last `size` bytes of a room, with a word before them; `size` is a multiple of 4 if words are stored */
 static void *guarded(int which, size_t size)
 {
     uint32_t word = WORD;

@@ -6,7 +6,7 @@
  */
 #include "calls.h"
 
-/* All calls on a handle that isn't open, but for tracehost_open. */
+/* All calls on a handle that isn't open, except tracehost_open. */
 static void are_refused(tracehost *h)
 {
     const tracehost before = *h;

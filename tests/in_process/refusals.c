@@ -35,7 +35,7 @@ static void keep_reply(struct text *line)
 
 typedef uint32_t making(tracehost *h, const struct call *c, long number, bool *was_refused, struct text *reply);
 
-/* Makes the call by its line. Stores the words of the reply, where there is one. */
+/* Makes the call by its line. Stores the words of the reply, if there is one. */
 static uint32_t by_line(tracehost *h, const struct call *c, long number, bool *was_refused, struct text *reply)
 {
     static struct text line;
@@ -106,7 +106,7 @@ static unsigned long in_turn(tracehost *h, tracehost *twin, const struct call *c
 
 /*
  * The first line of a session, which is a spawn: the step wasn't made, and is made by the next call; or it was made, was
- * answered ENOMEM, or has no text, and the text can be had. Reading a line takes memory only where it has an escape.
+ * answered ENOMEM, or has no text, and the text can be had. Reading a line takes memory only if it has an escape.
  */
 static void first_lines(const char *spawn)
 {
@@ -182,7 +182,7 @@ static unsigned long views(tracehost *h)
     }
 }
 
-/* Opens a session, or copies one where `from` is not null: the handle stays closed, nothing is left, the next try succeeds. */
+/* Opens a session, or copies one if `from` is not null: the handle stays closed, nothing is left, the next try succeeds. */
 static unsigned long opening(tracehost *from, tracehost *to)
 {
     static struct text before, after;

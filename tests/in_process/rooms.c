@@ -9,7 +9,7 @@ enum { BEHIND = 64, FILL = 0xa5, LWPS = 7, PROCESSES = 4 };
 
 static tracehost h = TRACEHOST_CLOSED, twin = TRACEHOST_CLOSED; /* the twin makes the same steps, with enough room */
 
-/* A block of `bytes` and, where `guarded`, of some more behind, all filled. */
+/* A block of `bytes` and, if `guarded`, of some more behind, all filled. */
 static uint8_t *block(size_t bytes, bool guarded)
 {
     size_t size = bytes + (guarded ? BEHIND : 0);

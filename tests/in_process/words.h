@@ -95,7 +95,7 @@ static inline void add_handled(struct text *to, const tracehost_reply *r)
         ADD(to, " %" PRIu32, r->pass);
 }
 
-/* Adds the reply in words, without user and number. `h` has the list, where it has one. */
+/* Adds the reply in words, without user and number. `h` has the list, if it has one. */
 static inline void add_reply(struct text *to, tracehost *h, const tracehost_reply *r)
 {
     static const char *const events[] = {"PTRACE_EXEC", "PTRACE_SCE", "PTRACE_SCX",

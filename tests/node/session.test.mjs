@@ -22,7 +22,7 @@ function kindsOf(step, { reply }) {
   return [BY_REQUEST[step.request] ?? "request"];
 }
 
-/** The kind and number of the lane that a mark is on, where the step and its reply say it. */
+/** The kind and number of the lane that a mark is on, if the step and its reply say it. */
 function laneOf(step, reply, kind) {
   if (reply.reply === "error" || (kind === "post" && step.which === -1)) return null;
   if (kind === "birth") return `process ${reply.pid}`;

@@ -1,9 +1,9 @@
 """Prints how many lines the tests reach: of the client in C and of the runtime of C programs on the model (gcov), the
-client in Python (coverage.py) and the viewer's script (V8's counts by node and Chromium's are joined where both are here).
+client in Python (coverage.py) and the viewer's script (V8's counts by node and Chromium's are joined if both are here).
 
     python3 tests/python/coverage_of.py PROGRAM LIBRARY [python | c | viewer | runtime]
 
-Each part prints `NAME: P% of N lines`. The status is 1 where a part is below its bound.
+Each part prints `NAME: P% of N lines`. The status is 1 if a part is below its bound.
 """
 
 from __future__ import annotations
@@ -140,7 +140,7 @@ void __wrap__exit(int status) { __gcov_dump(); __real__exit(status); }
 
 
 def copy_of_posix(room: pathlib.Path) -> pathlib.Path:
-    """The folder of a copy of clients/posix, in a tree with what it needs, whose runtime is built for gcov."""
+    """The folder of a copy of clients/posix, in a tree with what it needs; its runtime is built for gcov."""
     posix = room / "tree/clients/posix"
     shutil.copytree(TOP / "clients/posix", posix, ignore=shutil.ignore_patterns("build", "__pycache__"))
     for name in ("clients/python", "crates", "crates.txt", "man", "tools", "viewer"):
@@ -152,7 +152,7 @@ def copy_of_posix(room: pathlib.Path) -> pathlib.Path:
 
 
 def made_with_gcov(posix: pathlib.Path, source: pathlib.Path, made: pathlib.Path) -> pathlib.Path:
-    """A program with the runtime of that copy. Only the linker is told of gcov, which then counts the runtime alone."""
+    """A program with the runtime of that copy. Only the linker gets gcov, which then counts only the runtime."""
     environment = {"CC": "c++" if source.suffix == ".cpp" else "cc"}
     named = re.search(r"^ \* flags: (.*?) *$", source.read_text(encoding="utf-8"), re.MULTILINE)
     flags = named[1].split() if named else []

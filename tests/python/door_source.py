@@ -1,7 +1,7 @@
 """Reads the sequence of atomic calls out of the sources of the door, and compares it with the steps of door.py.
 
 The text of a function comes down to its words of control and its calls, in their order. So a changed order, a changed
-condition, or a call more or less is a failure. The kit's event count is compared too, where the kit is installed.
+condition, or a call more or less is a failure. The kit's event count is compared too, if the kit is installed.
 """
 
 import re

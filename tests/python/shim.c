@@ -127,7 +127,7 @@ int posix_memalign(void **result, size_t alignment, size_t size) {
   return made ? 0 : ENOMEM;
 }
 
-/* how many of so many bytes a read or write moves, or -1 where it fails with `error` */
+/* how many of so many bytes a read or write moves, or -1 if it fails with `error` */
 static ssize_t room_of(enum kind kind, size_t bytes) {
   if (fails(kind)) {
     if (error) {

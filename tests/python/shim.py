@@ -70,7 +70,7 @@ class Shim:
         self.library = library
 
     def end_of(self, run: Run) -> tuple[End, ShimCounts | None]:
-        """How the run ended, and what the shim counted; no counts where the program didn't come to its end."""
+        """How the run ended, and what the shim counted; no counts if the program didn't come to its end."""
         with tempfile.NamedTemporaryFile() as report:
             shim = {'LD_PRELOAD': self.library, 'SHIM_REPORT': report.name}
             shim.update((f'SHIM_{name}', str(value)) for name, value in run.shim.items())

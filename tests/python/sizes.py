@@ -96,7 +96,7 @@ class Sized:
         return json.dumps({'steps': [sent(step) for step in self.steps]}).encode()
 
     def text(self, refused: frozenset[int] = frozenset()) -> bytes:
-        """The answers, where memory was refused for these steps."""
+        """The answers, if memory was refused for these steps."""
         rows = {user: Rows(user) for user in USERS}
         made = dict.fromkeys(USERS, 0)
         lines = []

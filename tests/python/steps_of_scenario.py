@@ -36,7 +36,7 @@ def rule(given: Object) -> Object:
     return {key: value for key, value in forms.items() if value}
 
 
-# a value whose key may be missing, in the order of its form; empty where it is that of a missing key
+# a value whose key may be missing, in the order of its form; empty if it is that of a missing key
 OPTIONAL: dict[str, Callable[[Any], Any]] = {"options": in_order(OPTIONS), "data": lambda data: data}
 FORMS: dict[str, Callable[[Any], Any]] = {
     "mask": events, "set": lambda given: sorted(set(given)), "rules": lambda given: [rule(one) for one in given],

@@ -13,7 +13,7 @@ program, files = sys.argv[1], sys.argv[2:]
 
 
 def lines_of(text: str, *options: str) -> str | None:
-    """The lines that the program prints, or none where it refuses the scenario."""
+    """The lines that the program prints, or none if it refuses the scenario."""
     ran = subprocess.run([program, *options], input=text, capture_output=True, text=True)
     return ran.stdout if ran.returncode == 0 else None
 

@@ -43,7 +43,7 @@ REFUSED = 'refused, as it must be: note: src/lib.rt:5:1'
 
 
 class Repository:
-    """A repository with the crates `low` and `one`, which stands on it."""
+    """A repository with the crates `low` and `one`, which uses it."""
 
     def __init__(self, top: Path) -> None:
         self.top = top

@@ -13,39 +13,12 @@ import re
 import subprocess
 import sys
 
+from changed_steps import changes, shape
 from counting import Counts
 
 program, files = sys.argv[1], sys.argv[2:]
-OTHERS = [None, -1, 0, 31, 32, 256, 1065, 4294967296, 2**63, 1.5, 'fork', '', [32], ['PL_FLAG_SCE'], {}]
 counts = Counts()
 random.seed(1)
-
-
-def shape(step):
-    """What kind of step it is: its names and its keys."""
-    if not isinstance(step, dict):
-        return type(step).__name__
-    return repr([(key, step[key] if key in ('op', 'act', 'call', 'request') else '') for key in sorted(step)])
-
-
-def changes(value):
-    """The value with one change, somewhere in it."""
-    if isinstance(value, dict):
-        for key in value:
-            yield {k: v for k, v in value.items() if k != key}
-            for other in OTHERS:
-                yield {**value, key: other}
-            for changed in changes(value[key]):
-                yield {**value, key: changed}
-        for key in ('fly', 'data', 'pass', 'code'):
-            yield {**value, key: 1}
-    elif isinstance(value, list):
-        yield value * 17
-        for place, item in enumerate(value):
-            for other in OTHERS:
-                yield value[:place] + [other] + value[place + 1:]
-            for changed in changes(item):
-                yield value[:place] + [changed] + value[place + 1:]
 
 
 def ran(text, *options):

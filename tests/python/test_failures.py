@@ -3,8 +3,8 @@
     python3 tests/python/test_failures.py SHIM TRACEHOST [REFUSALS]
 
 SHIM is tests/python/shim.c as a shared library. Each run has to end in one of a few ways, which are known beforehand:
-with the whole text, or with one line on standard error, its status, and a part of the text only where a write failed or
-where lines are answered one by one. Prints how many failures of each kind there were, and the first runs that ended
+with the whole text, or with one line on standard error, its status, and a part of the text only if a write failed or
+if lines are answered one by one. Prints how many failures of each kind there were, and the first runs that ended
 otherwise.
 """
 
@@ -28,7 +28,7 @@ from shim import MEMORY, SECONDS, Command, End, Ends, Run, Shim, check_all, faul
 
 @dataclasses.dataclass(frozen=True)
 class GivesUp:
-    """The ends of refusals where a call was refused again and again: a front of its text, and the word."""
+    """The ends of refusals if a call was refused again and again: a front of its text, and the word."""
 
     text: bytes
 
@@ -135,7 +135,7 @@ def failing_reads(shim: Shim, program: str, file: str, text: bytes) -> Iterator[
 
 
 def fronts(texts: list[bytes], most: int) -> Iterator[bytes]:
-    """What is written before each write of texts, one after another, where a write takes at most so many bytes."""
+    """What is written before each write of texts, one after another, if a write takes at most so many bytes."""
     front = b''
     for text in texts:
         for at in range(0, len(text), most):
@@ -144,7 +144,7 @@ def fronts(texts: list[bytes], most: int) -> Iterator[bytes]:
 
 
 def failing_writes(program: str, file: str, text: bytes) -> Iterator[Run]:
-    """Each write fails, is interrupted, or moves one byte: a front of the text is left where one failed. With threads,
+    """Each write fails, is interrupted, or moves one byte: a front of the text is left if one failed. With threads,
     each user's text is written by itself."""
     for command, texts in (((program, file), [text]), ((program, '--threads', file), texts_by_users(text))):
         most, text = 16, b''.join(texts)
@@ -161,7 +161,7 @@ def failing_writes(program: str, file: str, text: bytes) -> Iterator[Run]:
 
 
 def faults_told_in_pieces(program: str) -> Iterator[Run]:
-    """The line of a fault is whole where its writes are interrupted or move one byte; its status stays where no write
+    """The line of a fault is whole if its writes are interrupted or move one byte; its status stays if no write
     succeeds."""
     for options, given, line in (
         ((), b'', b'tracehost: refused: BadJson\n'),
@@ -210,7 +210,7 @@ class Session:
         return b''.join(self.answers)
 
     def answers_to(self, taken: int) -> bytes:
-        """The answers to those lines that are whole where so many bytes were taken."""
+        """The answers to those lines that are whole if so many bytes were taken."""
         ends = itertools.accumulate(map(len, self.lines))
         return b''.join(answer for end, answer in zip(ends, self.answers) if end <= taken)
 
@@ -263,7 +263,7 @@ def failing_writes_of_lines(session: Session) -> Iterator[Run]:
 
 
 class Answered:
-    """The ends of a session in which memory was refused: each line has its answer, or ENOMEM where it is a step that
+    """The ends of a session in which memory was refused: each line has its answer, or ENOMEM if it is a step that
     takes memory, and the other answers are those of a session without the steps that were refused; or the word, and the
     answers before."""
 

@@ -113,7 +113,7 @@ class Liar:
 
 
 def test_the_client_in_python_with_damaged_answers() -> None:
-    """3,000 sessions of twelve calls: each returns a reply whose numbers are words, or raises what its page names."""
+    """3,000 sessions of twelve calls: each returns a reply of 32-bit numbers, or raises what its page names."""
     raised: set[str] = set()
     for seed in range(3000 * SCALE):
         chance = random.Random(seed)

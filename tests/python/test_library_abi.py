@@ -56,7 +56,7 @@ def interface(header: pathlib.Path, room: pathlib.Path) -> pathlib.Path:
 
 
 def changes(old: pathlib.Path, new: pathlib.Path) -> tuple[int, str]:
-    """How many calls and symbols have gone or changed, and what abidiff says. It fails where abidiff does."""
+    """How many calls and symbols have gone or changed, and what abidiff says. It fails if abidiff does."""
     done = subprocess.run(["abidiff", str(old), str(new)], stdout=subprocess.PIPE, stderr=subprocess.STDOUT, text=True)
     assert done.returncode & 3 == 0, done.stdout
     found = re.findall(r"summary: (\d+) Removed(?:, (\d+) Changed)?", done.stdout)

@@ -230,7 +230,7 @@ class Ends(unittest.TestCase):
                 self.assertEqual(answers(b"", path), ([], "tracehost: cannot read\n", 3))
 
     def test_a_client_that_dies(self) -> None:
-        """Half a line is the last line of its input; where nobody reads any more the session ends."""
+        """Half a line is the last line of its input; if nobody reads any more the session ends."""
         with Session() as session:
             session.ask(SPAWN)
             session.send(SPAWN[:-5])

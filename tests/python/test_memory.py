@@ -1,7 +1,7 @@
 """Compares the program's resident memory with the bytes of long scenarios and of their lines, and of hostile texts.
 
 Each scenario is run in each mode. A run has at most 4 times the bytes of its scenario, and of the lines that it is
-compared with; where it prints more than its scenario, also 2 times what it prints.
+compared with; if it prints more than its scenario, also 2 times what it prints.
 
     python3 tests/python/test_memory.py PROGRAM PEAK ROOM
 

@@ -1,4 +1,4 @@
-"""What `tracehost-run` and `tracehost-cc` tell of a run: whose fault it is, where it is, and what wasn't tried."""
+"""What `tracehost-run` and `tracehost-cc` say of a run: whose fault it is, where it is, and what wasn't tried."""
 
 from __future__ import annotations
 

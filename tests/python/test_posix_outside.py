@@ -1,7 +1,7 @@
 """A test suite that nobody here wrote: Debian's `posixtestsuite`, the Open POSIX Test Suite, on the model.
 
 Its source package is downloaded into a folder of its own, and nothing of it stays; `POSIXTESTSUITE` may name an unpacked
-one. Each program of the interfaces below runs plain and under 20 seeds. All have to pass, but for those of
+one. Each program of the interfaces below runs plain and under 20 seeds. All have to pass, except those of
 clients/posix/tests/OUTSIDE.txt, which have the result and the reason that it names. It takes a quarter of an hour: it runs if
 `TRACEHOST_OUTSIDE_SUITE` is 1. Where source packages can't be had the tests are skipped. Programs that would set the clock are left out, and nothing here runs as root.
 """

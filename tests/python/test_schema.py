@@ -11,6 +11,7 @@ import sys
 
 import jsonschema
 
+from changed_steps import changes, shape
 from counting import Counts
 
 program, files = sys.argv[1], sys.argv[2:]
@@ -19,16 +20,6 @@ with open('schema/scenario.schema.json') as it:
 jsonschema.Draft202012Validator.check_schema(schema)
 validator = jsonschema.Draft202012Validator(schema)
 
-# values that a key may be given; none is 1.0 or -0, which are whole numbers for a schema and not for the program
-OTHERS = [None, -1, 0, 31, 32, 256, 1065, 4294967296, 2**63, 1.5, 'fork', '', [32], ['PL_FLAG_SCE'], {}]
-
-
-def shape(step):
-    """What kind of step it is: its names and its keys. Each kind is changed once."""
-    if not isinstance(step, dict):
-        return type(step).__name__
-    return tuple((key, step[key] if key in ('op', 'act', 'call', 'request') else '') for key in sorted(step))
-
 
 def in_short(scenario):
     """The scenario with at most 20 steps of each kind, since the schema's reader takes milliseconds for each."""
@@ -36,31 +27,10 @@ def in_short(scenario):
         return scenario
     counts, kept = collections.Counter(), []
     for step in scenario['steps']:
-        counts[repr(shape(step))] += 1
-        if counts[repr(shape(step))] <= 20:
+        counts[shape(step)] += 1
+        if counts[shape(step)] <= 20:
             kept.append(step)
     return {**scenario, 'steps': kept}
-
-
-def changes(value):
-    """The value with one change, somewhere in it."""
-    if isinstance(value, dict):
-        for key in value:
-            yield {k: v for k, v in value.items() if k != key}
-            for other in OTHERS:
-                yield {**value, key: other}
-            for changed in changes(value[key]):
-                yield {**value, key: changed}
-        yield {**value, 'fly': 1}
-        for key in ('data', 'pass', 'code'):
-            yield {**value, key: 1}
-    elif isinstance(value, list):
-        yield value * 17
-        for place, item in enumerate(value):
-            for other in OTHERS:
-                yield value[:place] + [other] + value[place + 1:]
-            for changed in changes(item):
-                yield value[:place] + [changed] + value[place + 1:]
 
 
 def accepted(text):
@@ -78,7 +48,7 @@ for file in files:
     cases.append((file, data))
     if isinstance(scenario, dict) and isinstance(scenario.get('steps'), list):
         for step in scenario['steps']:
-            shapes.setdefault(repr(shape(step)), step)
+            shapes.setdefault(shape(step), step)
 for step in shapes.values():
     for changed in changes(step):
         cases.append((json.dumps(changed), json.dumps({'steps': [changed]}).encode()))

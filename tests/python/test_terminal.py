@@ -1,4 +1,4 @@
-"""Refused input is explained unasked where standard error is a terminal, and only there.
+"""Refused input is explained unasked if standard error is a terminal, and only there.
 
     python3 tests/python/test_terminal.py PROGRAM
 """
@@ -102,7 +102,7 @@ def check_command_line(program: str, counts: Counts) -> None:
 
 
 def check_prompt(program: str, counts: Counts) -> None:
-    """A first line says what is typed, where it is read from a terminal and errors go there."""
+    """A first line says what is typed, if it is read from a terminal and errors go there."""
     status, out, shown = with_terminal(program, ['--lines'], STEP + '\n')
     counts.check((status, out) == (0, '1001 1 new 1000 100000\n'), f'--lines from a terminal: {status}, {out}')
     counts.check('type one step a line as JSON, for example ' + STEP in shown, f'--lines from a terminal: {shown}')

@@ -176,7 +176,7 @@ class Make(unittest.TestCase):
         self.assertIn(b"</html>", page.read_bytes())
 
     def test_the_policy_has_the_digest_of_the_script(self):
-        """Content-Security-Policy: the script's SHA-256 is that of what stands between its tags, and none else may run."""
+        """Content-Security-Policy: it has the SHA-256 of the text between the script's tags, and no other script may run."""
         text = run_make(check=True).stdout.decode()
         code = text.split("<script>", 1)[1].split("</script>", 1)[0]
         digest = base64.b64encode(hashlib.sha256(code.encode()).digest()).decode()

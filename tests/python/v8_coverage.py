@@ -42,7 +42,7 @@ def page_lines() -> list[Line | None]:
 
 
 def run_lines(source: str, functions: Iterable[dict[str, Any]]) -> Iterator[int]:
-    """The lines of a script of which some part has run: V8 nests its ranges, and the innermost one counts."""
+    """The lines of a script that have run in part: V8 nests its ranges, and the innermost one counts."""
     counts = [0] * len(source)
     ranges = [one for function in functions for one in function["ranges"]]
     for one in sorted(ranges, key=lambda one: (one["startOffset"], -one["endOffset"])):
@@ -68,7 +68,7 @@ def of_node(folder: pathlib.Path) -> set[Line]:
 
 
 def of_pages(folder: pathlib.Path) -> set[Line]:
-    """By the files that viewer_browser.py leaves for each tab where VIEWER_COVERAGE names this folder."""
+    """By the files that viewer_browser.py leaves for each tab if VIEWER_COVERAGE names this folder."""
     source = f"\n{MAKER.script(SOURCES)}"
     lines = page_lines()
     assert len(lines) == len(source.split("\n")), "the page's script has other lines"

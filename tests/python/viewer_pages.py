@@ -27,7 +27,7 @@ def run_make(*words, make=MAKE, **how):
 
 
 def lines_of(*words):
-    """What the program prints with --json, or with `--json=trace` where the words say so."""
+    """What the program prints with --json, or with `--json=trace` if the words say so."""
     options = [] if "--json=trace" in words else ["--json"]
     return subprocess.run([PROGRAM, *options, *map(str, words)], capture_output=True, check=True).stdout
 

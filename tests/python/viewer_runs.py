@@ -9,7 +9,7 @@ import pathlib
 import random
 import sys
 
-# who traces whom, from which step to which, by the rules of docs/MACHINE.md; None where tracing goes on
+# who traces whom, from which step to which, by the rules of docs/MACHINE.md; None if tracing goes on
 TRACES = {
     "attach_and_continue": [("1000 1001", 3, 11)],
     "crash_collector": [("1000 1001", 3, 19), ("1000 1002", 6, 23)],
@@ -138,7 +138,7 @@ def long_scenario(count):
 
 
 def expected_mark(step, reply, known):
-    """The kind of mark of a step, and the lane where it stands, by what docs/VIEWER.md says."""
+    """The kind of mark of a step, and its lane, by what docs/VIEWER.md says."""
     word = reply["reply"]
     if word == "new":
         return ("lwp-birth", ("lwp", reply["lwp"])) if reply["pid"] in known else ("birth", ("process", reply["pid"]))
@@ -197,7 +197,7 @@ KEPT = 10  # processes of a user, about
 
 
 class RandomUser:
-    """Random steps of a user. Processes and LWPs are made only where that succeeds, so that their numbers are known."""
+    """Random steps of a user. Processes and LWPs are made only if that succeeds, so that their numbers are known."""
 
     def __init__(self, dice, user):
         self.dice, self.user = dice, user

@@ -197,7 +197,7 @@ def taken(request: Entry) -> Taken:
 def rust_about(request: Entry) -> str:
     """What a request does, without the words of the prompt."""
     text = re.sub("^PID [^:]*: ", "", request.help)
-    text = text.replace(" where DATA is 0", "").replace("the first DATA", "at most so many")
+    text = text.replace(" if DATA is 0", "").replace("the first DATA", "at most so many")
     if text[1].islower():
         text = text[0].lower() + text[1:]
     if request.data == "signal":

@@ -55,7 +55,7 @@ def array(title: str, about: str, items: Object, **more: Any) -> Object:
 
 
 def case(key: str, names: list[str], then: Object) -> Object:
-    """What holds where the key has one of the names."""
+    """What holds if the key has one of the names."""
     test: Object = {"const": names[0]} if len(names) == 1 else {"enum": names}
     return {"if": {"properties": {key: test}, "required": [key]}, "then": then}
 
@@ -143,7 +143,7 @@ def act_case(act: Entry) -> Object:
     if act.name == "enter":
         return case("act", [act.name], reference("enter"))
     own: Object = {
-        "raise": {"signal": reference("word", "The signal; EINVAL where it isn't 1 to 31.")},
+        "raise": {"signal": reference("word", "The signal; EINVAL if it isn't 1 to 31.")},
         "block": {"set": array("Set", "The signals; 9 and 17 can't be blocked.", reference("signal"))},
     }[act.name]
     return case("act", [act.name], keys(act.name, act.about, ["user", "op", "lwp", "act"], own, list(own)))
@@ -201,7 +201,7 @@ def rule(form: Format) -> Object:
         "description": "It fits a stop with its signal that has all its flags; the first rule that fits decides.",
         "type": "object",
         "properties": {
-            "signal": reference("signal", "Fits a stop with this signal; any, where it is missing."),
+            "signal": reference("signal", "Fits a stop with this signal; any, if it is missing."),
             "flags": flags,
             "decision": choice("Decision", form.decisions),
             "pass": {"description": about, **whole(form.ranges["pass"]), "default": 0},

@@ -77,7 +77,7 @@ class Entry:
 
     @property
     def reply_names(self) -> list[str]:
-        """The replies to it, but for a refusal."""
+        """The replies to it, except a refusal."""
         found = list(self.replies) or re.findall(r"`(\w+)`", self.answers)
         assert found, f"{self.name} has no replies"
         return found

@@ -59,7 +59,7 @@ export class Card {
     this.place(mark);
   }
 
-  /** Puts the card below its mark where it has room there, else above it. */
+  /** Puts the card below its mark if it has room there, else above it. */
   place(mark) {
     const card = this.element;
     const box = this.picture.boxOf(mark);

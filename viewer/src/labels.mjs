@@ -29,14 +29,14 @@ export function placeLabels(wanted, { rows: count, letter, limit }) {
   return rows.flat();
 }
 
-/** The label with its end: it is to the left of its mark where the picture ends to the right. */
+/** The label with its end: it is to the left of its mark if there is no room to the right. */
 function leftOf(label, letter, limit) {
   const width = label.text.length * letter + 6;
   const x = label.x + width > limit && label.x > width + 8 && label.rank > 0 ? label.x - width - 6 : label.x;
   return { ...label, x, end: x + width };
 }
 
-/** Puts a label into the first row where it overlaps none, if there is one. */
+/** Puts a label into the first row in which it overlaps none, if there is one. */
 function placeLabel(label, rows) {
   rows.some((placed, row) => {
     if (label.rank === 0 && row !== rows.length - 1) return false;

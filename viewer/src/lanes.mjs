@@ -21,7 +21,7 @@ import { firstFrom } from "./sorted.mjs";
 export class Lane {
   constructor(kind, number, user, from, owner = null) {
     Object.assign(this, { kind, number, user, from, owner });
-    this.to = null; // the entry where its life ends, null where no reply says so
+    this.to = null; // the entry where its life ends, null if no reply says so
     this.seenTo = null; // the last entry that reports it as a zombie
     this.concluded = false; // whether its end follows from a step, without `ended`
     this.marks = [];

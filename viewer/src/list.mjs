@@ -69,7 +69,7 @@ export class StepList {
     return row;
   }
 
-  /** Who made a step; where there is little room without the words. */
+  /** Who made a step; without the words if there is little room. */
   who(text) {
     const [, word, number, rest] = text.match(/^(\D*)(\d*)(.*)$/);
     const words = (part) => tag("span", { className: "word" }, part);

@@ -13,9 +13,9 @@ import { colourOf } from "./signs.mjs";
 const WIDEST = 160;
 const NARROWEST = 0.01;
 const FIRST_WIDTH = [26, 110];
-const MANY_LANES = 40; // more are shown only where they have something in the window
+const MANY_LANES = 40; // more are shown only if they have something in the window
 const MOST_FAULTS = 50;
-/** The parts of the window that the picture has at most where the list is shown. */
+/** The parts of the window that the picture has at most if the list is shown. */
 const MOST_OF_WINDOW = 0.62;
 const ADDRESS_DELAY = 300; // milliseconds
 
@@ -34,7 +34,7 @@ export class Page {
     this.files = { replies: null, scenario: null };
     /** @type {Session | null} */
     this.session = null;
-    this.step = 0; // the width of a step, 0 where none is chosen yet
+    this.step = 0; // the width of a step, 0 if none is chosen yet
     this.fits = false; // whether the whole session fits the window
     this.query = "";
   }

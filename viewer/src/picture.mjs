@@ -7,7 +7,7 @@ import { firstFrom } from "./sorted.mjs";
 
 const TOP_HEIGHT = 25;
 const BOTTOM_ROOM = 12;
-/** The part that is drawn around the window, of its size; less where other lanes may come with each scroll. */
+/** The part that is drawn around the window, of its size; less if other lanes may come with each scroll. */
 const AROUND = 0.4;
 const AROUND_LANES_IN_VIEW = 0.12;
 /** How far a pointer may be from a mark that is drawn as a bar, in pixels. */
@@ -30,7 +30,7 @@ export class Picture {
     this.current = null;
     this.drawn = null; // the part that is drawn
     this.drawing = null;
-    this.extra = null; // the current mark's shape where its lane is drawn as bars
+    this.extra = null; // the current mark's shape if its lane is drawn as bars
     this.scroller = element("scroller");
     this.svg = element("picture");
     this.scroller.addEventListener("scroll", () => this.refresh());
@@ -203,7 +203,7 @@ export class Picture {
     return plan.lanes[place] && plan.nearest(plan.lanes[place], current.x);
   }
 
-  /** The mark under the pointer: where lanes are drawn as bars the nearest one. */
+  /** The mark under the pointer, or the nearest one if lanes are drawn as bars. */
   markAt(event) {
     const made = event.target.closest?.(".mark")?.mark;
     if (made || !this.plan?.isDense) return made;

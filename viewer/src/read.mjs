@@ -191,7 +191,7 @@ export function pair(replies, scenario, faults) {
   return pairs.map((one, index) => ({ index, reply: one.reply, asked: asked(one) }));
 }
 
-/** Where a reply's step stands: by its user and number, but line by line where lines were refused. */
+/** The place of a reply's step: by its user and number, or line by line if lines were refused. */
 function placesOf(replies, steps) {
   if (replies.some((reply) => reply.refused)) return (reply, index) => index;
   const places = new Map();

@@ -3,7 +3,7 @@
 import { SIGNS } from "./signs.mjs";
 import { askedText, meaning, plainText } from "./words.mjs";
 
-/** The mark's lane, what its sign means, and its label where that adds something. */
+/** The mark's lane, what its sign means, and its label if that adds something. */
 function signText({ kind, lane, label }) {
   const { words } = SIGNS.get(kind);
   return `${lane.name}: ${words}${label && !words.includes(label) ? ` (${label})` : ""}`;

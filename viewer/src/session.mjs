@@ -260,7 +260,7 @@ export class Session {
     }
   }
 
-  /** The lane of the caller or the LWP that makes the step, or of the user where neither is known. */
+  /** The lane of the caller or the LWP that makes the step, or of the user if neither is known. */
   home(reply, asked) {
     if (!asked || asked.op === "spawn") return this.user();
     const [kind, number] = asked.op === "turn" ? ["lwp", asked.lwp] : ["process", asked.caller];
@@ -406,7 +406,7 @@ export class Session {
     return undefined;
   }
 
-  /** The end of a reported stop is known only where the steps are given. */
+  /** The end of a reported stop is known only if the steps are given. */
   stopReported(process, reply) {
     if (!this.entry.asked) return this.closeStop(process);
     if (!process.stop) this.openStop(process, null, reply.stopped);

@@ -1,7 +1,7 @@
 /** Search in sorted lists. */
 
 /**
- * The first place in a sorted list whose key isn't less; the list's length where there is none.
+ * The first place in a sorted list whose key isn't less; the list's length if there is none.
  *
  * @template T
  * @param {T[]} list

@@ -44,7 +44,7 @@ export function plainText(reply) {
   }
 }
 
-/** What a reply means, where its line doesn't say it. */
+/** What a reply means, if its line doesn't say it. */
 export function meaning(reply) {
   if (reply.word !== undefined) return `${reply.word} is ${statusText(reply)}`;
   return ["stopped", "caught"].includes(reply.reply) ? `${reply.number} is ${reply.signal}` : "";

@@ -234,7 +234,7 @@ static const struct test {
 
 /* ---------------------------------------------------------------- running them */
 
-/* The page of a session, next to its scenario; where there is no viewer, the scenario is enough. */
+/* The page of a session, next to its scenario; if there is no viewer, the scenario is enough. */
 static void make_page(const char *program, const char *stem)
 {
     char command[4096];

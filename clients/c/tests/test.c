@@ -4,13 +4,14 @@
  *
  *     test PROGRAM FAKE FOLDER MILLISECONDS [emulated]
  *
- * FAKE is a program that answers each line as the environment's FAKE says: with that line, or by ending where it is empty. The
+ * FAKE is a program that answers each line as the environment's FAKE says: with that line, or by ending if it is empty. The
  * folder is for files. Signals interrupt calls each so many milliseconds. With `emulated` nothing is expected of a
  * program that isn't there: in valgrind posix_spawn(3) starts it all the same. Compiled with -DTRACEHOST_IN_PROCESS, the
  * sessions with PROGRAM are in the process (session.h).
  */
 #define _POSIX_C_SOURCE 200809L
 
+#include "check.h"
 #include "session.h"
 
 #include <signal.h>
@@ -20,23 +21,6 @@
 #include <sys/time.h>
 #include <sys/wait.h>
 #include <unistd.h>
-
-static int failed;
-
-#define CHECK(truth) \
-    do { \
-        if (!(truth)) { \
-            printf("FAILED: line %d: %s\n", __LINE__, #truth); \
-            failed = 1; \
-        } \
-    } while (0)
-
-/* the call is refused with this errno */
-#define REFUSED(error, call) \
-    do { \
-        errno = 0; \
-        CHECK((call) == -1 && errno == (error)); \
-    } while (0)
 
 static const th_caller self = {1001, 1000};
 

@@ -1,9 +1,9 @@
 /*
  * A collector that attaches to a process which stops itself for a while by job control, and detaches again.
  *
- * The race: where the process had stopped before PT_ATTACH, its job stop is over with the trace stop, and PT_DETACH with 0
+ * The race: if the process had stopped before PT_ATTACH, its job stop is over with the trace stop, and PT_DETACH with 0
  * lets it run: the parent that has seen it stop, and continues it, waits for a stop that is over.
- * The remedy: the one that continues asks for a continuation only where the stop still stands, by WNOHANG.
+ * The remedy: the one that continues asks for a continuation only if it is still stopped, by WNOHANG.
  */
 #include "races.h"
 

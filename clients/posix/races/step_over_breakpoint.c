@@ -2,7 +2,7 @@
  * A debugger counts the calls of a function with a breakpoint. It takes the breakpoint out to step over it. FreeBSD on
  * amd64.
  *
- * The race: while one thread is stepped, the others run too, and may come by where the breakpoint was.
+ * The race: while one thread is stepped, the others run too, and may come by the breakpoint's place.
  * The remedy: the other threads are suspended for the step.
  */
 #include "races.h"

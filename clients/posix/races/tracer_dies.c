@@ -1,8 +1,8 @@
 /*
  * A sandbox with a guard that traces its worker, and a supervisor that replaces the guard.
  *
- * The race: where the first guard ends while it still traces the worker, the worker is killed with it
- * (kern.kill_on_debugger_exit). The guard is asked to end by a signal, and detaches only where it looks in time.
+ * The race: if the first guard ends while it still traces the worker, the worker is killed with it
+ * (kern.kill_on_debugger_exit). The guard is asked to end by a signal, and detaches only if it looks in time.
  * The remedy: it blocks the signal while it traces, and detaches before it takes it.
  */
 #include "races.h"

@@ -93,7 +93,7 @@ int tracehost_clock_getres(clockid_t clock, struct timespec *to)
 	return 0;
 }
 
-/* Of the caller alone: others have other numbers in the host. */
+/* Only of the caller: others have other numbers in the host. */
 int tracehost_clock_getcpuclockid(pid_t pid, clockid_t *clock)
 {
 	return pid == 0 || pid == own_pid ? clock_getcpuclockid(0, clock) : EPERM;

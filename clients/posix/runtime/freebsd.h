@@ -1,4 +1,4 @@
-/* FreeBSD's numbers, where the runtime needs them beside the host's. */
+/* FreeBSD's numbers that the runtime needs beside the host's. */
 #ifndef TRACEHOST_FREEBSD_H
 #define TRACEHOST_FREEBSD_H
 

@@ -1,4 +1,4 @@
-/* Input and output. The descriptors are the host's; a call never blocks there: where it would, others go on first. */
+/* Input and output. The descriptors are the host's; a call never blocks there: if it would, others go on first. */
 #define _GNU_SOURCE
 #include <fcntl.h>
 #include <limits.h>
@@ -43,7 +43,7 @@ static int nonblocking(int fd)
 	return fcntl(fd, F_GETFL) & O_NONBLOCK;
 }
 
-/* One try that doesn't block; -1 with EAGAIN where it would. */
+/* One try that doesn't block; -1 with EAGAIN if it would. */
 static ssize_t try_read(int fd, void *to, size_t count)
 {
 	ssize_t got = recv(fd, to, count, MSG_DONTWAIT);
@@ -271,7 +271,7 @@ static int enter_masked(const void *where, int code, const char *name, const sig
 	return tracehost_ask(where, "enter %d %s 0", code, name);
 }
 
-/* Whether to look once more: 1; 0 where the time is over, and -1 where a signal has come. */
+/* Whether to look once more: 1; 0 if the time is over, and -1 if a signal has come. */
 static int once_more(const void *where, long long timeout)
 {
 	if (timeout == 0)

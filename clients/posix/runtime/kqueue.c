@@ -366,7 +366,7 @@ int tracehost_kevent(int fd, const struct kevent *changes, int count, struct kev
 
 /* ---- what others need */
 
-/* Before a look of poll(2) or select(2): a kqueue can be read where an event is to be reported. */
+/* Before a look of poll(2) or select(2): a kqueue can be read if an event is to be reported. */
 void tracehost_refresh_kqueues(const void *where)
 {
 	if (queues == NULL && !tracehost_has_descriptors())

@@ -24,7 +24,7 @@ static int fail(int error)
 	return -1;
 }
 
-/* A file of the host's on this process, and its size; NULL where there is none. */
+/* A file of the host's on this process, and its size; NULL if there is none. */
 static char *read_file(long real, const char *name, size_t *size)
 {
 	char path[64], *text = NULL;

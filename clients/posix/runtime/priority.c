@@ -1,4 +1,4 @@
-/* Calls that name a process to the host's scheduler: the caller alone has a number that means the same there. */
+/* Calls that name a process to the host's scheduler: only the caller has a number that means the same there. */
 #define _GNU_SOURCE
 #include <sched.h>
 #include <sys/resource.h>

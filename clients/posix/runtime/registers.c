@@ -1,4 +1,4 @@
-/* Registers of a thread that stands in a question, its steps, and the context of its handlers.
+/* Registers of a thread that is in a question, its steps, and the context of its handlers.
  *
  * A thread that a signal of the host's has stopped, that lands, or that is born has the context of that signal: what is set
  * there takes effect at once. One in a call has the registers that the program called with (entry.S): what is set there
@@ -172,7 +172,7 @@ static void ask_stepped(void *context)
 	tracehost_ask_between((const void *)at, question, context);
 }
 
-/* The program's call is over, and its registers are those that it called with but for the result. */
+/* The program's call is over. Its registers are those that it called with, except the result. */
 static void land(void *context)
 {
 	const int lands = own.now.lands;
@@ -184,7 +184,7 @@ static void land(void *context)
 		registers = own.later.general;
 	else
 		from_frame(&registers, own.now.frame);
-	registers.r_rax = result; /* a kernel sets it as its call returns, whatever a debugger has set there */
+	registers.r_rax = result; /* a kernel sets it as its call returns, over what a debugger has set there */
 	to_context(context, &registers);
 	if (lands & LANDS_SET_FLOATS)
 		floats_to_context(context, &own.later.floats);
@@ -203,7 +203,7 @@ int tracehost_trap(siginfo_t *info, void *context)
 		land(context);
 		return 1;
 	}
-	if (at == tracehost_birth) { /* the thread stands at its routine's first instruction */
+	if (at == tracehost_birth) { /* the thread is at its routine's first instruction */
 		general(context)[REG_RIP] = general(context)[REG_RAX];
 		tracehost_say_hello(context);
 		return 1;

@@ -78,7 +78,7 @@ struct own {
 	char *at; /* the rest of the answer */
 	const void *where; /* the program's call of exit(3), which asks later */
 	timer_t tick;
-	stack_t other_stack; /* sigaltstack(2); no address where there is none */
+	stack_t other_stack; /* sigaltstack(2); no address if there is none */
 	char *stacks; /* the runtime's */
 	stack_t former_stack; /* of the host's signals */
 	struct birth *birth; /* of a thread whose routine hasn't begun */
@@ -123,7 +123,7 @@ void tracehost_broken(const char *what) __attribute__((noreturn));
 void tracehost_make_stacks(void);
 void tracehost_drop_stacks(void);
 
-/* Calls a function of the program's; and what is the case where the runtime goes back there and doesn't return. */
+/* Calls a function of the program's; and to be called before the runtime goes back there without a return. */
 void tracehost_call_program(struct outcall *call, int on_other_stack);
 void tracehost_leave_runtime(void);
 void tracehost_back_to(char *top, char *signals);

@@ -109,7 +109,7 @@ void tracehost_pthread_exit(void *value)
 	pthread_exit(value);
 }
 
-/* ---- birth: the host's thread is there first, and waits for its number; it ends where there is none for it */
+/* ---- birth: the host's thread is there first, and waits for its number; it ends if there is none for it */
 
 struct birth {
 	void *(*routine)(void *);
@@ -133,7 +133,7 @@ static void *run(void *given)
 	return tracehost_be_born(birth.routine, birth.argument);
 }
 
-/* The thread stands at its routine's first instruction. */
+/* The thread is at its routine's first instruction. */
 void tracehost_say_hello(void *context)
 {
 	struct birth *birth = own.birth;
@@ -149,7 +149,7 @@ extern void *tracehost_host(const char *name) __attribute__((weak));
 
 enum { ROOM = 256 * 1024 };
 
-/* What was asked for but for the stack's place, which can't be taken back. */
+/* What was asked for, except the stack's place, which can't be taken back. */
 static void copy_attributes(pthread_attr_t *to, const pthread_attr_t *from)
 {
 	int value;

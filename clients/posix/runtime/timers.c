@@ -46,7 +46,7 @@ useconds_t tracehost_ualarm(useconds_t first, useconds_t every)
 enum { TIMERS = 32 };
 static struct { int used, signal; clockid_t clock; } timers[TIMERS + 1]; /* from 1 on */
 
-/* A timer's number; 0 with EINVAL where there is none. */
+/* A timer's number; 0 with EINVAL if there is none. */
 static int number_of(timer_t timer)
 {
 	long number = (long)timer;

@@ -60,7 +60,7 @@ static int read_record(const void *where, pid_t target, struct record *record, l
 	return transfer(*real, *at, record, sizeof *record, 0) == sizeof *record ? 0 : -1;
 }
 
-/* Flags that are a kernel's alone stay, as does the privilege of the code segment. */
+/* Flags that only a kernel may set stay, as does the privilege of the code segment. */
 static int are_secure(const struct reg *new, const struct reg *old)
 {
 	return ((new->r_rflags ^ old->r_rflags) & ~(int64_t)PSL_USERCHANGE) == 0 && (new->r_cs & 3) == 3;

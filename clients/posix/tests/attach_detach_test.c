@@ -24,7 +24,7 @@ exit_when_released(void)
 	_exit(1);
 }
 
-/* The same where the parent has attached later. */
+/* The same if the parent has attached later. */
 ATF_TC_WITHOUT_HEAD(parent_wait_after_attach);
 ATF_TC_BODY(parent_wait_after_attach, tc)
 {

@@ -63,7 +63,7 @@ is_by_call(unsigned round)
 	return (round % 2 == 1);
 }
 
-/* A call keeps these alone; at a breakpoint all are kept. */
+/* A call keeps only these; a breakpoint keeps all. */
 static int
 is_kept(unsigned round, unsigned which)
 {

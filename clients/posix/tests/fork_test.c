@@ -138,7 +138,7 @@ ATF_TC_BODY(event_mask_is_not_inherited, tc)
 	exited(parent, 1);
 }
 
-/* The end of a vfork's child is reported, also where the child isn't followed. */
+/* The end of a vfork's child is reported, also if the child isn't followed. */
 ATF_TC_WITHOUT_HEAD(vfork_done);
 ATF_TC_BODY(vfork_done, tc)
 {

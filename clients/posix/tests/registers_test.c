@@ -82,7 +82,7 @@ ATF_TC_BODY(goes_on_elsewhere, tc)
 	ATF_REQUIRE(wait_exit(pid, 66));
 }
 
-/* Flags and a code segment that are a kernel's alone aren't set. */
+/* Flags and a code segment that only a kernel may set aren't set. */
 ATF_TC_WITHOUT_HEAD(insecure_registers);
 ATF_TC_BODY(insecure_registers, tc)
 {
@@ -281,7 +281,7 @@ ATF_TC_BODY(base_registers, tc)
 	ATF_REQUIRE(go_on(pid) && wait_exit(pid, 6));
 }
 
-/* For the debugger alone, and for a process that is stopped. */
+/* Only for the debugger, and for a process that is stopped. */
 ATF_TC_WITHOUT_HEAD(registers_refused);
 ATF_TC_BODY(registers_refused, tc)
 {

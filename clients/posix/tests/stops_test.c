@@ -233,7 +233,7 @@ one_thread(void)
 	_exit(visits[0]);
 }
 
-/* A new thread stands at its routine's first instruction. */
+/* A new thread is at its routine's first instruction. */
 ATF_TC_WITHOUT_HEAD(birth_of_a_thread);
 ATF_TC_BODY(birth_of_a_thread, tc)
 {
@@ -306,7 +306,7 @@ forks(void)
 	_exit(6);
 }
 
-/* A child that is followed stands behind its parent's fork, with 0. */
+/* A child that is followed is behind its parent's fork, with 0. */
 ATF_TC_WITHOUT_HEAD(child_of_a_fork);
 ATF_TC_BODY(child_of_a_fork, tc)
 {

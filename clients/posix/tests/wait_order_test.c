@@ -117,7 +117,7 @@ five_children(void)
 	}
 }
 
-/* The debugger hears of the end alone: nothing comes for the tracee's own children. */
+/* The debugger hears only of the end: nothing comes for the tracee's own children. */
 ATF_TC_WITHOUT_HEAD(no_sigchld_for_a_tracees_children);
 ATF_TC_BODY(no_sigchld_for_a_tracees_children, tc)
 {

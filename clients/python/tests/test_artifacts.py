@@ -1,4 +1,4 @@
-"""What failed tests leave: a folder for each, whatever its name, in one process and under xdist.
+"""What failed tests leave: a folder for each, with any name, in one process and under xdist.
 
     python3 -m pytest -p tracehost.pytest_plugin test_artifacts.py
 """
@@ -51,7 +51,7 @@ def folders(tmp_path: pathlib.Path) -> list[pathlib.Path]:
 
 
 def steps(folder: pathlib.Path) -> int:
-    """How many steps are left, whose lines the program prints again."""
+    """How many steps are left; the program prints their lines again."""
     scenario = folder / "session.json"
     subprocess.run([PROGRAM, scenario, "--expect", folder / "session.out"], check=True)
     return len(json.loads(scenario.read_text())["steps"])

@@ -215,7 +215,7 @@ def test_a_fork_while_another_thread_is_in_a_call(transport: Transport) -> None:
 
 
 class Slow:
-    """A transport whose answer takes until a signal handler has run."""
+    """A transport that answers once a signal handler has run."""
 
     def __init__(self, host: Host) -> None:
         self._made: Any = host._made

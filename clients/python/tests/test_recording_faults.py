@@ -1,4 +1,4 @@
-"""Recordings whose disk is full, whose file may not grow, or whose process is killed: what is left is a scenario.
+"""Recordings on a full disk, in a file that may not grow, or of a process that is killed: a scenario is left.
 
 TRACEHOST_TEST_SCALE multiplies how many processes are killed.
 """
@@ -36,7 +36,7 @@ class Files:
         self.scenario, self.lines = room / "session.json", room / "session.out"
 
     def steps(self) -> int:
-        """How many steps the recording has, whose lines the other file has to have."""
+        """How many steps the recording has; the other file has to have their lines."""
         steps = len(json.loads(self.scenario.read_bytes())["steps"])
         lines = self.lines.read_text().splitlines()
         assert lines == [f"1001 {n + 1} new {1000 + n} {100000 + n}" for n in range(steps)]

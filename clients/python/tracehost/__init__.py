@@ -10,17 +10,17 @@
         print(debugger.wait4())                                     # Waited(pid=1001, status=4479)
         print(debugger.ptrace(Request.PT_LWPINFO, target.pid))      # LwpInfo(pl_lwpid=100001, ..)
 
-A `Host` is a session: in this process, where the library libtracehost.so is found, else in a program at the end of a
+A `Host` is a session: in this process, if the library libtracehost.so is found, else in a program at the end of a
 pipe. A `User` makes the steps that have no caller: a new process, the turn of an LWP. A `Process` is a caller, and has
 the calls of the manual pages. A call returns what the manual page says, or raises:
 
 - `OSError` with the host's number of the errno that the model answers by name, so that ESRCH is `ProcessLookupError`,
   EPERM `PermissionError`, ECHILD `ChildProcessError` and EAGAIN `BlockingIOError`;
-- `Held` where the caller, or the LWP at its turn, doesn't run;
-- `RefusedStep` where the program takes what was sent for no step (a user outside 1001 to 1064, a 17th rule), with the
+- `Held` if the caller, or the LWP at its turn, doesn't run;
+- `RefusedStep` if the program takes what was sent for no step (a user outside 1001 to 1064, a 17th rule), with the
   reason and the line;
 - `ProgramEnded` if the program has ended, with the kinds `SessionClosed` and `SessionForked`, and `ProtocolError`
-  where a line can't be understood;
+  if a line can't be understood;
 - `RecordingFailed` if a step can't be recorded, and `SessionBusy` for a call from a signal handler that has
   interrupted another call.
 

@@ -42,7 +42,7 @@ class Progress:
             self._news.notify_all()
 
     def sleep(self, uid: int, seen: int, deadline: float | None, what: str) -> None:
-        """Returns where the user's count is above `seen`, or the session is closed. Raises TimeoutError."""
+        """Returns once the user's count is above `seen`, or the session is closed. Raises TimeoutError."""
         turns = self._turns
         if turns is not None and turns.has_this_thread():
             turns.sleep(lambda: self._closed or self.seen(uid) > seen, what)

@@ -12,7 +12,7 @@ from typing import Optional
 def answer_of(tool: str) -> Optional[str]:
     """What ``tools/program`` or ``tools/library`` prints, a path; None outside a checkout.
 
-    They compare digests of the sources and of the files. Raises FileNotFoundError with what they say where neither what
+    They compare digests of the sources and of the files. Raises FileNotFoundError with what they say if neither what
     was built there nor the release is of the present sources, or the release is damaged.
     """
     folders = list(Path(__file__).resolve().parents)[3:4]

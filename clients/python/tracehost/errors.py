@@ -21,7 +21,7 @@ class RefusedStep(ValueError):
     line: str
     """The line that was sent."""
     ask: Optional[Callable[[str], str]] = None
-    """Who says why a line is refused, where the transport doesn't."""
+    """Who says why a line is refused, if the transport doesn't."""
 
     def __init__(self, fault: str, reason: str = "", line: str = "") -> None:
         super().__init__(fault, reason, line)
@@ -31,7 +31,7 @@ class RefusedStep(ValueError):
 
     @property
     def reason(self) -> str:
-        """The program's explanation, in words that may change; "" where it gave none.
+        """The program's explanation, in words that may change; "" if it gave none.
 
         Over the library the program is asked when this is read first, or printed.
         """

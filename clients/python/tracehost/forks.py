@@ -11,7 +11,7 @@ class Inherited(Protocol):
     """What a forked child has a copy of."""
 
     def in_child(self) -> None:
-        """Called in the child, whose only thread is the one that called fork."""
+        """Called in the child, which has only the thread that called fork."""
 
 
 _all: weakref.WeakSet[Inherited] = weakref.WeakSet()

@@ -61,7 +61,7 @@ class Host:
         With `explain` the program says why it refuses a step, which is `RefusedStep.reason`, and an OSError says which
         condition held, by a look at the user's rows. Without it the program's standard error is this process's, and an
         OSError names each condition that is possible. The library gives no reasons: `RefusedStep.reason` asks the
-        program then. Raises OSError where the program can't be started, the library can't be loaded, or a file can't be
+        program then. Raises OSError if the program can't be started, the library can't be loaded, or a file can't be
         made.
         """
         if record is None and record_lines is not None:
@@ -158,7 +158,7 @@ class Host:
     def line(self, text: str) -> str:
         """Sends a line as it is, and returns the line of its answer, without their line feeds.
 
-        It raises nothing for `refused`, `held` and `error`. Raises ValueError where `text` has a line feed of its own,
+        It raises nothing for `refused`, `held` and `error`. Raises ValueError if `text` has a line feed of its own,
         UnicodeEncodeError if it can't be encoded, and ProgramEnded.
         """
         if not isinstance(text, str):
@@ -237,7 +237,7 @@ class Host:
         return refusal(answered.name, asked, lambda: self._known_rows(asked.uid))
 
     def _known_rows(self, uid: int) -> Optional[Rows]:
-        """The user's rows; None if there are none to be had, as over a pipe without the library."""
+        """The user's rows; None if nothing has them, as over a pipe without the library."""
         if not self._explains:
             return None
         try:
@@ -315,7 +315,7 @@ class User:
         return f"User({self.uid})"
 
     def spawn(self) -> New:
-        """A new process with one LWP and parent 1. EAGAIN where the user has 250 processes or 1000 LWPs."""
+        """A new process with one LWP and parent 1. EAGAIN if the user has 250 processes or 1000 LWPs."""
         new: New = self.host._call("spawn", self.uid)
         return new
 
@@ -327,9 +327,9 @@ class User:
         return Process(self, number_of_process("pid", pid))
 
     def turn(self, lwp: int, act: Act, *, block: bool = False, timeout: float | None = None) -> Turned:
-        """The turn of an LWP: None where its act was done, or what came of it or in its place.
+        """The turn of an LWP: None if its act was done, or what came of it or in its place.
 
-        ESRCH where the user has no such LWP; EINVAL for an act that doesn't go with what the LWP is in; EAGAIN at a
+        ESRCH if the user has no such LWP; EINVAL for an act that doesn't go with what the LWP is in; EAGAIN at a
         limit. Where it doesn't run, raises Held. With `block` the call sleeps instead until another thread lets the LWP
         go on, and raises TimeoutError after `timeout` seconds.
         """
@@ -342,9 +342,9 @@ class User:
     def view(self) -> View:
         """The user's rows: processes by rising number, LWPs in order of birth. No step is made.
 
-        Over a pipe the library makes the steps of the session again, and has the rows. Raises ValueError where this is
-        no user, ProgramEnded and MemoryError. Over a pipe raises NotImplementedError where there is no library, or the
-        session had over 10,000 steps before its first view, and ProtocolError where the library isn't the program's.
+        Over a pipe the library makes the steps of the session again, and has the rows. Raises ValueError if this is
+        no user, ProgramEnded and MemoryError. Over a pipe raises NotImplementedError if there is no library, or the
+        session had over 10,000 steps before its first view, and ProtocolError if the library isn't the program's.
         """
         if not 0 <= self.uid < 1 << 32:
             raise ValueError(f"{self.uid} is no user")
@@ -370,7 +370,7 @@ def _verdict(given: object) -> tuple[Decision, int]:
 
 
 class Process:
-    """A process that makes calls. Each call answers ESRCH where it isn't a live process of the user."""
+    """A process that makes calls. Each call answers ESRCH if it isn't a live process of the user."""
 
     def __init__(self, user: User, pid: int) -> None:
         self.user = user
@@ -403,9 +403,9 @@ class Process:
         - the number of LWPs that PT_GETLWPLIST asks for.
 
         PT_LWPINFO returns an `LwpInfo`, PT_GET_EVENT_MASK an `EventMask`, PT_GETNUMLWPS a number, PT_GETLWPLIST the
-        numbers of LWPs in order of birth, and every other request None. EPERM where the target isn't traced. EBUSY
-        where another process traces it, or wait4 hasn't reported its stop yet. ESRCH where the user has no such
-        process or LWP. EINVAL for a bad `data`, or where tracers would make a cycle.
+        numbers of LWPs in order of birth, and every other request None. EPERM if the target isn't traced. EBUSY
+        if another process traces it, or wait4 hasn't reported its stop yet. ESRCH if the user has no such
+        process or LWP. EINVAL for a bad `data`, or if tracers would make a cycle.
         """
         of_kind("request", Request, request)
         if request == Request.PT_TRACE_ME:
@@ -428,12 +428,12 @@ class Process:
         """wait4(2): the status of a child or tracee, `which` by number or -1 for any; ``Waited(0, 0)`` for nothing.
 
         With `block` the call sleeps until another thread's step brings something to collect, but with
-        `WaitOption.WNOHANG`. It raises TimeoutError after `timeout` seconds. ECHILD where the caller has none that
-        `which` names; EINVAL where `which` is 0 or below -1.
+        `WaitOption.WNOHANG`. It raises TimeoutError after `timeout` seconds. ECHILD if the caller has none that
+        `which` names; EINVAL if `which` is 0 or below -1.
         """
         asked = int(whole("options", options))
         if asked:
-            names_of(asked, OPTIONS)  # ValueError where a bit has no name
+            names_of(asked, OPTIONS)  # ValueError if a bit has no name
         sleeps = block and not asked & WaitOption.WNOHANG
         waited: Waited = self._wait(NOTHING, block, sleeps, timeout, "wait4", whole("which", which), asked)
         return waited
@@ -452,7 +452,7 @@ class Process:
         return pids
 
     def install(self, rules: Iterable[Rule]) -> None:
-        """Adds a stop handler with these rules after the caller's others. EAGAIN where the user has 64."""
+        """Adds a stop handler with these rules after the caller's others. EAGAIN if the user has 64."""
         self._call("install", [of_kind("rules", Rule, rule) for rule in rules])
 
     @overload
@@ -472,7 +472,7 @@ class Process:
     def handle_with(
         self, decide: Callable[[Handled], Verdict], *, block: bool = False, timeout: float | None = None
     ) -> None | Waited | Handled:
-        """As `handle`, with a function that decides where the caller's rules leave or decline the stop.
+        """As `handle`. If the caller's rules leave or decline the stop, a function decides.
 
         The function gets the stop, with the system call's number in `code`, and may make calls itself. It returns a
         `Decision`, or a pair of Decision.CONTINUE or Decision.DETACH and the signal to pass on. Then the request is

@@ -134,7 +134,7 @@ class Library:
     """
 
     def __init__(self, path: str) -> None:
-        """Raises OSError where there is no such library, or it can't be loaded here."""
+        """Raises OSError if there is no such library, or it can't be loaded here."""
         self.path = path
         loaded = ctypes.PyDLL(path)
         try:
@@ -173,7 +173,7 @@ def _own() -> Path:
 def find(needed: bool = False) -> Optional[Library]:
     """What the environment's ``TRACEHOST_LIBRARY`` names, else the package's own library, else the checkout's.
 
-    None where there is none, or it doesn't run here. Where it is `needed`, or the environment names one, raises OSError.
+    None if there is none, or it doesn't run here. If it is `needed`, or the environment names one, raises OSError.
     """
     named = os.environ.get("TRACEHOST_LIBRARY")
     if named:
@@ -242,7 +242,7 @@ class Session:
             array = (c_uint32 * self._length.value)()
 
     def rows(self, uid: int) -> RawRows:
-        """The user's processes and LWPs, until the next call of this function. Raises ValueError where this is no user."""
+        """The user's processes and LWPs, until the next call of this function. Raises ValueError if this is no user."""
         if self._rows is None:
             self._rows = (CProcess * MOST_PROCESSES)(), (CLwp * MOST_LWPS)()
         processes, lwps = self._rows

@@ -49,7 +49,7 @@ _NAMES = {
     "thr_exit": "Removes the LWP; the last one ends the process.",
     "other": "A system call with the number CODE, which does nothing.",
     "PT_TRACE_ME": "PID PT_TRACE_ME: the parent traces the caller.",
-    "PT_ATTACH": "The caller traces the target, whose first LWP stops with SIGSTOP.",
+    "PT_ATTACH": "The caller traces the target. Its first LWP stops with SIGSTOP.",
     "PT_CONTINUE": f"Resumes the target. {_PASS}",
     "PT_STEP": f"Resumes the target; an LWP stops after its next compute. {_PASS}",
     "PT_TO_SCE": f"Resumes the target, which stops at entries of system calls from now on. {_PASS}",
@@ -61,8 +61,8 @@ _NAMES = {
     "PT_RESUME": "An LWP gets turns again.",
     "PT_SET_EVENT_MASK": "PID PT_SET_EVENT_MASK TARGET [EVENT ..]: the events that the target stops for.",
     "PT_GET_EVENT_MASK": "Reads the events that the target stops for.",
-    "PT_FOLLOW_FORK": "Sets PTRACE_FORK, or clears it where DATA is 0.",
-    "PT_LWP_EVENTS": "Sets PTRACE_LWP, or clears it where DATA is 0.",
+    "PT_FOLLOW_FORK": "Sets PTRACE_FORK, or clears it if DATA is 0.",
+    "PT_LWP_EVENTS": "Sets PTRACE_LWP, or clears it if DATA is 0.",
     "PT_LWPINFO": "Describes an LWP: its stop, blocked and pending signals, child and system call.",
     "PT_GETNUMLWPS": "Counts the LWPs of the process.",
     "PT_GETLWPLIST": "Lists the first DATA LWPs of the process, in order of birth.",
@@ -101,4 +101,4 @@ def explain(name: str) -> str:
         default = "stops" if name in _STOPS else "is discarded by" if name in _DISCARDED else "ends"
         return f"Signal {int(Signal[name])}, which {default} a process by default."
     near = difflib.get_close_matches(name, topics(), 1)
-    return f"No help for {name}{f'; did you mean {near[0]}?' if near else '.'} `help` alone lists the steps."
+    return f"No help for {name}{f'; did you mean {near[0]}?' if near else '.'} `help` lists the steps."

@@ -19,7 +19,7 @@ _SECONDS_TO_END = 5.0
 class Pipe:
     """A running program and both ends of its pipe. One thread at a time uses it.
 
-    What the program prints on standard error is kept in a file where `keep_errors` says so. A file never fills up, as a
+    What the program prints on standard error is kept in a file if `keep_errors` says so. A file never fills up, as a
     pipe would. A pipe that is dropped ends its program. A forked child has no end of it.
     """
 
@@ -67,7 +67,7 @@ class Pipe:
         return answer[:-1].decode("utf-8", "replace")
 
     def new_errors(self) -> str:
-        """What standard error has had since the last call; "" where it isn't kept."""
+        """What standard error has had since the last call; "" if it isn't kept."""
         if self._errors is None or self._errors.closed:
             return ""
         end = os.fstat(self._errors.fileno()).st_size
@@ -122,7 +122,7 @@ class Pipe:
         self._to.close()
 
     def _status_soon(self) -> int | None:
-        """The status of a program that answers no more; None where it runs on."""
+        """The status of a program that answers no more; None if it runs on."""
         try:
             return self.process.wait(timeout=_SECONDS_TO_END)
         except subprocess.TimeoutExpired:

@@ -8,7 +8,7 @@ from . import checkout, packaged
 
 
 def bundled() -> str | None:
-    """The path of the program that was installed with this package; None where the package has none.
+    """The path of the program that was installed with this package; None if the package has none.
 
     Raises FileNotFoundError if it isn't the one that the package was built with.
     """

@@ -1,4 +1,4 @@
-"""A plugin for pytest, which finds it where this package is installed.
+"""A plugin for pytest, which finds it if this package is installed.
 
 - The fixture `tracehost` is a `Host` that records. ``@pytest.mark.tracehost(kill_on_debugger_exit=False)`` gives it
   settings.

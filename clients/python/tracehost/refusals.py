@@ -114,7 +114,7 @@ class Cause(NamedTuple):
 
     errno: str
     text: str
-    """For `str.format`, where `a` is the call."""
+    """For `str.format`; `a` is the call."""
     holds: Callable[[Asked, Rows], bool]
     is_possible: Callable[[Asked], bool] = lambda a: True
     """What the arguments say of it."""
@@ -150,7 +150,7 @@ def _is_no_signal(number: int) -> bool:
 
 
 def _target(a: Asked, rows: Rows) -> CProcess:
-    """The target's row; an empty one where there is none."""
+    """The target's row; an empty one if there is none."""
     return rows.target(a.target) or CProcess()
 
 

@@ -41,9 +41,9 @@ class Replica:
             self.end(NotImplementedError(late))
 
     def rows(self, uid: int) -> RawRows:
-        """The user's processes and LWPs. Raises ValueError where this is no user, and what `end` was given.
+        """The user's processes and LWPs. Raises ValueError if this is no user, and what `end` was given.
 
-        Raises NotImplementedError where there is no library or too many steps came before, ProtocolError where the
+        Raises NotImplementedError if there is no library or too many steps came before, ProtocolError if the
         library isn't the program's, and MemoryError. All further calls then raise the same.
         """
         self._catch_up()

@@ -33,7 +33,7 @@ class New(NamedTuple):
 
 
 class Waited(NamedTuple):
-    """What wait4(2) reports; `pid` and `status` are 0 where there was nothing to collect, as in `os.waitpid`.
+    """What wait4(2) reports; `pid` and `status` are 0 if there was nothing to collect, as in `os.waitpid`.
 
     `os.WIFSTOPPED` and similar functions read `status`. The signals in it have FreeBSD's numbers:
     `Signal(os.WSTOPSIG(status))`.
@@ -44,7 +44,7 @@ class Waited(NamedTuple):
 
     @property
     def word(self) -> int:
-        """The status word as FreeBSD has it. It differs from `status` where a process was continued, if at all."""
+        """The status word as FreeBSD has it. It differs from `status` at most if a process was continued."""
         return _CONTINUED_WORD if self.status == _CONTINUED_STATUS else self.status
 
 
@@ -116,7 +116,7 @@ class Handled(NamedTuple):
     child: int
     code: int
     handler: int | None
-    """Which of the caller's handlers decided, from 0; None where all declined."""
+    """Which of the caller's handlers decided, from 0; None if all declined."""
     decision: Decision
     pass_signal: int | None
     """The signal that the process goes on with, 0 for none; None except for `Decision.CONTINUE` and `Decision.DETACH`."""

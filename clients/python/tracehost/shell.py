@@ -126,7 +126,7 @@ class Shell(cmd.Cmd):
             self._print(f"{words}: {error.strerror}")
 
     def do_view(self, words: str) -> None:
-        """view [PAGE]: makes a page that shows the session, session.html where no name is given."""
+        """view [PAGE]: makes a page that shows the session, session.html if no name is given."""
         try:
             page = view(self._scenario, words or "session.html", title="session", program=self._program)
         except (OSError, subprocess.CalledProcessError) as error:
@@ -198,7 +198,7 @@ def _meaning(line: str) -> str:
 
 
 def _use_history() -> None:
-    """Keeps the lines of earlier sessions in a file, where Python has readline."""
+    """Keeps the lines of earlier sessions in a file, if Python has readline."""
     try:
         import atexit
         import readline
@@ -224,7 +224,7 @@ def _use_history() -> None:
 def main(words: Optional[list[str]] = None) -> int:
     """Runs the prompt until the end of its input."""
     parser = argparse.ArgumentParser(prog="python -m tracehost.shell", description="A prompt over a session.")
-    parser.add_argument("--program", help="the program; what Host chooses where it isn't given")
+    parser.add_argument("--program", help="the program; what Host chooses if it isn't given")
     parser.add_argument("--kill-on-debugger-exit", choices=("0", "1"), help="as for tracehost --lines")
     given = parser.parse_args(words)
     setting = None if given.kill_on_debugger_exit is None else given.kill_on_debugger_exit == "1"

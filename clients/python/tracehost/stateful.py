@@ -115,7 +115,7 @@ class Debugging(RuleBasedStateMachine):
             return
 
     def _learn(self, lwp: int, act: Act, turned: Turned) -> None:
-        """Notes the LWPs that a turn has made: their numbers count up, also where the turn's answer is a stop."""
+        """Notes the LWPs that a turn has made: their numbers count up, also if the turn's answer is a stop."""
         if isinstance(act, Enter):
             self._in_call[lwp] = act.call
         made = isinstance(turned, New)

@@ -56,7 +56,7 @@ Act = Union[Compute, Raise, Block, Enter, Leave]
 
 
 def check_act(act: Act) -> Act:
-    """The act. Raises TypeError where it is none."""
+    """The act. Raises TypeError if it is none."""
     if not isinstance(act, (Compute, Raise, Block, Enter, Leave)):
         name = act.__name__ if isinstance(act, type) else str(act).capitalize()
         hint = f"; write {name}(..)" if name in ("Compute", "Raise", "Block", "Enter", "Leave") else ""

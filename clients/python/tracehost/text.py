@@ -152,7 +152,7 @@ class TextCalls:
 
 
 def words_of(text: str, sent: Sent, uid: str) -> Sequence[str]:
-    """The words of a reply. Raises RefusedStep, Held and Answered where it is one of these."""
+    """The words of a reply. Raises RefusedStep, Held and Answered if it is one of these."""
     words = sent.line.split(" ")
     if words[0] == "refused" and len(words) > 1:
         raise RefusedStep(words[1], " ".join(words[2:]) or sent.reason, text)

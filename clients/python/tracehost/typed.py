@@ -99,7 +99,7 @@ def _code_of(enter: Enter) -> int:
 
 
 def _c_rule(rule: Rule) -> CRule:
-    """Raises NotTyped where the rule has a number that is refused or that the library reads in another way."""
+    """Raises NotTyped if the rule has a number that is refused or that the library reads in another way."""
     signal = 0 if rule.signal is None else whole("signal", rule.signal)
     passed = 0 if rule.pass_signal is None else whole("pass_signal", rule.pass_signal)
     flags = whole("flags", rule.flags)
@@ -114,7 +114,7 @@ def _c_rule(rule: Rule) -> CRule:
 class TypedCalls:
     """The calls of a session of the library. One thread at a time uses it.
 
-    A call raises NotTyped where a number is refused, or doesn't fit the call's type: nothing was done then.
+    A call raises NotTyped if a number is refused, or doesn't fit the call's type: nothing was done then.
     """
 
     def __init__(self, session: Session, progress: Progress) -> None:
@@ -173,7 +173,7 @@ class TypedCalls:
         return handled
 
     def _made(self, code: int, uid: int) -> Any:
-        """What the reply stands for. Raises Held and Answered where it is one of these."""
+        """The reply as the calls return it. Raises Held and Answered if it is one of these."""
         if code == INVALID:
             raise NotTyped
         if code:
@@ -211,13 +211,13 @@ class TypedCalls:
 
 
 def _check_words(either: int) -> None:
-    """Raises NotTyped where a number, of several joined by `|`, isn't a word of 32 bits."""
+    """Raises NotTyped if a number, of several joined by `|`, isn't a word of 32 bits."""
     if either >> 32:
         raise NotTyped
 
 
 def _number(which: int) -> c_int64:
-    """Raises NotTyped where the number doesn't fit 64 bits with a sign."""
+    """Raises NotTyped if the number doesn't fit 64 bits with a sign."""
     if not -(1 << 63) <= which < 1 << 63:
         raise NotTyped
     return c_int64(which)

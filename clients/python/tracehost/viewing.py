@@ -31,8 +31,8 @@ def view(
     """Makes a page that shows this scenario, such as `Host` records one, and returns the page's path.
 
     The page is one HTML file; without `page` it gets the scenario's name with ``.html`` in place of ``.json``.
-    `program` runs the scenario; without it the one that `Host` chooses. Raises FileNotFoundError where there is no such
-    scenario, or the viewer isn't installed, and NoPage where the scenario is refused or the page can't be written.
+    `program` runs the scenario; without it the one that `Host` chooses. Raises FileNotFoundError if there is no such
+    scenario, or the viewer isn't installed, and NoPage if the scenario is refused or the page can't be written.
     """
     source = Path(scenario)
     if not source.exists():
@@ -49,7 +49,7 @@ def view(
 
 
 def _output_of(command: Sequence[str]) -> bytes:
-    """What the command prints. Raises NoPage where its status isn't 0."""
+    """What the command prints. Raises NoPage if its status isn't 0."""
     done = subprocess.run(command, stdin=subprocess.DEVNULL, stdout=subprocess.PIPE, stderr=subprocess.PIPE)
     said = done.stderr.decode("utf-8", "replace")
     if done.returncode:

@@ -137,7 +137,7 @@ impl EventMask {
         self.0
     }
 
-    /// The mask with these bits of FreeBSD's; `None` where one of them has no name.
+    /// The mask with these bits of FreeBSD's; `None` if one of them has no name.
     pub const fn from_bits(bits: u32) -> Option<EventMask> {
         if bits & !EventMask::all().0 == 0 {
             Some(EventMask(bits))
@@ -182,7 +182,7 @@ impl StopFlags {
             .fold(0, |all, (_, bit)| all | bit)
     }
 
-    /// The flags with these bits of FreeBSD's; `None` where one of them is none of the model's.
+    /// The flags with these bits of FreeBSD's; `None` if one of them is none of the model's.
     pub fn from_pl_flags(pl_flags: u32) -> Option<StopFlags> {
         let bits = StopFlags::PL_FLAGS.iter().enumerate();
         let flags = StopFlags(

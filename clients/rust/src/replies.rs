@@ -54,7 +54,7 @@ impl WaitStatus {
         }
     }
 
-    /// The status of a word of FreeBSD's wait(2); `None` where it is none.
+    /// The status of a word of FreeBSD's wait(2); `None` if it is none.
     pub const fn from_word(word: u32) -> Option<WaitStatus> {
         let high = word >> 8;
         match word & 0xff {
@@ -131,7 +131,7 @@ pub struct Handled {
     pub child: u32,
     /// The number of the system call, or 0.
     pub code: u32,
-    /// Which of the caller's handlers decided, from 0; `None` where all declined.
+    /// Which of the caller's handlers decided, from 0; `None` if all declined.
     pub handler: Option<u32>,
     /// What was done.
     pub decision: Decision,

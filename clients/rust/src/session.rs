@@ -44,7 +44,7 @@ impl Session {
         Session::with_settings(Settings::default())
     }
 
-    /// Opens a session with these settings. [`Error::NoMemory`] where memory runs out.
+    /// Opens a session with these settings. [`Error::NoMemory`] if memory runs out.
     pub fn with_settings(settings: Settings) -> Result<Session, Error> {
         match sys::Handle::open(settings.kill_on_debugger_exit) {
             Ok(handle) => Ok(Session { handle }),
@@ -126,7 +126,7 @@ impl Session {
         self.reply(code, raw)
     }
 
-    /// As [`handle`](Session::handle), with a closure that decides where the caller's rules leave or decline the stop.
+    /// As [`handle`](Session::handle). If the caller's rules leave or decline the stop, a closure decides.
     ///
     /// The closure gets the stop, with the system call's number in `code`. Then the request is made, which is a step of
     /// its own, and its error is returned. The reply has the closure's decision, and no handler.

@@ -64,7 +64,7 @@ fn passed(signal: Option<Signal>) -> u32 {
 pub enum Request {
     /// PT_TRACE_ME: the parent traces the caller.
     TraceMe,
-    /// PT_ATTACH: the caller traces the target, whose first LWP stops with SIGSTOP.
+    /// PT_ATTACH: the caller traces the target. Its first LWP stops with SIGSTOP.
     Attach,
     /// PT_CONTINUE: resumes the target. It may be passed a signal.
     Continue(Option<Signal>),

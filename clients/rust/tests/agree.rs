@@ -1,6 +1,9 @@
 //! Random steps: each by a typed call in one session and by its line in another. What the typed call returns has to be
 //! what the line says.
 
+mod answers;
+
+use answers::{words_of, Answer};
 use std::collections::BTreeSet;
 use tracehost::{
     Act, Call, Caller, Decision, Disposition, Error, EventMask, Request, Rule, Session, Settings, Signal, SignalSet,
@@ -61,9 +64,6 @@ impl Random {
         }
     }
 }
-
-/// What a typed call returns, in the words of a line.
-type Answer = Result<String, Error>;
 
 /// A step: what is sent as a line, and the typed call.
 struct Step {
@@ -300,15 +300,6 @@ fn any(random: &mut Random) -> Step {
 /// The words of a line after its user and number.
 fn words_after(line: &str) -> &str {
     line.splitn(3, ' ').nth(2).unwrap_or("")
-}
-
-fn words_of(answer: Answer) -> String {
-    match answer {
-        Ok(words) => words,
-        Err(Error::Held) => "held".to_string(),
-        Err(Error::Errno(errno)) => format!("error {} {}", errno.name(), errno.number()),
-        Err(error) => format!("{error:?}"),
-    }
 }
 
 #[test]

@@ -1,4 +1,4 @@
-//! What a session does where the library runs out of memory, or returns another code. tests/rust.sh runs it over the
+//! What a session does if the library runs out of memory, or returns another code. tests/rust.sh runs it over the
 //! library of tests/memory/library.c.
 
 use tracehost::{Act, Caller, Disposition, Errno, Error, Request, Session, Settings, Signal, WaitOptions, Which};

@@ -2,6 +2,9 @@
 //!
 //!     TRACEHOST_WORDS=FOLDER cargo test --test replay -- --ignored
 
+mod answers;
+
+use answers::{words_of, Answer};
 use std::collections::HashMap;
 use std::path::Path;
 use std::str::SplitAsciiWhitespace;
@@ -27,7 +30,7 @@ impl<'a> Words<'a> {
         self.word().parse().expect("a word of 32 bits")
     }
 
-    /// A signal, 0 for none; `None` where the types of the crate don't have it.
+    /// A signal, 0 for none; `None` if the types of the crate don't have it.
     fn pass(&mut self) -> Option<Option<Signal>> {
         match self.number() {
             0 => Some(None),
@@ -46,9 +49,6 @@ impl<'a> Words<'a> {
         }
     }
 }
-
-/// What a typed call returns, in the words of a line.
-type Answer = Result<String, Error>;
 
 fn request(words: &mut Words) -> Option<(Request, u32)> {
     let (number, target) = (words.number(), words.number());
@@ -139,7 +139,7 @@ fn disposition(words: &mut Words) -> Disposition {
     }
 }
 
-/// Makes the step by a typed call; `None` where the types of the crate don't have it.
+/// Makes the step by a typed call; `None` if the types of the crate don't have it.
 fn typed(session: &mut Session, line: &str) -> Option<Answer> {
     let mut words = Words(line.split_ascii_whitespace());
     let (op, user) = (words.word(), words.number());
@@ -181,15 +181,6 @@ fn typed(session: &mut Session, line: &str) -> Option<Answer> {
         "handle" => printed(session.handle(caller)),
         _ => return None,
     })
-}
-
-fn words_of(answer: Answer) -> String {
-    match answer {
-        Ok(words) => words,
-        Err(Error::Held) => "held".to_string(),
-        Err(Error::Errno(errno)) => format!("error {} {}", errno.name(), errno.number()),
-        Err(error) => format!("{error:?}"),
-    }
 }
 
 /// Makes the steps of a scenario, and returns their lines. Counts the typed calls.

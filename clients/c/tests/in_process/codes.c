@@ -2,27 +2,12 @@
  * Sessions in the process over a library that runs out of memory, or answers a long line: this file has that library, and
  * is linked without the other. Each test says what its next calls return.
  */
+#include "../check.h"
 #include "../session.h"
 
 #include <stdio.h>
 #include <string.h>
 #include <tracehost.h>
-
-static int failed;
-
-#define CHECK(truth) \
-    do { \
-        if (!(truth)) { \
-            printf("FAILED: line %d: %s\n", __LINE__, #truth); \
-            failed = 1; \
-        } \
-    } while (0)
-
-#define REFUSED(error, call) \
-    do { \
-        errno = 0; \
-        CHECK((call) == -1 && errno == (error)); \
-    } while (0)
 
 /* ---------------------------------------------------------------- the library */
 

@@ -1,3 +1,3 @@
-/* The compiler's <stddef.h> looks for this one of FreeBSD's, where a source sees __FreeBSD__. The host's are in
+/* The compiler's <stddef.h> looks for this one of FreeBSD's, if a source sees __FreeBSD__. The host's are in
  * <sys/types.h>. */
 #include <sys/types.h>
