@@ -111,7 +111,7 @@ class CLwp(Words):
 
 
 RawRows = tuple["Array[CProcess]", "Array[CLwp]"]
-"""A user's processes by rising number, and LWPs in order of birth, which is that of their numbers."""
+"""A user's processes by rising number, and LWPs in order of birth."""
 _HANDLE, _LENGTH = POINTER(Handle), POINTER(c_size_t)
 _TYPES: dict[str, list[Any]] = {
     "open": [c_bool, _HANDLE],

@@ -96,7 +96,7 @@ class Rows:
             pid = process.tracer
         return False
 
-    def has_news_for(self, caller: int, which: int) -> bool:
+    def has_child(self, caller: int, which: int) -> bool:
         """Whether the caller has a child, or traces a process, that `which` names."""
         return any(caller in (row.parent, row.tracer) for row in self._processes if which in (-1, row.pid))
 
@@ -201,11 +201,11 @@ _OPS: dict[str, tuple[Cause, ...]] = {
     "wait4": (
         _CALLER,
         _NO_GROUPS,
-        Cause("ECHILD", _NO_CHILD, lambda a, rows: not rows.has_news_for(a.caller, -1), lambda a: a.first == -1),
+        Cause("ECHILD", _NO_CHILD, lambda a, rows: not rows.has_child(a.caller, -1), lambda a: a.first == -1),
         Cause(
             "ECHILD",
             "{a.first} is neither a child of {a.caller} nor traced by it",
-            lambda a, rows: not rows.has_news_for(a.caller, a.first),
+            lambda a, rows: not rows.has_child(a.caller, a.first),
             lambda a: a.first != -1,
         ),
     ),
@@ -235,7 +235,7 @@ _OPS: dict[str, tuple[Cause, ...]] = {
     ),
     "list": (_CALLER,),
     "install": (_CALLER, Cause("EAGAIN", "user {a.uid} has 64 stop handlers", _by_arguments)),
-    "handle": (_CALLER, Cause("ECHILD", _NO_CHILD, lambda a, rows: not rows.has_news_for(a.caller, -1))),
+    "handle": (_CALLER, Cause("ECHILD", _NO_CHILD, lambda a, rows: not rows.has_child(a.caller, -1))),
     "turn": (
         Cause("ESRCH", "user {a.uid} has no LWP {a.first}", lambda a, rows: rows.lwp(a.first) is None),
         Cause("EINVAL", "LWP {a.first} is in no system call", lambda a, rows: not _is_in_call(a, rows), _leaves),
