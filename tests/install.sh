@@ -2,7 +2,7 @@
 # `make install` and the Debian package, each in a fresh folder: the program, the manual pages, the completions, the
 # viewer, the client in C, the library, and C programs on the model are found and run there. `make uninstall` removes all.
 # Nothing is installed elsewhere. tests/python/test_install.py does it as a stranger: with spaces in names, umask 077, a
-# clone that can't be written, CMake and Meson.
+# clone that can't be written, CMake and Meson. test_pages.py runs the commands that README.md and docs/ show in a clone.
 #
 #   bash tests/install.sh
 program=none
@@ -139,4 +139,4 @@ dpkg_installs() {
 
 make_installs
 dpkg_installs
-run_pytest tests/python/test_install.py tests/python/test_sbom.py
+run_pytest tests/python/test_install.py tests/python/test_pages.py tests/python/test_sbom.py
