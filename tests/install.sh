@@ -116,7 +116,7 @@ make_installs() {
 dpkg_install() {
   if [ "$(id -u)" -eq 0 ]; then
     mkdir -p "$room/root/var/lib/dpkg" && touch "$room/root/var/lib/dpkg/status"
-    dpkg --root="$room/root" --log="$room/log" --force-depends --install "$1"
+    dpkg --root="$room/root" --log="$room/log" --force-depends --force-script-chrootless --install "$1"
   else
     dpkg-deb --extract "$1" "$room/root"
   fi
@@ -134,6 +134,12 @@ dpkg_installs() {
   if need objdump; then
     check "the C library that it depends on" test \
       "$(dpkg-deb --field "${package[0]}" Depends)" = "libc6 (>= $(newest_glibc "$room/root/usr/bin/tracehost"))"
+  fi
+  if [ "$(id -u)" -eq 0 ]; then
+    mkdir "$room/root/usr/lib/$(uname -m)-linux-gnu/tracehost-posix/tracehost_posix/__pycache__" # as root's tracehost-run does
+    check "dpkg --remove" dpkg --root="$room/root" --log="$room/log" --force-script-chrootless --remove tracehost
+    find "$room/root" -name '*tracehost*' >"$room/left"
+    same /dev/null "$room/left" "what dpkg --remove leaves"
   fi
 }
 
