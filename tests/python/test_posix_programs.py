@@ -65,6 +65,8 @@ def test_on_the_model(program: pathlib.Path, flags: list[str], tmp_path: pathlib
     for compiler in compilers(program):
         build(program, flags, compiler, tmp_path / "program")
         done = run([POSIX / "tracehost-run", tmp_path / "program"])
+        if "the host makes no hardware breakpoint" in done.stderr:
+            pytest.skip("the host makes no hardware breakpoint")
         assert (done.stdout, done.returncode) == (_lines(wanted), 0), done.stderr
     schedules = wanted.get("schedules", "0")
     if schedules != "0":

@@ -73,6 +73,41 @@ static int are_secure(const struct reg *new, const struct reg *old)
 	return ((new->r_rflags ^ old->r_rflags) & ~(int64_t)PSL_USERCHANGE) == 0 && (new->r_cs & 3) == 3;
 }
 
+/* The control register has no input or output, the upper halves are 0, and addresses are a program's: as FreeBSD has it. */
+static int is_debug(const struct dbreg *new)
+{
+	const unsigned long behind = 1UL << 47;
+	for (int i = 0; i < 4; i++)
+		if ((new->dr[7] >> (16 + 4 * i) & 3) == 2 || ((new->dr[7] >> (2 * i) & 3) != 0 && new->dr[i] >= behind))
+			return 0;
+	return new->dr[6] >> 32 == 0 && new->dr[7] >> 32 == 0;
+}
+
+/* The thread has said in its record whether the host makes such breakpoints. */
+static int was_refused(const struct found *found)
+{
+	int error = 0;
+	if (transfer(found->real, found->at + offsetof(struct record, refused), &error, sizeof error, 0) != sizeof error)
+		return 1;
+	if (error != 0)
+		tracehost_say("ptrace: the host makes no hardware breakpoint: %s (EINVAL)", strerror(error));
+	return error != 0;
+}
+
+static int set_debug(const void *where, pid_t target, const struct dbreg *from)
+{
+	struct found found;
+	if (read_record(where, target, &found) != 0)
+		return -1;
+	found.record.debug = *from;
+	if (!is_debug(from) || transfer(found.real, found.at, &found.record, sizeof found.record, 1) != sizeof found.record ||
+		tracehost_ask(where, "apply %d %d", target, DEBUG) != 0 || was_refused(&found)) {
+		errno = EINVAL;
+		return -1;
+	}
+	return 0;
+}
+
 static int get_registers(const void *where, pid_t target, int request, void *to)
 {
 	struct found found;
@@ -82,6 +117,8 @@ static int get_registers(const void *where, pid_t target, int request, void *to)
 		memcpy(to, &found.record.general, sizeof found.record.general);
 	else if (request == PT_GETFPREGS)
 		memcpy(to, &found.record.floats, sizeof found.record.floats);
+	else if (request == PT_GETDBREGS)
+		memcpy(to, &found.record.debug, sizeof found.record.debug);
 	else
 		memcpy(to, request == PT_GETFSBASE ? &found.record.fs : &found.record.gs, sizeof found.record.fs);
 	return 0;
@@ -247,9 +284,7 @@ static int event_mask(const void *where, int request, pid_t target, int *mask, i
 
 static int unknown(int request)
 {
-	if (request == PT_GETDBREGS || request == PT_SETDBREGS)
-		tracehost_say("ptrace: the host lets no program set its debug registers: request %d is answered EINVAL", request);
-	else if (request == PT_SETFSBASE)
+	if (request == PT_SETFSBASE)
 		tracehost_say("ptrace: the base of fs is the runtime's too: PT_SETFSBASE is answered EINVAL");
 	else
 		tracehost_say("ptrace: request %d isn't in the model, and is answered EINVAL", request);
@@ -282,6 +317,8 @@ static int registers(const void *where, int request, pid_t target, void *address
 		return set_registers(where, target, address, FLOATS);
 	case PT_SETGSBASE:
 		return set_registers(where, target, address, BASES);
+	case PT_SETDBREGS:
+		return set_debug(where, target, address);
 	default:
 		return get_registers(where, target, request, address);
 	}
@@ -306,6 +343,8 @@ int tracehost_ptrace(int request, pid_t target, char *address, int data)
 	case PT_SETREGS:
 	case PT_GETFPREGS:
 	case PT_SETFPREGS:
+	case PT_GETDBREGS:
+	case PT_SETDBREGS:
 	case PT_GETFSBASE:
 	case PT_GETGSBASE:
 	case PT_SETGSBASE:
