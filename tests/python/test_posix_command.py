@@ -296,6 +296,18 @@ def test_a_deadlock_and_a_switch_have_places(folder: pathlib.Path, tmp_path: pat
     assert title is not None and re.fullmatch(r"race its words: deadlock: .* \(switches before step \d+\)", title[1]), title
 
 
+def test_what_was_never_preempted_is_listed(tmp_path: pathlib.Path) -> None:
+    race = POSIX / "races" / "lost_wakeup.c"
+    assert run(POSIX / "tracehost-cc", "-g", "-DRIGHT", "-o", tmp_path / "right", race).returncode == 0
+    at_suspend = f"  sigsuspend at {race}:{line_of('sigsuspend(&', race.read_text())}"
+    done = subprocess.run([RUN, "--coverage", "--preemptions", "0", "right"], capture_output=True, text=True, cwd=tmp_path)
+    assert re.search(r"of (\d+) calls at which another could go on \1 were never preempted", done.stderr), done.stderr
+    assert at_suspend in done.stderr.splitlines()
+    done = subprocess.run([RUN, "--coverage", "--preemptions", "1", "right"], capture_output=True, text=True, cwd=tmp_path)
+    assert "were never preempted" in done.stderr and at_suspend not in done.stderr.splitlines(), done.stderr
+    assert "preempted" not in run(RUN, tmp_path / "right").stderr
+
+
 # ---- whose fault it is
 
 

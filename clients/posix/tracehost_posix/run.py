@@ -14,7 +14,7 @@ from collections.abc import Callable
 from typing import NoReturn
 
 from . import blame, event_calls, process_calls, questions, waiting_calls
-from .blame import Blame, ended_by, origin, unheard_of
+from .blame import Blame, Gone, ended_by, origin, unheard_of
 from .coverage import Coverage
 from .describe import SIGNALS, Place, name_of, place_of, waiting
 from .model import ModelFailed, Step, View
@@ -27,14 +27,6 @@ from .watch import Watch
 
 BETWEEN_POKES = 0.1
 """A thread that computes asks `poke` after so many seconds of its processor's time."""
-
-
-class Gone(Failed):
-    """A process has ended, or closed its socket, outside of the model."""
-
-    def __init__(self, process: Process) -> None:
-        super().__init__(f"process {process.pid} has ended, or closed its socket, outside of the model")
-        self.real = process.real
 
 
 class Run:
