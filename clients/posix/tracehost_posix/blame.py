@@ -8,10 +8,18 @@ import traceback
 from collections import Counter, deque
 
 from .describe import Place, place_of
-from .table import Lwp
+from .table import Failed, Lwp, Process
 
 LAST, LOOPS = 200, 5
 """Of a run without an end: of so many last questions it is said which were asked most, so many of them."""
+
+
+class Gone(Failed):
+    """A process has ended, or closed its socket, outside of the model."""
+
+    def __init__(self, process: Process) -> None:
+        super().__init__(f"process {process.pid} has ended, or closed its socket, outside of the model")
+        self.real = process.real
 
 
 class Blame:

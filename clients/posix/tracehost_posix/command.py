@@ -16,6 +16,7 @@ from collections.abc import Callable, Sequence
 from typing import Any, NoReturn
 
 from . import record, report, search
+from .coverage import Met
 from .model import ModelFailed
 from .pool import Pool, WorkerEnded
 from .program import NotRunnable, check
@@ -93,6 +94,7 @@ def parser() -> Parser:
     add("--output-limit", type=_count, default=64 << 20, metavar="BYTES", help="a run may print so many, where its output is kept (67108864)")
     add("--digest", action="store_true", help="prints a digest of each run: its steps, answers and output")
     add("--verify", action="store_true", help="has each run's record replayed by tracehost --expect")
+    add("--coverage", action="store_true", help="prints the calls at which another could go on, and never did")
     add("--figures", action="store_true", help="prints what the runs took")
     add("--model", metavar="PROGRAM", help="the program tracehost; else $TRACEHOST, else tracehost on the path")
     made.add_argument("--version", action="version", version=f"tracehost-run {VERSION}")
@@ -142,6 +144,7 @@ class Command:
         self.began = time.monotonic()
         self.runs = self.questions = self.steps = self.passed = self.skipped = self.examined = self.most = 0
         self.schedules: set[tuple[Switch, ...]] = set()
+        self.covered: dict[Met, bool] = {}
         self.news: deque[bool] = deque(maxlen=LAST)
         """Of the last runs, whether nothing like them had run before."""
 
@@ -156,8 +159,13 @@ class Command:
         self.most = max(self.most, result.questions)
         self.news.append(result.switches not in self.schedules)
         self.schedules.add(result.switches)
+        self._cover(dict(result.covered))
         if self.given.digest:
             print(f"{'plain' if task.seed is None else task.seed} {result.digest}")
+
+    def _cover(self, met: dict[Met, bool]) -> None:
+        for call, preempted in met.items():
+            self.covered[call] = self.covered.get(call, False) or preempted
 
     # ---- one run
 
@@ -176,6 +184,7 @@ class Command:
             why = why or verify(run, self.setting)
         self.runs, self.questions, self.steps = self.runs + 1, self.questions + run.questions, self.steps + run.turns.steps
         self.passed, self.skipped, self.examined = run.turns.passed, run.turns.skipped, run.turns.examined
+        self._cover(run.coverage.met if run.coverage is not None else {})
         if self.given.digest and self.given.schedules is None:
             print(record.digest(run.turns.kept, output))
         return run, why, len(output)
@@ -329,6 +338,11 @@ class Command:
             say(f"{self.skipped} stops of traced processes were passed over, for signals that FreeBSD discards (--strict: none)")
         if self.examined:
             say(f"registers and instructions were used {self.examined} times, which the model doesn't have: not proved (--strict: none)")
+        if self.given.coverage:
+            calls, count = report.unpreempted(self.covered)
+            say(f"of {count} calls at which another could go on {len(calls)} were never preempted")
+            for call in calls:
+                print(f"  {call}", file=sys.stderr)
         if self.given.figures:
             took = time.monotonic() - self.began
             times = os.times()
@@ -372,7 +386,7 @@ def main(words: Sequence[str] | None = None) -> int:
     resource.setrlimit(resource.RLIMIT_NOFILE, (max(soft, min(hard, 4096)), hard))  # a socket for each thread
     ctypes.CDLL(None).personality(_ADDR_NO_RANDOMIZE)  # addresses are the same in each run
     kill = None if given.kill_on_debugger_exit is None else given.kill_on_debugger_exit == "1"
-    options = Options(given.calls, given.strict, given.limit, given.patience, given.output_limit)
+    options = Options(given.calls, given.strict, given.limit, given.patience, given.output_limit, given.coverage)
     try:
         command = [check(given.program), *given.arguments]
         setting = Setting(command, model, options, kill, given.sleeps == "any", given.verify)

@@ -9,6 +9,7 @@ from collections.abc import Callable
 from typing import NamedTuple
 
 from . import record
+from .coverage import Met
 from .model import Model
 from .program import Program
 from .report import say_once
@@ -84,6 +85,8 @@ class Result(NamedTuple):
     examined: int = 0
     """Registers that were read or set, and steps by an instruction."""
     points: tuple[Choice, ...] = ()
+    covered: tuple[tuple[Met, bool], ...] = ()
+    """Calls at which others could go on, and whether one did."""
 
 
 class Runner:
@@ -125,18 +128,20 @@ class Runner:
         run, why = self.run(task)
         if self.setting.verify:
             why = why or verify(run, self.setting)
-        text = record.digest(run.turns.kept, self.output) if digest else ""
-        points = tuple(Choice(*point) for point in run.choice_points or ())
-        turns = run.turns
-        return Result(why, run.questions, turns.steps, run.choices, tuple(run.switches), text, turns.passed, turns.skipped, turns.examined, points)
+        return self._result_of(run, why, digest)
 
     def _run_plain(self, digest: bool) -> tuple[Result, list[Made]]:
         run, why = self.run(Task())
-        text = record.digest(run.turns.kept, self.output) if digest else ""
-        turns = run.turns
-        result = Result(why, run.questions, turns.steps, run.choices, (), text, turns.passed, turns.skipped, turns.examined)
-        self._plain = result, run.choices_made or []
+        self._plain = self._result_of(run, why, digest), run.choices_made or []
         return self._plain
+
+    def _result_of(self, run: Run, why: str | None, digest: bool) -> Result:
+        text = record.digest(run.turns.kept, self.output) if digest else ""
+        points = tuple(Choice(*point) for point in run.choice_points or ())
+        covered = () if run.coverage is None else tuple(run.coverage.met.items())
+        turns = run.turns
+        counts = turns.passed, turns.skipped, turns.examined
+        return Result(why, run.questions, turns.steps, run.choices, tuple(run.switches), text, *counts, points, covered)
 
     def pids(self) -> list[int]:
         """The processes that live longer than a run."""
