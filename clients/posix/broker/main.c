@@ -1,0 +1,179 @@
+/* tracehost-broker: runs schedules of a program that tracehost-cc made, for tracehost-run, with the model in the process.
+ *
+ *   tracehost-broker REQUESTS ANSWERS OUTPUT CALLS STRICT LIMIT PATIENCE OUTPUT_LIMIT KILL_ON_DEBUGGER_EXIT PROGRAM [ARGUMENT..]
+ *
+ * REQUESTS and ANSWERS are descriptors of pipes, OUTPUT that of a file for what a run prints, or -1. A request is a line:
+ * what the answer has besides its last line (t: the steps, p: the points of choice, l: places, s: it stands by if it fails;
+ * or -), and a schedule: `plain`, `seed N EARLY`, `pct N DEPTH LENGTH`, `switches LIST`. Each is answered as soon as it was
+ * run. After a failure the requests that were sent with it are still run. The answers are in outcome.c. */
+#include <errno.h>
+#include <poll.h>
+#include <signal.h>
+#include <stdlib.h>
+#include <string.h>
+#include <sys/prctl.h>
+#include <unistd.h>
+#include "run.h"
+
+enum { USAGE = 2, NUMBERS = 9 };
+static LIST(char) unread;
+static struct { bool known, passed; choices made; } plain;
+
+/* ---- requests */
+
+_Noreturn void leave_python(void)
+{
+	program_end();
+	exit(0);
+}
+
+/* Whether nobody asks any more, or hears. */
+bool python_is_gone(void)
+{
+	struct pollfd end = {.fd = options.requests, .events = POLLIN};
+	return poll(&end, 1, 0) > 0 && end.revents & (POLLHUP | POLLERR);
+}
+
+/* The next line, without its end; it is good until the next one is read. */
+static char *read_line(void)
+{
+	static LIST(char) line;
+	for (;;) {
+		char *end = unread.count > 0 ? memchr(unread.at, '\n', unread.count) : NULL;
+		if (end != NULL) {
+			size_t length = end - unread.at;
+			line.count = 0;
+			for (size_t i = 0; i < length; i++)
+				APPEND(&line, unread.at[i]);
+			APPEND(&line, 0);
+			unread.count -= length + 1;
+			memmove(unread.at, end + 1, unread.count);
+			return line.at;
+		}
+		char text[65536];
+		ssize_t got = read(options.requests, text, sizeof text);
+		if (got < 0 && errno == EINTR)
+			continue;
+		if (got <= 0)
+			leave_python();
+		for (ssize_t i = 0; i < got; i++)
+			APPEND(&unread, text[i]);
+	}
+}
+
+/* The run stands still until Python says that it may go on. */
+void wait_for_python(void)
+{
+	char *line = read_line();
+	if (strcmp(line, "go") != 0)
+		broken("request %s", line);
+}
+
+static void read_switches(const char *text)
+{
+	struct switch_to to;
+	int length;
+	schedule.given.count = 0;
+	while (sscanf(text, "%d.%ld:%d%n", &to.tid, &to.point, &to.to, &length) == 3) {
+		APPEND(&schedule.given, to);
+		text += length;
+		text += *text == ',';
+	}
+	if (*text != 0)
+		broken("request switches %s", text);
+}
+
+/* Sets the schedule, and what is wanted. */
+static void read_request(char *line)
+{
+	char *wants = strsep(&line, " "), *name = strsep(&line, " ");
+	int early = 1;
+	run.wants = (struct wants){.trace = strchr(wants, 't') != NULL, .points = strchr(wants, 'p') != NULL,
+		.places = strchr(wants, 'l') != NULL, .stands = strchr(wants, 's') != NULL};
+	schedule.strategy = PLAIN;
+	if (name == NULL)
+		broken("request %s", wants);
+	if (strcmp(name, "plain") == 0 && line == NULL)
+		return;
+	if (strcmp(name, "switches") == 0 && line != NULL) {
+		schedule.strategy = SWITCHED;
+		read_switches(line);
+	} else if (strcmp(name, "seed") == 0 && line != NULL && sscanf(line, "%lu %d", &schedule.seed, &early) == 2) {
+		schedule.strategy = SEEDED;
+		schedule.early = early;
+	} else if (strcmp(name, "pct") == 0 && line != NULL &&
+		sscanf(line, "%lu %ld %ld", &schedule.seed, &schedule.depth, &schedule.length) == 3)
+		schedule.strategy = PRIORITIES;
+	else
+		broken("request %s", name);
+}
+
+/* ---- runs */
+
+/* A seed that draws no switch isn't run: its schedule is the plain one. */
+static bool goes_plain(void)
+{
+	const struct wants *w = &run.wants;
+	if (schedule.strategy != SEEDED || !plain.known || w->trace || w->points || w->places || w->stands)
+		return false;
+	schedule_begin();
+	return schedule_is_plain(&plain.made);
+}
+
+static void keep_plain(void)
+{
+	if (schedule.strategy != PLAIN || has_failed())
+		return;
+	plain.known = true;
+	plain.made.count = 0;
+	for (size_t i = 0; i < run.made.count; i++)
+		APPEND(&plain.made, run.made.at[i]);
+}
+
+static void serve(void)
+{
+	for (;;) {
+		read_request(read_line());
+		if (python_is_gone())
+			leave_python();
+		if (goes_plain()) {
+			write_plain_outcome();
+			continue;
+		}
+		run.wants.made = schedule.strategy == PLAIN;
+		run_once();
+		keep_plain();
+		write_outcome();
+	}
+}
+
+static bool read_options(char **words)
+{
+	char *end;
+	double numbers[NUMBERS];
+	for (int i = 0; i < NUMBERS; i++) {
+		numbers[i] = strtod(words[i], &end);
+		if (end == words[i] || *end != 0)
+			return false;
+	}
+	options = (struct options){.requests = numbers[0], .answers = numbers[1], .output = numbers[2], .calls = numbers[3],
+		.strict = numbers[4], .limit = numbers[5], .patience = numbers[6], .output_limit = numbers[7], .kill_on_debugger_exit = numbers[8]};
+	return true;
+}
+
+int main(int count, char **words)
+{
+	if (count == 2 && strcmp(words[1], "--version") == 0) {
+		printf("tracehost-broker %s\n", TRACEHOST_VERSION);
+		return 0;
+	}
+	if (count < NUMBERS + 2 || !read_options(words + 1)) {
+		fprintf(stderr, "tracehost-broker: it is started by tracehost-run\n");
+		return USAGE;
+	}
+	prctl(PR_SET_PDEATHSIG, SIGTERM);
+	signal(SIGINT, SIG_IGN); /* of the terminal: tracehost-run ends */
+	signal(SIGPIPE, SIG_IGN);
+	program_start(words + 1 + NUMBERS);
+	serve();
+}
