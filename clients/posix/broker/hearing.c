@@ -57,10 +57,10 @@ static _Noreturn void hangs(const struct lwp *l)
 
 static _Noreturn void foreign_text(const struct process *p, const char *line, size_t length)
 {
-	char text[4 * 40 + 1];
-	size_t at = 0;
-	for (size_t i = 0; i < length && i < 4 * 40 / 2; i++)
-		at += sprintf(text + at, "%02x", (unsigned char)line[i]);
+	enum { SHOWN = 160 };
+	char text[2 * SHOWN + 1] = "";
+	for (size_t i = 0; i < length && i < SHOWN; i++)
+		sprintf(text + 2 * i, "%02x", (unsigned char)line[i]);
 	broken("wrote %d %s", p->pid, text);
 }
 

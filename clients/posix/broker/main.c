@@ -5,7 +5,7 @@
  * REQUESTS and ANSWERS are descriptors of pipes, OUTPUT that of a file for what a run prints, or -1. A request is a line:
  * what the answer has besides its last line (t: the steps, p: the points of choice, l: places, s: it stands by if it fails;
  * or -), and a schedule: `plain`, `seed N EARLY`, `pct N DEPTH LENGTH`, `switches LIST`. Each is answered as soon as it was
- * run. After a failure the requests that were sent with it are still run. The answers are in outcome.c. */
+ * run. After a failure all requests up to the line `on` are passed over. The answers are in outcome.c. */
 #include <errno.h>
 #include <poll.h>
 #include <signal.h>
@@ -17,7 +17,8 @@
 
 enum { USAGE = 2, NUMBERS = 9 };
 static LIST(char) unread;
-static struct { bool known, passed; choices made; } plain;
+static bool plain_is_known, plain_passes;
+static choices plain_choices;
 
 /* ---- requests */
 
@@ -110,24 +111,41 @@ static void read_request(char *line)
 
 /* ---- runs */
 
-/* A seed that draws no switch isn't run: its schedule is the plain one. */
+/* The plain schedule's choices, for seeds that draw no switch: these aren't run. */
+static void keep_plain(void)
+{
+	plain_is_known = true;
+	plain_passes = !has_failed();
+	plain_choices.count = 0;
+	for (size_t i = 0; i < run.made.count; i++)
+		APPEND(&plain_choices, run.made.at[i]);
+}
+
+static void run_plain(void)
+{
+	struct wants wants = run.wants;
+	enum strategy strategy = schedule.strategy;
+	run.wants = (struct wants){.made = true};
+	schedule.strategy = PLAIN;
+	run_once();
+	keep_plain();
+	note_outcome();
+	forget_notes();
+	schedule.strategy = strategy;
+	run.wants = wants;
+}
+
+/* Whether the schedule is the plain one: its outcome is that of the run before then. */
 static bool goes_plain(void)
 {
 	const struct wants *w = &run.wants;
-	if (schedule.strategy != SEEDED || !plain.known || w->trace || w->points || w->places || w->stands)
+	if (schedule.strategy != SEEDED || w->trace || w->points || w->places || w->stands)
 		return false;
+	if (!plain_is_known)
+		run_plain();
+	outcome_begin();
 	schedule_begin();
-	return schedule_is_plain(&plain.made);
-}
-
-static void keep_plain(void)
-{
-	if (schedule.strategy != PLAIN || has_failed())
-		return;
-	plain.known = true;
-	plain.made.count = 0;
-	for (size_t i = 0; i < run.made.count; i++)
-		APPEND(&plain.made, run.made.at[i]);
+	return plain_passes && schedule_is_plain(&plain_choices);
 }
 
 static void serve(void)
@@ -136,14 +154,18 @@ static void serve(void)
 		read_request(read_line());
 		if (python_is_gone())
 			leave_python();
-		if (goes_plain()) {
-			write_plain_outcome();
-			continue;
-		}
 		run.wants.made = schedule.strategy == PLAIN;
-		run_once();
-		keep_plain();
-		write_outcome();
+		if (goes_plain())
+			note_plain_outcome();
+		else {
+			run_once();
+			if (run.wants.made)
+				keep_plain();
+			note_outcome();
+		}
+		flush_notes();
+		while (has_failed() && strcmp(read_line(), "on") != 0)
+			;
 	}
 }
 

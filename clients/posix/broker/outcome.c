@@ -4,7 +4,7 @@
 #include <unistd.h>
 #include "run.h"
 
-static LIST(char) notes;
+static LIST(char) notes, plain; /* plain: the last line of the plain schedule */
 static char failure[MESSAGE + 64]; /* its kind, and what Python makes a sentence of; empty if there is none */
 static enum { PASSED, FAILED, UNABLE } how;
 static int gone_real; /* of a process that has ended outside of the model */
@@ -202,15 +202,22 @@ void outcome_end(const struct ends *ends)
 		look_at_ends(ends);
 }
 
-void write_outcome(void)
+static void note_steps(void)
 {
-	static const char *const names[] = {"passed", "failed", "unable"};
 	for (size_t i = 0; i < run.kept.count; i++)
 		if (run.kept.at[i].text != NULL) {
 			put("step\t", 5);
 			put(run.kept.at[i].text, strlen(run.kept.at[i].text));
 			put("\n", 1);
 		}
+}
+
+/* The run's last line: how it has ended, figures, its switches, what has failed. */
+void note_outcome(void)
+{
+	static const char *const names[] = {"passed", "failed", "unable"};
+	note_steps();
+	size_t first = notes.count;
 	note("%s %ld %ld %ld %ld %ld %ld ", names[how], run.questions, run.steps, run.choices, run.passed, run.skipped, run.examined);
 	for (size_t i = 0; i < run.switches.count; i++) {
 		const struct switch_to *to = &run.switches.at[i];
@@ -219,12 +226,15 @@ void write_outcome(void)
 	note("%s", run.switches.count == 0 ? "- " : " ");
 	note_text(failure);
 	note("\n");
-	flush_notes();
+	if (!run.wants.made)
+		return;
+	plain.count = 0;
+	for (size_t i = first; i < notes.count; i++)
+		APPEND(&plain, notes.at[i]);
 }
 
-/* The schedule is the plain one, which has passed. */
-void write_plain_outcome(void)
-{
-	note("plain\n");
-	flush_notes();
-}
+/* The same line as of the last plain schedule. */
+void note_plain_outcome(void) { put(plain.at, plain.count); }
+
+void forget_notes(void) { notes.count = 0; }
+

@@ -119,8 +119,9 @@ void set_failure(const char *format, ...) __attribute__((format(printf, 1, 2)));
 bool has_failed(void);
 void outcome_begin(void);
 void outcome_end(const struct ends *ends); /* of a process that has ended outside of the model: how */
-void write_outcome(void);
-void write_plain_outcome(void);
+void note_outcome(void);
+void note_plain_outcome(void);
+void forget_notes(void);
 void verdict(void);
 
 uint64_t state_of(int tid);

@@ -5,11 +5,13 @@ from __future__ import annotations
 import os
 import subprocess
 import tempfile
-from collections.abc import Callable
+from abc import ABC, abstractmethod
+from collections.abc import Callable, Iterator
 from typing import NamedTuple
 
 from . import record
 from .model import Model
+from .outcome import Choice, Kept, Outcome, Result
 from .program import Program
 from .report import say_once
 from .run import Run
@@ -29,6 +31,8 @@ class Setting(NamedTuple):
     """Under a seed a sleep ends at any time."""
     verify: bool = False
     """Each record is replayed by `tracehost --expect`."""
+    broker: str | None = None
+    """The compiled broker; None for Python's."""
 
 
 class Task(NamedTuple):
@@ -56,38 +60,35 @@ class Task(NamedTuple):
         return "the plain schedule" if self.seed is None else f"--seed {self.seed}"
 
 
-class Choice(NamedTuple):
-    """A choice that another schedule could make otherwise."""
-
-    switch: Switch
-    forced: bool
-    """The running LWP can't go on: another choice preempts nobody."""
-    others: tuple[int, ...]
-    state: int
-    """Two choices with the same number come after the same questions and steps."""
-
-
-class Result(NamedTuple):
-    """What came of a run."""
-
-    why: str | None
-    """What failed, or None."""
-    questions: int
-    steps: int
-    choices: int
-    switches: tuple[Switch, ...]
-    digest: str
-    passed: int
-    """Handlers that ran for a passed-on signal."""
-    skipped: int
-    """Stops that were passed over."""
-    examined: int = 0
-    """Registers that were read or set, and steps by an instruction."""
-    points: tuple[Choice, ...] = ()
-
-
-class Runner:
+class Runner(ABC):
     """Runs schedules, one after the other."""
+
+    setting: Setting
+
+    @abstractmethod
+    def run(self, task: Task, on_failure: Callable[[int], None] | None = None, places: bool = False) -> Outcome:
+        """One run, with all that a record has of it."""
+
+    @abstractmethod
+    def result(self, task: Task, digest: bool = False) -> Result:
+        """One run, as what a search needs of it. A seed that makes the plain schedule's choices has its result."""
+
+    def results(self, tasks: Iterator[Task], digest: bool) -> Iterator[tuple[Task, Result]]:
+        """The same of many, in their order."""
+        for task in tasks:
+            yield task, self.result(task, digest)
+
+    @abstractmethod
+    def pids(self) -> list[int]:
+        """The processes that live longer than a run."""
+
+    @abstractmethod
+    def close(self) -> None:
+        """Ends them."""
+
+
+class InPython(Runner):
+    """Runs them in this process."""
 
     def __init__(self, setting: Setting, quiet: bool = True, tells: bool = True) -> None:
         """With `tells` it prints what is to be known of the program's libraries."""
@@ -96,12 +97,24 @@ class Runner:
         for note in self.program.notes if tells else ():
             say_once(note)
         self.model = Model(setting.model, setting.kill_on_debugger_exit)
-        self.output = b""
-        """Of the last run, where it was kept."""
         self._plain: tuple[Result, list[Made]] | None = None
 
-    def run(self, task: Task, on_failure: Callable[[int], None] | None = None, places: bool = False) -> tuple[Run, str | None]:
-        """One run, and what failed."""
+    def run(self, task: Task, on_failure: Callable[[int], None] | None = None, places: bool = False) -> Outcome:
+        run, why, output = self._run(task, on_failure, places)
+        return Outcome(_result(run, why), kept(run), output, run.places or (), run.blame.places)
+
+    def result(self, task: Task, digest: bool = False) -> Result:
+        if task.seed is not None and task.depth is None and not self.setting.verify:
+            plain, choices = self._plain or self._run_plain(digest)
+            if Random(task.seed, self.setting.early).is_plain(choices):
+                return plain
+        if digest or self.setting.verify:
+            return judged(self.setting, self.run(task), digest)
+        run, why, _ = self._run(task)
+        return _result(run, why)
+
+    def _run(self, task: Task, on_failure: Callable[[int], None] | None = None, places: bool = False) -> tuple[Run, str | None, bytes]:
+        """One run, what failed, and what it has printed."""
         setting = self.setting
         run = Run(self.program, self.model.user(), task.schedule(setting.early), setting.options, places)
         run.on_failure = on_failure
@@ -113,33 +126,15 @@ class Runner:
             why = run.run()
         except Broken as fault:
             raise Broken(f"{task.name()}: {fault}") from fault
-        self.output = self.program.output()
-        return run, why
-
-    def result(self, task: Task, digest: bool = False) -> Result:
-        """The same, as what a search needs of it. A seed that makes the plain schedule's choices has its result."""
-        if task.seed is not None and task.depth is None and not self.setting.verify:
-            plain, choices = self._plain or self._run_plain(digest)
-            if Random(task.seed, self.setting.early).is_plain(choices):
-                return plain
-        run, why = self.run(task)
-        if self.setting.verify:
-            why = why or verify(run, self.setting)
-        text = record.digest(run.turns.kept, self.output) if digest else ""
-        points = tuple(Choice(*point) for point in run.choice_points or ())
-        turns = run.turns
-        return Result(why, run.questions, turns.steps, run.choices, tuple(run.switches), text, turns.passed, turns.skipped, turns.examined, points)
+        return run, why, self.program.output()
 
     def _run_plain(self, digest: bool) -> tuple[Result, list[Made]]:
-        run, why = self.run(Task())
-        text = record.digest(run.turns.kept, self.output) if digest else ""
-        turns = run.turns
-        result = Result(why, run.questions, turns.steps, run.choices, (), text, turns.passed, turns.skipped, turns.examined)
-        self._plain = result, run.choices_made or []
+        run, why, output = self._run(Task())
+        outcome = Outcome(_result(run, why), kept(run) if digest else [], output)
+        self._plain = judged(self.setting, outcome, digest), run.choices_made or []
         return self._plain
 
     def pids(self) -> list[int]:
-        """The processes that live longer than a run."""
         return [self.program.pid, *self.model.pids()]
 
     def close(self) -> None:
@@ -147,13 +142,32 @@ class Runner:
         self.model.close()
 
 
-def verify(run: Run, setting: Setting) -> str | None:
+def kept(run: Run) -> Kept:
+    """The steps of a run."""
+    return [(step.text(), " ".join(reply)) for step, reply in run.turns.kept]
+
+
+def _result(run: Run, why: str | None) -> Result:
+    turns = run.turns
+    points = tuple(Choice(*point) for point in run.choice_points or ())
+    return Result(why, run.questions, turns.steps, run.choices, tuple(run.switches), "", turns.passed, turns.skipped, turns.examined, points)
+
+
+def judged(setting: Setting, outcome: Outcome, digest: bool) -> Result:
+    """The result with its digest, and after `tracehost --expect` was asked."""
+    result = outcome.result
+    if setting.verify and result.why is None:
+        result = result._replace(why=verify(outcome.kept, setting))
+    return result._replace(digest=record.digest(outcome.kept, outcome.output)) if digest else result
+
+
+def verify(steps: Kept, setting: Setting) -> str | None:
     """What `tracehost --expect` says against the record, or None."""
     with tempfile.TemporaryDirectory(prefix="tracehost-") as folder:
         path = os.path.join(folder, "record.json")
         with open(path, "w") as file:
-            file.write(record.scenario(run.turns.kept, setting.kill_on_debugger_exit))
+            file.write(record.scenario(steps, setting.kill_on_debugger_exit))
         with open(path + ".lines", "w") as file:
-            file.write(record.lines(run.turns.kept))
+            file.write(record.lines(steps))
         done = subprocess.run([setting.model, "--expect", path + ".lines", path], capture_output=True, text=True)
     return None if done.returncode == 0 else f"the record is answered otherwise: {done.stderr.strip() or done.returncode}"
