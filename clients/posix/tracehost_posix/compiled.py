@@ -148,10 +148,19 @@ class Compiled(Runner):
         except BrokenPipeError:  # it has ended, which is met where it is to answer
             pass
 
-    def _answered(self, digest: str = "") -> Result:
+    def _answered(self) -> Result:
         """The answer to the schedule that was asked first."""
-        task, length = self._asked[0]
+        line = ""
         self._answer = Answer()
+        try:
+            line = self._heard()
+            return self._answer.result(line, self.setting.options)
+        except (IndexError, KeyError, ValueError) as why:
+            raise Broken(f"the compiled broker's answer makes no sense: {line!r}") from why
+
+    def _heard(self) -> str:
+        """The last line of it."""
+        task, length = self._asked[0]
         while True:
             line = self._line()
             name, _, rest = line.partition(" ")
@@ -164,13 +173,13 @@ class Compiled(Runner):
             elif name == "broken":
                 raise Broken(f"{task.name()}: {fault(rest)}")
             elif name == "unable":
-                raise Unable(line.split(" ")[8])
+                raise Unable(line.split(" ", 8)[8])
             else:
                 self._asked.popleft()
                 self._on_their_way -= length
                 if name == "failed":
                     self._pass_over()
-                return self._answer.result(line.split(" "), self.setting.options, digest)
+                return line
 
     def _pass_over(self) -> None:
         """After a failure the broker passes over what it was told before it is told to go on: a search has ended."""

@@ -158,8 +158,8 @@ class Answer:
         self.points: list[Choice] = []
         self.places: list[Place] = []
         self.blamed: list[Place] = []
-        self._last: list[Place] = []
-        self._waiting: list[Waiting] = []
+        self.last: list[Place] = []
+        self.waiting: list[Waiting] = []
 
     def take(self, line: str) -> None:
         """A line before the last one."""
@@ -171,20 +171,18 @@ class Answer:
             self.points.append(Choice(Switch(tid, point, 0), bool(forced), tuple(others), state))
         elif name == "waits":
             pid, tid, stopped, tracer, reporting, holder = map(int, fields[:6])
-            self._waiting.append(Waiting(pid, tid, unquote(fields[6]), bool(stopped), tracer or None, bool(reporting), holder))
+            self.waiting.append(Waiting(pid, tid, unquote(fields[6]), bool(stopped), tracer or None, bool(reporting), holder))
         else:
-            {"switch": self.places, "blame": self.blamed, "last": self._last}[name].append(_place(fields))
+            {"switch": self.places, "blame": self.blamed, "last": self.last}[name].append(_place(fields))
 
-    def result(self, words: Sequence[str], options: Options, digest: str = "") -> Result:
-        """What the words of the last line say."""
-        name, questions, steps, choices, passed, skipped, examined, switches, *text = words
-        why = failure(unquote(text[0]), self._waiting, options) if name == "failed" else None
+    def result(self, line: str, options: Options) -> Result:
+        """What the last line says: how it has ended, figures, switches, and what has failed."""
+        name, *figures, switches, text = line.split(" ", 8)
+        why = failure(unquote(text), self.waiting, options) if name == "failed" else None
         if why == endless(options.limit):
-            self.blamed = loops(self._last)
-        return Result(
-            why, int(questions), int(steps), int(choices), _switches(switches), digest, int(passed), int(skipped), int(examined),
-            tuple(self.points),
-        )
+            self.blamed = loops(self.last)
+        questions, steps, choices, passed, skipped, examined = map(int, figures)
+        return Result(why, questions, steps, choices, _switches(switches), "", passed, skipped, examined, tuple(self.points))
 
 
 def _place(fields: Sequence[str]) -> Place:
