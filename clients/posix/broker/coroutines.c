@@ -2,6 +2,11 @@
 #include <stdlib.h>
 #include <sys/mman.h>
 #include "run.h"
+#ifdef USE_VALGRIND /* it has to know of the stacks */
+#include <valgrind/valgrind.h>
+#else
+#define VALGRIND_STACK_REGISTER(first, end) ((void)0)
+#endif
 
 enum { STACK = 256 << 10, GUARD = 4096, LOW = 32 << 10 };
 
@@ -18,6 +23,7 @@ static char *new_stack(void)
 	char *stack = mmap(NULL, GUARD + STACK, PROT_READ | PROT_WRITE, MAP_PRIVATE | MAP_ANONYMOUS | MAP_NORESERVE | MAP_STACK, -1, 0);
 	if (stack == MAP_FAILED || mprotect(stack, GUARD, PROT_NONE) != 0)
 		broken("no memory is left for an LWP's stack");
+	VALGRIND_STACK_REGISTER(stack + GUARD, stack + GUARD + STACK);
 	return stack;
 }
 

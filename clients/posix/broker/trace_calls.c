@@ -107,6 +107,8 @@ BODY(ptrace_call)
 	struct step s = step_of(l, request, target, data);
 	if (request == TRACEHOST_PT_TRACE_ME)
 		expect_call(l, s);
+	else
+		expect_others();
 	enter(l, call->code, NULL);
 	if (is_known) {
 		r = step_of_call(l, s, true);

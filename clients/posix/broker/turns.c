@@ -22,7 +22,8 @@ struct step entry_of(const struct lwp *l, int call, uint32_t argument)
 
 /* Python's broker sends steps together if the schedule lets the LWP go on at each of them; and the call that has made its
  * process a traced one doesn't land if its `compute` was among them. For a seed to be the same schedule here, it is
- * counted which steps those would be. No step is made before its turn. */
+ * counted which steps those would be: there is one plan, which each call that has one replaces. No step is made before its
+ * turn. */
 enum { EXPECTED = 4 };
 static struct { const struct lwp *of; int count; struct step at[EXPECTED]; } plan, ahead;
 
@@ -43,6 +44,8 @@ void expect(const struct lwp *l, const struct step *steps, int count)
 	plan.count = l->clean && !(l->passed || l->injected.count || l->traps) ? count : 0;
 	memcpy(plan.at, steps, plan.count * sizeof *steps);
 }
+
+void expect_others(void) { plan.count = 0; }
 
 static void count_along(const struct step *s)
 {
