@@ -34,6 +34,8 @@ void forget_lwp(struct lwp *l)
 		ssize_t got = recv(l->fd, line, sizeof line, 0);
 		if (got == 0 || (got < 0 && errno != EAGAIN && errno != EINTR))
 			break;
+		if (got < 0)
+			end_if_python_is_gone();
 	}
 	close_socket(l);
 	remove_lwp(l);

@@ -76,6 +76,7 @@ static enum reading receive(struct lwp *l, bool amid, struct question *q)
 		if (got < 0 && errno == EINTR)
 			continue;
 		if (got < 0 && errno == EAGAIN) {
+			end_if_python_is_gone();
 			limits(l);
 			if (watch_look(&watch, l))
 				hangs(l);
@@ -274,8 +275,10 @@ const char *aside(struct lwp *l, const char *line)
 	send_line(l, line);
 	for (int looks = 0; looks < ENDING_S * 1000 / LOOK_MS; looks++) {
 		ssize_t got = recv(l->fd, text, sizeof text - 1, 0);
-		if (got < 0 && (errno == EAGAIN || errno == EINTR))
+		if (got < 0 && (errno == EAGAIN || errno == EINTR)) {
+			end_if_python_is_gone();
 			continue;
+		}
 		if (got <= 0)
 			gone(l->process);
 		text[got] = 0;

@@ -28,11 +28,12 @@ _Noreturn void leave_python(void)
 	exit(0);
 }
 
-/* Whether nobody asks any more, or hears. */
-bool python_is_gone(void)
+/* Nobody asks any more if the other end of the pipe is closed. */
+void end_if_python_is_gone(void)
 {
 	struct pollfd end = {.fd = options.requests, .events = POLLIN};
-	return poll(&end, 1, 0) > 0 && end.revents & (POLLHUP | POLLERR);
+	if (poll(&end, 1, 0) > 0 && end.revents & (POLLHUP | POLLERR))
+		leave_python();
 }
 
 /* The next line, without its end; it is good until the next one is read. */
@@ -152,8 +153,7 @@ static void serve(void)
 {
 	for (;;) {
 		read_request(read_line());
-		if (python_is_gone())
-			leave_python();
+		end_if_python_is_gone();
 		run.wants.made = schedule.strategy == PLAIN;
 		if (goes_plain())
 			note_plain_outcome();
@@ -193,7 +193,7 @@ int main(int count, char **words)
 		fprintf(stderr, "tracehost-broker: it is started by tracehost-run\n");
 		return USAGE;
 	}
-	prctl(PR_SET_PDEATHSIG, SIGTERM);
+	prctl(PR_SET_CHILD_SUBREAPER, 1); /* if the program's server is killed, what it had comes here */
 	signal(SIGINT, SIG_IGN); /* of the terminal: tracehost-run ends */
 	signal(SIGPIPE, SIG_IGN);
 	program_start(words + 1 + NUMBERS);

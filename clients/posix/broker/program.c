@@ -53,6 +53,7 @@ static ssize_t hear_server(char *line, size_t room)
 		ssize_t got = recv(control, line, room, 0);
 		if (got >= 0 || (errno != EAGAIN && errno != EINTR))
 			return got;
+		end_if_python_is_gone();
 		kill(server, SIGCONT);
 	}
 	kill(server, SIGKILL);
@@ -185,11 +186,28 @@ void program_forget_output(void)
 	has_printed = false;
 }
 
-/* Ends the server, which ends all that it has. */
-void program_end(void)
+/* What a server that was killed has left. */
+static void end_orphans(void)
 {
-	if (control < 0)
-		return;
+	char path[64];
+	int pid;
+	snprintf(path, sizeof path, "/proc/self/task/%d/children", getpid());
+	for (;;) {
+		FILE *list = fopen(path, "r");
+		bool found = false;
+		while (list != NULL && fscanf(list, "%d", &pid) == 1)
+			found |= kill(pid, SIGKILL) == 0;
+		if (list != NULL)
+			fclose(list);
+		if (!found)
+			return;
+		while (waitpid(-1, NULL, 0) > 0)
+			;
+	}
+}
+
+static void end_server(void)
+{
 	close(control);
 	control = -1;
 	for (int looks = 0; looks < ENDING_S * 1000; looks++) {
@@ -199,4 +217,12 @@ void program_end(void)
 	}
 	kill(server, SIGKILL);
 	waitpid(server, NULL, 0);
+}
+
+/* Ends the server, which ends all that it has. */
+void program_end(void)
+{
+	if (control >= 0)
+		end_server();
+	end_orphans();
 }

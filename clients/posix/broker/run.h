@@ -142,7 +142,7 @@ bool send_with(int to, const char *text, int fd);
 
 /* ---- main.c */
 
-bool python_is_gone(void);
+void end_if_python_is_gone(void);
 _Noreturn void leave_python(void); /* nobody hears any more: all is ended */
 void wait_for_python(void);
 

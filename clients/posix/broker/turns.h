@@ -10,6 +10,8 @@ enum { BSD_CLD_EXITED = 1, BSD_CLD_KILLED, BSD_CLD_DUMPED, BSD_CLD_TRAPPED, BSD_
 #define UNBLOCKABLE (BIT(KILL) | BIT(STOP))
 #define DISCARDED (BIT(16) | BIT(CONT) | BIT(CHLD) | BIT(23) | BIT(28) | BIT(29))
 
+static inline bool has(signals set, int64_t signal) { return signal > 0 && signal < 32 && set & BIT(signal); }
+
 enum operation { SPAWN, TURN, PTRACE, WAIT4, SEND, SIGACTION, LIST_PROCESSES };
 struct step {
 	uint8_t op, act, call;
@@ -66,8 +68,9 @@ bool linger(struct lwp *l, int64_t topic, bool restarts, int64_t until);
 bool interrupts(const struct process *p, signals met, bool restarts);
 bool is_due(const struct lwp *l);
 
-/* ---- who hears of what */
+/* ---- news.c: who hears of what */
 
+bool is_discarded(const struct process *p, int signal); /* of turns.c: a traced process doesn't stop for it */
 void nudge(struct process *p, int signal);
 void count_signal(struct process *p, int64_t signal);
 void end_news(struct process *p, int status);

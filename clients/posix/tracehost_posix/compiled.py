@@ -9,8 +9,9 @@ import fcntl
 import glob
 import os
 import subprocess
+import time
 from collections import deque
-from collections.abc import Callable, Iterable, Iterator
+from collections.abc import Callable, Iterable, Iterator, Sequence
 
 from .outcome import Answer, Outcome, Result, fault
 from .program import REFUSED, NotRunnable
@@ -21,8 +22,10 @@ from .table import Broken
 
 AHEAD, ROOM = 64, 32768
 """So many schedules, and bytes of them, are on their way at most: a pipe has room for twice as many bytes."""
+NAP = 0.002
+"""While as many as half of that are on their way, answers are read each so many seconds: to be woken up for each costs time."""
 MOST_SEED, MOST_NUMBER = 1 << 62, 1 << 31
-_LAST = frozenset({"passed", "failed", "unable", "broken"})
+_LAST = ("passed ", "failed ", "unable ", "broken ")
 
 
 class Unable(Exception):
@@ -127,7 +130,8 @@ class Compiled(Runner):
         *lines, self._text = (self._text + got).split(b"\n")
         self._lines.extend(line.decode("utf-8", "replace") for line in lines)
 
-    def _ask(self, task: Task, wants: str) -> None:
+    def _line_of(self, task: Task, wants: str) -> bytes:
+        """What asks for it."""
         if task.switches is not None:
             schedule = f"switches {text_of(task.switches)}"
         elif task.seed is None:
@@ -139,7 +143,7 @@ class Compiled(Runner):
         line = f"{wants or '-'} {schedule}\n".encode()
         self._asked.append((task, len(line)))
         self._on_their_way += len(line)
-        self._write(line)
+        return line
 
     def _write(self, line: bytes) -> None:
         try:
@@ -168,7 +172,7 @@ class Compiled(Runner):
                 if self._on_failure is not None:
                     self._on_failure(int(rest))
                 self._write(b"go\n")
-            elif name not in _LAST:
+            elif not line.startswith(_LAST):
                 self._answer.take(line)
             elif name == "broken":
                 raise Broken(f"{task.name()}: {fault(rest)}")
@@ -190,8 +194,7 @@ class Compiled(Runner):
 
     def _ask_again(self) -> None:
         dropped, self._dropped = self._dropped, []
-        for task in dropped:
-            self.ask(task)
+        self.ask(dropped)
 
     def _printed(self) -> bytes:
         if self._output < 0:
@@ -202,7 +205,7 @@ class Compiled(Runner):
 
     def run(self, task: Task, on_failure: Callable[[int], None] | None = None, places: bool = False) -> Outcome:
         self._dropped, self._on_failure = [], on_failure
-        self._ask(task, "t" + "l" * places + "p" * task.points + "s" * (on_failure is not None))
+        self._write(self._line_of(task, "t" + "l" * places + "p" * task.points + "s" * (on_failure is not None)))
         result = self._answered()
         return Outcome(result, self._answer.kept, self._printed(), self._answer.places, self._answer.blamed)
 
@@ -210,7 +213,7 @@ class Compiled(Runner):
         if digest or self.setting.verify:
             return judged(self.setting, self.run(task), digest)
         self._dropped = []
-        self.ask(task)
+        self.ask([task])
         return self._answered()
 
     def results(self, tasks: Iterator[Task], digest: bool) -> Iterator[tuple[Task, Result]]:
@@ -220,24 +223,26 @@ class Compiled(Runner):
         more = True
         while more or self._asked or self._dropped:
             self._ask_again()
-            while more and len(self._asked) < AHEAD and self._on_their_way < ROOM:
+            asked: list[Task] = []
+            while more and len(self._asked) + len(asked) < AHEAD and self._on_their_way < ROOM:
                 task = next(tasks, None)
                 more = task is not None
                 if task is not None:
-                    self.ask(task)
-            if self._asked:
-                asked = [task for task, _ in self._asked]
-                yield from zip(asked, self.answers())
+                    asked.append(task)
+            self.ask(asked)
+            if len(self._asked) >= AHEAD // 2:
+                time.sleep(NAP)
+            yield from zip([task for task, _ in self._asked], self.answers())
 
-    def ask(self, task: Task) -> None:
-        """Many may be asked before the first is answered, as long as their lines fit the pipe."""
-        self._ask(task, "p" * task.points)
+    def ask(self, tasks: Sequence[Task]) -> None:
+        """More may be asked before the first is answered, as long as their lines fit the pipe."""
+        self._write(b"".join(self._line_of(task, "p" * task.points) for task in tasks))
 
     def answers(self) -> Iterator[Result]:
         """The next answer, and those that are there already."""
         self._ask_again()
         yield self._answered()
-        while self._asked and any(line.partition(" ")[0] in _LAST for line in self._lines):
+        while self._asked and any(line.startswith(_LAST) for line in self._lines):
             yield self._answered()
 
     def fileno(self) -> int:

@@ -175,7 +175,7 @@ class Direct(Worker):
         return self._broker.fileno()
 
     def send(self, task: Task) -> None:
-        self._broker.ask(task)
+        self._broker.ask([task])
 
     def receive(self) -> list[Union[Result, Exception]]:
         self._seat.look(self._broker.pids())
@@ -213,7 +213,8 @@ class Pool:
         self._processors, idle = processors()
         self._runner: Runner | None = None
         if jobs == 1:
-            self._runner, self._seat = seated(setting, self._processors[0] if idle else None)
+            stays = idle or setting.broker is not None
+            self._runner, self._seat = seated(setting, self._processors[0] if stays else None)
         self._workers: list[Worker] = []
         self._tasks: dict[int, Task] = {}
         self._deaths: dict[int, int] = {}
