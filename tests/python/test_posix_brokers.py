@@ -7,6 +7,7 @@ few seeds; if TRACEHOST_TEST_SCALE is 20, as in a nightly run, all do, under 20.
 
 from __future__ import annotations
 
+import json
 import os
 import pathlib
 import re
@@ -68,7 +69,7 @@ def broker() -> pathlib.Path:
     """The compiled broker, which has to be there: else this compares the other one with itself."""
     assert run(["make", "-s", "-C", POSIX]).returncode == 0
     path = POSIX / "build" / "tracehost-broker"
-    assert path.exists()
+    assert os.access(path, os.X_OK)
     return path
 
 
@@ -145,3 +146,39 @@ def test_the_same_records(room: pathlib.Path, name: str) -> None:
 @pytest.mark.parametrize("name", ["race_lost_wakeup", "race_step_over_breakpoint"])
 def test_several_jobs_print_the_same(room: pathlib.Path, name: str) -> None:
     both(["--jobs", 3, "--schedules", 20], [built(room, name)])
+
+
+ASKS = {  # a statement of a program, and the question that it is
+    "getpid();": "call",
+    "getppid();": "getppid",
+    "sched_yield();": "yield",
+    "kill(getppid(), 0);": "getppid kill",
+    "raise(SIGWINCH);": "thr_kill",
+    "signal(SIGUSR1, SIG_IGN);": "action",
+    "close(-1);": "io",
+    "alarm(100);": "timer",
+    "waitpid(-1, 0, WNOHANG);": "wait",
+    "nanosleep(&none, 0);": "sleep",
+    "ptrace(PT_CONTINUE, 1, (caddr_t)1, 0);": "ptrace",
+    "sigprocmask(SIG_BLOCK, &one, 0);": "mask",
+}
+HEAD = """#include <sys/types.h>
+#include <sys/ptrace.h>
+#include <sys/wait.h>
+#include <sched.h>
+#include <signal.h>
+#include <time.h>
+#include <unistd.h>
+int main(void) { struct timespec none = {0, 0}; sigset_t one; sigemptyset(&one); sigaddset(&one, SIGUSR2); """
+
+
+def test_the_table_of_calls(room: pathlib.Path, broker: pathlib.Path) -> None:
+    """The compiled broker's table says which steps a call makes that doesn't wait: a run has just these."""
+    table = dict(line.split("\t")[0::2][:2] for line in run([broker, "--calls"]).stdout.decode().splitlines())
+    (room / "calls.c").write_text(f"{HEAD}{' '.join(ASKS)} return 0; }}\n")
+    assert run([POSIX / "tracehost-cc", "-w", "-o", room / "calls", room / "calls.c"]).returncode == 0
+    assert run([RUN, "--broker", "c", "--record", room / "calls.json", room / "calls"]).returncode == 0
+    steps = json.loads((room / "calls.json").read_text())["steps"]
+    made = [step["act"] if step["op"] == "turn" else step["op"] for step in steps]
+    questions = ["hello", *" ".join(ASKS.values()).split(), "exit"]
+    assert made == ["spawn", *(word for name in questions for word in table[name].split())]

@@ -5,8 +5,10 @@
  * REQUESTS and ANSWERS are descriptors of pipes, OUTPUT that of a file for what a run prints, or -1. A request is a line:
  * what the answer has besides its last line (t: the steps, p: the points of choice, l: places, s: it stands by if it fails;
  * or -), and a schedule: `plain`, `seed N EARLY`, `pct N DEPTH LENGTH`, `switches LIST`. Each is answered as soon as it was
- * run. After a failure all requests up to the line `on` are passed over. The answers are in outcome.c. */
+ * run. After a failure all requests up to the line `on` are passed over. The answers are in outcome.c. `--calls` prints the
+ * table of calls. */
 #include <errno.h>
+#include <fcntl.h>
 #include <poll.h>
 #include <signal.h>
 #include <stdlib.h>
@@ -189,11 +191,23 @@ int main(int count, char **words)
 		printf("tracehost-broker %s\n", TRACEHOST_VERSION);
 		return 0;
 	}
+	if (count == 2 && strcmp(words[1], "--calls") == 0) {
+		print_calls();
+		return 0;
+	}
+	if (strcmp(tracehost_version(), TRACEHOST_VERSION) != 0) {
+		fprintf(stderr, "tracehost-broker: it has the library of another version: %s\n", tracehost_version());
+		return USAGE;
+	}
 	if (count < NUMBERS + 2 || !read_options(words + 1)) {
 		fprintf(stderr, "tracehost-broker: it is started by tracehost-run\n");
 		return USAGE;
 	}
 	prctl(PR_SET_CHILD_SUBREAPER, 1); /* if the program's server is killed, what it had comes here */
+	fcntl(options.requests, F_SETFD, FD_CLOEXEC); /* none of these is the program's */
+	fcntl(options.answers, F_SETFD, FD_CLOEXEC);
+	if (options.output >= 0)
+		fcntl(options.output, F_SETFD, FD_CLOEXEC);
 	signal(SIGINT, SIG_IGN); /* of the terminal: tracehost-run ends */
 	signal(SIGPIPE, SIG_IGN);
 	program_start(words + 1 + NUMBERS);

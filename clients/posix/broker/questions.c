@@ -7,8 +7,9 @@
 #define NEWS (-1) /* of the process: a child's status, a signal */
 #define RUNS (-2) /* the process may run again */
 #define ENDS (-3) /* an LWP's end */
+#define N_CALLS (sizeof calls / sizeof calls[0])
 
-const struct call calls[] = {
+static const struct call calls[] = {
 	/* name         body              code least most steps                       waits wakes at once */
 	{"hello",       hello,            0,   4, 4, "compute",                       0, 0, false},
 	{"fork",        fork_call,        2,   0, 0, "enter leave",                   0, 0, false},
@@ -62,7 +63,20 @@ const struct call calls[] = {
 	{"news",        news_call,        560, 0, 0, "",                              0, 0, false},
 	{"undescribed", undescribed,      6,   1, 1, "",                              0, 0, false},
 };
-const size_t n_calls = sizeof calls / sizeof calls[0];
+
+/* The table: of each call its name, its code, its steps, for what it waits, and what it changes. */
+void print_calls(void)
+{
+	static const struct { int topic; const char *name; } topics[] = {{NEWS, "news"}, {RUNS, "runs"}, {ENDS, "ends"}, {IO, "io"}, {SYNC, "sync"}};
+	for (size_t i = 0; i < N_CALLS; i++) {
+		const char *waits = "", *wakes = "";
+		for (size_t k = 0; k < sizeof topics / sizeof topics[0]; k++) {
+			waits = calls[i].waits == topics[k].topic ? topics[k].name : waits;
+			wakes = calls[i].wakes == topics[k].topic ? topics[k].name : wakes;
+		}
+		printf("%s\t%d\t%s\t%s\t%s\n", calls[i].name, calls[i].code, calls[i].steps, waits, wakes);
+	}
+}
 
 /* ---- words */
 
@@ -185,7 +199,7 @@ enum reading read_question(char *line, struct question *q)
 		return reading;
 	if (is_word(q->text, end, "handled"))
 		return read_call(end, q) == FOREIGN_TEXT ? FOREIGN_TEXT : HANDLED;
-	for (size_t i = 0; i < n_calls && q->call == NULL; i++)
+	for (size_t i = 0; i < N_CALLS && q->call == NULL; i++)
 		if (is_word(q->text, end, calls[i].name))
 			q->call = &calls[i];
 	if (q->call == NULL)

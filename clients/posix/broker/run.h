@@ -74,8 +74,7 @@ struct call {
 	int waits, wakes; /* topics: for which it waits, besides its process's news; that it changes */
 	bool at_once; /* nobody goes on between the question and its first step */
 };
-extern const struct call calls[];
-extern const size_t n_calls;
+void print_calls(void);
 
 enum kind { READ, WRITE, POLL, KEVENT, SEMAPHORE, OTHER }; /* of `again` */
 struct question {

@@ -421,8 +421,9 @@ def _run_by_either(given: argparse.Namespace, setting: Setting) -> int:
     except Unable as lacks:
         if given.broker == "c":
             raise Broken(f"the compiled broker doesn't have this: {lacks}") from lacks
-        say(f"the compiled broker doesn't have this: {lacks}. The one in Python runs the program")
-        return _run(Command(given, setting._replace(broker=None)))
+        status = _run(Command(given, setting._replace(broker=None)))
+        say(f"the broker in Python has run the program: the compiled one doesn't have this: {lacks}")
+        return status
 
 
 def _run(command: Command) -> int:
