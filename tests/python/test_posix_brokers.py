@@ -109,8 +109,8 @@ def test_the_same_runs(room: pathlib.Path, words: list[str]) -> None:
 
 
 STRATEGIES: list[list[object]] = [
-    ["--strategy", "pct", "--schedules", 12 * SEEDS],
-    ["--preemptions", 1, "--schedules", 40 * SEEDS],
+    ["--strategy", "pct", "--schedules", 6 * SEEDS],
+    ["--preemptions", 1, "--schedules", 15 * SEEDS],
     ["--calls", "--schedules", SEEDS],
     ["--strict", "--schedules", SEEDS],
     ["--sleeps", "last", "--schedules", SEEDS],

@@ -8,7 +8,7 @@
 #define VALGRIND_STACK_REGISTER(first, end) ((void)0)
 #endif
 
-enum { STACK = 256 << 10, GUARD = 4096, LOW = 32 << 10 };
+enum { STACK = 1 << 20, GUARD = 4096, LOW = 64 << 10 };
 
 static ucontext_t home;
 static LIST(char *) unused; /* stacks */
