@@ -23,7 +23,7 @@ from .pool import Pool, WorkerEnded
 from .program import NotRunnable, check
 from .report import say, say_once
 from .runner import Runner, Setting, Task, verify
-from .schedules import Switch
+from .schedules import Switch, text_of
 from .table import Broken, Options
 
 FAILED, USAGE, BROKEN, ANOTHER_WAY = 1, 2, 3, 4
@@ -158,7 +158,7 @@ class Command:
         self.given, self.setting = given, setting
         self.began = time.monotonic()
         self.runs = self.questions = self.steps = self.passed = self.skipped = self.examined = self.most = 0
-        self.schedules: set[tuple[Switch, ...]] = set()
+        self.schedules: set[str] = set()
         self.news: deque[bool] = deque(maxlen=LAST)
         """Of the last runs, whether nothing like them had run before."""
 
@@ -171,8 +171,8 @@ class Command:
         self.skipped += result.skipped
         self.examined += result.examined
         self.most = max(self.most, result.questions)
-        self.news.append(result.switches not in self.schedules)
-        self.schedules.add(result.switches)
+        self.news.append(result.schedule not in self.schedules)
+        self.schedules.add(result.schedule)
         if self.given.digest:
             print(f"{'plain' if task.seed is None else task.seed} {result.digest}")
 
@@ -232,7 +232,7 @@ class Command:
         unmet = [switch for switch in task.switches or () if switch not in result.switches]
         if not unmet:
             return 0
-        say(f"not met: {record.text_of(unmet)}: the program isn't the one that these switches are of")
+        say(f"not met: {text_of(unmet)}: the program isn't the one that these switches are of")
         return ANOTHER_WAY
 
     def replay(self) -> int:
@@ -303,9 +303,9 @@ class Command:
         switches = search.shrink(runner, result) if result.switches else result.switches
         outcome = self._one(runner, Task(switches=switches), quiet=True)
         if switches:
-            left = outcome.result.switches
-            enough = "1 is" if len(left) == 1 else f"{len(left)} are"
-            say(f"of its {len(result.switches)} switches {enough} enough: --switches {record.text_of(left)}")
+            left = len(outcome.result.switches)
+            enough = "1 is" if left == 1 else f"{left} are"
+            say(f"of its {len(result.switches)} switches {enough} enough: --switches {outcome.result.schedule}")
         self._switches(outcome)
         self._record(outcome)
         status = self._end(outcome.result.why or result.why)

@@ -15,9 +15,9 @@ from collections.abc import Callable, Iterable, Iterator, Sequence
 
 from .outcome import Answer, Outcome, Result, fault
 from .program import REFUSED, NotRunnable
-from .record import text_of
 from .report import say_once
 from .runner import InPython, Runner, Setting, Task, judged
+from .schedules import text_of
 from .table import Broken
 
 AHEAD, ROOM = 64, 32768

@@ -34,7 +34,8 @@ class Result(NamedTuple):
     questions: int
     steps: int
     choices: int
-    switches: tuple[Switch, ...]
+    schedule: str
+    """Its switches, as `schedules.text_of` writes them: most are only compared."""
     digest: str
     passed: int
     """Handlers that ran for a passed-on signal."""
@@ -43,6 +44,12 @@ class Result(NamedTuple):
     examined: int = 0
     """Registers that were read or set, and steps by an instruction."""
     points: tuple[Choice, ...] = ()
+
+    @property
+    def switches(self) -> tuple[Switch, ...]:
+        """The choices that weren't the plain schedule's."""
+        items = (item.replace(":", ".").split(".") for item in self.schedule.split(",") if item)
+        return tuple(Switch(*map(int, item)) for item in items)
 
 
 class Outcome(NamedTuple):
@@ -182,20 +189,10 @@ class Answer:
         if why == endless(options.limit):
             self.blamed = loops(self.last)
         questions, steps, choices, passed, skipped, examined = map(int, figures)
-        return Result(why, questions, steps, choices, _switches(switches), "", passed, skipped, examined, tuple(self.points))
+        schedule = switches if switches != "-" else ""
+        return Result(why, questions, steps, choices, schedule, "", passed, skipped, examined, tuple(self.points))
 
 
 def _place(fields: Sequence[str]) -> Place:
     who, asked, where, program, then, step = fields
     return Place(who, unquote(asked), int(where), unquote(program), then, int(step))
-
-
-def _switches(text: str) -> tuple[Switch, ...]:
-    if text == "-":
-        return ()
-    found = []
-    for item in text.split(","):
-        at, _, to = item.partition(":")
-        tid, _, point = at.partition(".")
-        found.append(Switch(int(tid), int(point), int(to)))
-    return tuple(found)

@@ -4,12 +4,10 @@ from __future__ import annotations
 
 import hashlib
 import json
-from collections.abc import Iterable
 from typing import Any
 
 from .model import FIRST_USER
 from .outcome import Kept, Outcome
-from .schedules import Switch
 
 
 def scenario(kept: Kept, kill_on_debugger_exit: bool | None) -> str:
@@ -32,13 +30,8 @@ def digest(kept: Kept, output: bytes) -> str:
     return text.hexdigest()[:16]
 
 
-def text_of(switches: Iterable[Switch]) -> str:
-    """Switches for --switches: `LWP.POINT:LWP,..`."""
-    return ",".join(f"{switch.tid}.{switch.point}:{switch.to}" for switch in switches)
-
-
 def switches_of(text: str) -> dict[tuple[int, int], int]:
-    """The reverse of `text_of`; ValueError where it isn't one."""
+    """The reverse of `schedules.text_of`; ValueError where it isn't one."""
     found = {}
     for item in filter(None, text.split(",")):
         at, _, to = item.partition(":")
@@ -54,7 +47,7 @@ def write(path: str, outcome: Outcome, command: list[str], kill_on_debugger_exit
         file.write(scenario(kept, kill_on_debugger_exit))
     with open(path + ".lines", "w") as file:
         file.write(lines(kept))
-    schedule = {"program": command, "switches": text_of(outcome.result.switches), **settings}
+    schedule = {"program": command, "switches": outcome.result.schedule, **settings}
     with open(path + ".schedule", "w") as file:
         json.dump(schedule, file, indent=1)
         file.write("\n")

@@ -15,7 +15,7 @@ from .outcome import Choice, Kept, Outcome, Result
 from .program import Program
 from .report import say_once
 from .run import Run
-from .schedules import Made, Plain, Priorities, Random, Schedule, Switch, Switched
+from .schedules import Made, Plain, Priorities, Random, Schedule, Switch, Switched, text_of
 from .table import Broken, Options
 
 
@@ -150,7 +150,7 @@ def kept(run: Run) -> Kept:
 def _result(run: Run, why: str | None) -> Result:
     turns = run.turns
     points = tuple(Choice(*point) for point in run.choice_points or ())
-    return Result(why, run.questions, turns.steps, run.choices, tuple(run.switches), "", turns.passed, turns.skipped, turns.examined, points)
+    return Result(why, run.questions, turns.steps, run.choices, text_of(run.switches), "", turns.passed, turns.skipped, turns.examined, points)
 
 
 def judged(setting: Setting, outcome: Outcome, digest: bool) -> Result:
