@@ -13,8 +13,9 @@ static int gone_real; /* of a process that has ended outside of the model */
 
 static void put(const char *text, size_t length)
 {
-	for (size_t i = 0; i < length; i++)
-		APPEND(&notes, text[i]);
+	notes.at = with_room(notes.at, notes.count + length, &notes.room, 1);
+	memcpy(notes.at + notes.count, text, length);
+	notes.count += length;
 }
 
 void note(const char *format, ...)

@@ -22,7 +22,7 @@ void *with_room(void *at, size_t count, size_t *room, size_t size)
 {
 	if (count <= *room)
 		return at;
-	*room = *room == 0 ? 8 : 2 * *room;
+	*room = 2 * *room > count ? 2 * *room : count < 8 ? 8 : count;
 	return there(realloc(at, *room * size));
 }
 
