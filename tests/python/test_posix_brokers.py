@@ -39,8 +39,8 @@ def sources() -> dict[str, tuple[pathlib.Path, list[str]]]:
     for path in sorted((POSIX / "tests" / "programs").glob("*.c*")):
         flags = re.search(r"^ \* flags: (.*?) *$", path.read_text().partition("*/")[0], re.MULTILINE)
         found[f"program_{path.stem}"] = (path, flags[1].split() if flags else [""])
-    for name in ("examples/truss.c", "examples/traced.c", "examples/debugger.cpp", "examples/debugged.c", "tests/truss_interrupted.c"):
-        found[pathlib.Path(name).stem] = (POSIX / name, ["-O1", "-fno-omit-frame-pointer"])
+    for name in ("examples/truss.c", "examples/traced.c", "tests/truss_interrupted.c"):
+        found[pathlib.Path(name).stem] = (POSIX / name, [""])
     return found
 
 
@@ -53,15 +53,13 @@ def commands() -> list[list[str]]:
     cases = [line.split() for line in listed]
     programs = [[name] for name in SOURCES if name.startswith("program_") and name[len("program_"):] not in NEVER_THE_SAME]
     races = [[name] for name in SOURCES if name.startswith(("race_", "right_"))]
-    examples = [["truss", "-f", "@traced"], ["truss_interrupted", "@truss"], ["debugger", "-x", "@script", "@debugged", "factorial"]]
+    examples = [["truss", "-f", "@traced"], ["truss_interrupted", "@truss"]]  # the debugger reads files of the host
     return (cases + programs if WHOLE else cases[::8] + programs[::4]) + races + examples
 
 
 @pytest.fixture(scope="module")
 def room(tmp_path_factory: pytest.TempPathFactory) -> pathlib.Path:
-    folder = tmp_path_factory.mktemp("brokers")
-    (folder / "script").write_text("break factorial\ncontinue 4\nbacktrace\n")
-    return folder
+    return tmp_path_factory.mktemp("brokers")
 
 
 @pytest.fixture(scope="module", autouse=True)
@@ -87,7 +85,7 @@ def built(room: pathlib.Path, name: str) -> pathlib.Path:
 def words_of(room: pathlib.Path, words: list[str]) -> list[object]:
     """The command, with its programs built."""
     program: list[object] = [built(room, words[0])]
-    return program + [built(room, word[1:]) if word[1:] in SOURCES else room / word[1:] if word[0] == "@" else word for word in words[1:]]
+    return program + [built(room, word[1:]) if word[0] == "@" else word for word in words[1:]]
 
 
 def both(options: list[object], words: list[object]) -> tuple[int, bytes, bytes]:
