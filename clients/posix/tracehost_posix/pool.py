@@ -28,14 +28,19 @@ class WorkerEnded(Exception):
     """Workers end before they have answered."""
 
 
-def processors() -> tuple[list[int], bool]:
-    """The processors that this process may use, the idlest first, and whether that one has nothing to do: proc_stat(5)."""
-    before = _idle_ticks()
-    time.sleep(_SAMPLE)
-    after = _idle_ticks()
-    idle = {cpu: after.get(cpu, 0) - before.get(cpu, 0) for cpu in os.sched_getaffinity(0)}
-    found = sorted(idle, key=lambda cpu: (-idle[cpu], cpu))
-    return found, idle[found[0]] >= _SAMPLE * os.sysconf("SC_CLK_TCK") / 2
+class Processors:
+    """Those that this process may use, looked at from now on: proc_stat(5)."""
+
+    def __init__(self) -> None:
+        self._began, self._before = time.monotonic(), _idle_ticks()
+
+    def found(self) -> tuple[list[int], bool]:
+        """The idlest first, and whether that one has nothing to do."""
+        time.sleep(max(0.0, self._began + _SAMPLE - time.monotonic()))
+        after, ticks = _idle_ticks(), os.sysconf("SC_CLK_TCK")
+        idle = {cpu: after.get(cpu, 0) - self._before.get(cpu, 0) for cpu in os.sched_getaffinity(0)}
+        found = sorted(idle, key=lambda cpu: (-idle[cpu], cpu))
+        return found, idle[found[0]] >= (time.monotonic() - self._began) * ticks / 2
 
 
 def _idle_ticks() -> dict[int, int]:
@@ -59,12 +64,12 @@ class Seat:
     """The processor on which a process and those that it starts run: of a run one thread goes on at a time, and another
     processor would have to wake up for each. It is left if the process has to wait there for most of a second."""
 
-    def __init__(self, processor: int, pid: int = 0) -> None:
+    def __init__(self, processor: int, pid: int = 0, pids: Iterable[int] = ()) -> None:
         self._pid = pid
         self._allowed = os.sched_getaffinity(0)
         self._left = False
         self._since, self._delay = time.monotonic(), _delay(pid)
-        _stay([pid], {processor})
+        _stay([pid, *pids], {processor})
 
     def look(self, pids: Iterable[int]) -> None:
         """Leaves it, together with these processes, if others have it."""
@@ -210,11 +215,16 @@ class Pool:
 
     def __init__(self, setting: Setting, jobs: int, digest: bool = False) -> None:
         self._setting, self._digest, self._jobs = setting, digest, jobs
-        self._processors, idle = processors()
+        looks = Processors()
         self._runner: Runner | None = None
-        if jobs == 1:
-            stays = idle or setting.broker is not None
-            self._runner, self._seat = seated(setting, self._processors[0] if stays else None)
+        self._seat: Seat | None = None
+        if jobs == 1 and setting.broker is not None:  # it starts meanwhile
+            self._runner = compiled = Compiled(setting)
+        self._processors, idle = looks.found()
+        if jobs == 1 and setting.broker is not None:
+            self._seat = Seat(self._processors[0], compiled.pids()[0], compiled.pids())
+        elif jobs == 1:
+            self._runner, self._seat = seated(setting, self._processors[0] if idle else None)
         self._workers: list[Worker] = []
         self._tasks: dict[int, Task] = {}
         self._deaths: dict[int, int] = {}
