@@ -17,14 +17,13 @@ from typing import Any, NoReturn
 
 from . import compiled, record, report, search
 from .compiled import Unable, started
-from .model import ModelFailed
 from .outcome import Outcome, Result
 from .pool import Pool, WorkerEnded
 from .program import NotRunnable, check
 from .report import say, say_once
 from .runner import Runner, Setting, Task, verify
 from .schedules import Switch, text_of
-from .table import Broken, Options
+from .table import Broken, ModelFailed, Options
 
 FAILED, USAGE, BROKEN, ANOTHER_WAY = 1, 2, 3, 4
 LAST = 100

@@ -16,7 +16,7 @@ from collections.abc import Callable, Iterable, Iterator, Sequence
 from .outcome import Answer, Outcome, Result, fault
 from .program import REFUSED, NotRunnable
 from .report import say_once
-from .runner import InPython, Runner, Setting, Task, judged
+from .runner import Runner, Setting, Task, judged
 from .schedules import text_of
 from .table import Broken
 
@@ -49,7 +49,11 @@ def find() -> str | None:
 
 def started(setting: Setting, quiet: bool = True, tells: bool = True) -> Runner:
     """A runner, by the broker that is wanted."""
-    return InPython(setting, quiet, tells) if setting.broker is None else Compiled(setting, quiet, tells)
+    if setting.broker is not None:
+        return Compiled(setting, quiet, tells)
+    from .in_python import InPython  # it, and all that it needs, takes a while to load
+
+    return InPython(setting, quiet, tells)
 
 
 class Compiled(Runner):

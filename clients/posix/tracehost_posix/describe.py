@@ -5,8 +5,6 @@ from __future__ import annotations
 import os
 from typing import NamedTuple
 
-from tracehost import Signal
-
 from .table import Lwp
 
 class Place(NamedTuple):
@@ -33,7 +31,11 @@ def place_of(lwp: Lwp, then: str, step: int = 0) -> Place:
     return Place(name_of(lwp), lwp.asked, lwp.where - lwp.process.base if lwp.where else 0, program, then, step)
 
 
-SIGNALS: dict[int, str] = {int(signal): signal.name for signal in Signal}
+def signal_name(number: int) -> str:
+    """FreeBSD's name of a signal."""
+    from tracehost import Signal  # the package takes a while to load, and is rarely needed
+
+    return next((signal.name for signal in Signal if signal == number), str(number))
 
 
 _NAMES = {

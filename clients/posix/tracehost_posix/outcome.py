@@ -7,7 +7,7 @@ from typing import NamedTuple
 from urllib.parse import unquote
 
 from .blame import ended_by, loops, unheard_of
-from .describe import SIGNALS, Place, Waiting, waiting
+from .describe import Place, Waiting, signal_name, waiting
 from .schedules import Switch
 from .table import Options
 
@@ -96,7 +96,7 @@ KILLED = "the first process was killed"
 
 def status_of_first(status: int) -> str:
     if status & 127:
-        return f"the first process was ended by {SIGNALS.get(status & 127, status & 127)}"
+        return f"the first process was ended by {signal_name(status & 127)}"
     return f"the first process exited with status {status >> 8}"
 
 

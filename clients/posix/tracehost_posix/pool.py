@@ -4,18 +4,21 @@ from __future__ import annotations
 
 import ctypes
 import os
+import select
 import signal
 import time
 from abc import ABC, abstractmethod
 from collections import deque
 from collections.abc import Iterable, Iterator
-from multiprocessing.connection import Connection, Pipe, wait
-from typing import Union
+from typing import TYPE_CHECKING, Union
 
-from .compiled import Compiled
+from .compiled import Compiled, started
 from .outcome import Result
 from .program import NotRunnable
-from .runner import InPython, Runner, Setting, Task
+from .runner import Runner, Setting, Task
+
+if TYPE_CHECKING:
+    from multiprocessing.connection import Connection
 
 _PR_SET_PDEATHSIG = 1
 DEATHS = 3
@@ -98,7 +101,7 @@ def seated(setting: Setting, processor: int | None, tells: bool = True) -> tuple
         compiled = Compiled(setting, tells=tells, on=None if processor is None else {processor})
         return compiled, None if processor is None else Seat(processor, compiled.pids()[0])
     seat = None if processor is None else Seat(processor)
-    return InPython(setting, tells=tells), seat
+    return started(setting, tells=tells), seat
 
 
 class Worker(ABC):
@@ -134,6 +137,8 @@ class Forked(Worker):
     ahead = 4
 
     def __init__(self, setting: Setting, digest: bool, others: Iterable[Worker], processor: int, tells: bool) -> None:
+        from multiprocessing.connection import Pipe
+
         super().__init__()
         self._pipe, given = Pipe()
         self.pid = os.fork()
@@ -284,8 +289,7 @@ class Pool:
 
     def _receive(self, done: dict[int, Result]) -> None:
         busy = {worker.fileno(): worker for worker in self._workers if worker.given}
-        for ready in wait(list(busy)):
-            assert isinstance(ready, int)
+        for ready in select.select(list(busy), [], [])[0]:
             worker = busy[ready]
             try:
                 answers = worker.receive()

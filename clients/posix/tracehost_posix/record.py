@@ -6,7 +6,7 @@ import hashlib
 import json
 from typing import Any
 
-from .model import FIRST_USER
+from .limits import FIRST_USER
 from .outcome import Kept, Outcome
 
 

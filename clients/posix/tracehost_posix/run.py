@@ -16,11 +16,11 @@ from typing import NoReturn
 from . import blame, event_calls, outcome, process_calls, questions, waiting_calls
 from .blame import Blame, ended_by, loops, origin, unheard_of
 from .describe import Place, name_of, place_of, waiting_of
-from .model import ModelFailed, Step, View
+from .model import Step, View
 from .program import ENDING, LOOK, Program, pair
 from .questions import CALLS, Question
 from .schedules import Choosing, Made, Schedule, Switch, plain_choice
-from .table import IO, SYNC, Broken, Ended, Failed, Handle, Happening, Lwp, Options, Process, Table
+from .table import IO, SYNC, Broken, Ended, Failed, Handle, Happening, Lwp, ModelFailed, Options, Process, Table
 from .turns import KILL, Turns
 from .watch import Watch
 
