@@ -18,7 +18,7 @@ void say(const char *format, ...)
 void say_error(int number) { say("error %d", number); }
 
 /* FreeBSD's number of an error by the host's, which has the same name. */
-int host_errno(uint32_t freebsd)
+static int host_errno(uint32_t freebsd)
 {
 	switch (freebsd) {
 	case 11: return EDEADLK;

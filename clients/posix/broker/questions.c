@@ -67,7 +67,8 @@ static const struct call calls[] = {
 /* The table: of each call its name, its code, its steps, for what it waits, and what it changes. */
 void print_calls(void)
 {
-	static const struct { int topic; const char *name; } topics[] = {{NEWS, "news"}, {RUNS, "runs"}, {ENDS, "ends"}, {IO, "io"}, {SYNC, "sync"}};
+	static const struct { int topic; const char *name; } topics[] = {{NEWS, "news"}, {RUNS, "runs"}, {ENDS, "ends"}, {IO, "io"},
+		{SYNC, "sync"}};
 	for (size_t i = 0; i < N_CALLS; i++) {
 		const char *waits = "", *wakes = "";
 		for (size_t k = 0; k < sizeof topics / sizeof topics[0]; k++) {

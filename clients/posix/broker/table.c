@@ -62,14 +62,12 @@ void change(int64_t number)
 	*topic(number) = table.clock;
 }
 
-uint64_t changed(int64_t number) { return *topic(number); }
-
 bool can_go(const struct lwp *l)
 {
 	if (!l->waits)
 		return true;
 	for (int i = 0; i < l->n_topics; i++)
-		if ((int64_t)changed(l->topics[i]) > l->seen)
+		if ((int64_t)*topic(l->topics[i]) > l->seen)
 			return true;
 	return l->until != NEVER && l->until <= table.now;
 }

@@ -134,7 +134,6 @@ extern struct table table;
 
 void table_begin(void);
 void change(int64_t topic);
-uint64_t changed(int64_t topic);
 bool can_go(const struct lwp *l);
 void end_first_sleep(void);
 int64_t later(int64_t time, int64_t by);

@@ -26,7 +26,8 @@ static struct { const struct lwp *of; int count; struct step at[EXPECTED]; } pla
 
 static bool is_same(const struct step *a, const struct step *b)
 {
-	return a->op == b->op && a->act == b->act && a->call == b->call && a->actor == b->actor && a->a == b->a && a->b == b->b && a->which == b->which;
+	return a->op == b->op && a->act == b->act && a->call == b->call && a->actor == b->actor && a->a == b->a && a->b == b->b &&
+		a->which == b->which;
 }
 
 static void drop_first(struct step *at, int *count, int dropped)
@@ -98,6 +99,20 @@ bool is_discarded(const struct process *p, int signal)
 	return has(p->ignored, signal) || (has(DISCARDED, signal) && !has(p->catches, signal));
 }
 
+/* What is known of a signal that is met; if nobody has sent it, the kernel has. */
+static struct info info_of(struct lwp *l, int signal, struct info otherwise)
+{
+	struct info known = otherwise;
+	if (has(l->has_sent, signal)) {
+		known = l->sent[signal];
+		l->has_sent &= ~BIT(signal);
+	} else if (has(l->process->has_sent, signal)) {
+		known = l->process->sent[signal];
+		l->process->has_sent &= ~BIT(signal);
+	}
+	return known.signal == signal ? known : (struct info){.signal = signal, .code = BSD_SI_KERNEL};
+}
+
 /* The tracer takes the stop and lets the process go on, before anybody else may look. */
 static void pass_over(struct lwp *l, int signal)
 {
@@ -144,20 +159,6 @@ static void met_signal(struct process *p, int signal)
 		rung->overruns = (table.now - rung->at) / rung->every;
 		change(rung->topic);
 	}
-}
-
-/* What is known of a signal that is met; if nobody has sent it, the kernel has. */
-struct info info_of(struct lwp *l, int signal, struct info otherwise)
-{
-	struct info known = otherwise;
-	if (has(l->has_sent, signal)) {
-		known = l->sent[signal];
-		l->has_sent &= ~BIT(signal);
-	} else if (has(l->process->has_sent, signal)) {
-		known = l->process->sent[signal];
-		l->process->has_sent &= ~BIT(signal);
-	}
-	return known.signal == signal ? known : (struct info){.signal = signal, .code = BSD_SI_KERNEL};
 }
 
 void send_info(struct process *p, struct info info)

@@ -75,7 +75,6 @@ void nudge(struct process *p, int signal);
 void count_signal(struct process *p, int64_t signal);
 void end_news(struct process *p, int status);
 void child_news(struct process *p, int code, int status);
-struct info info_of(struct lwp *l, int signal, struct info otherwise);
 void send_info(struct process *p, struct info info);
 void send_info_to_lwp(struct lwp *l, struct info info);
 
@@ -86,5 +85,4 @@ void say(const char *format, ...) __attribute__((format(printf, 1, 2)));
 void say_error(int host_errno);
 void say_reply(const reply *r); /* ok, or an errno */
 void say_requested(const reply *r, const struct info *info, const struct numbers *numbers);
-int host_errno(uint32_t freebsd);
 #endif

@@ -7,7 +7,6 @@ that the schedule makes, and of nothing else.
 from __future__ import annotations
 
 import contextlib
-import os
 import socket
 import time
 from collections.abc import Callable
