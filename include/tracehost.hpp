@@ -15,6 +15,7 @@
 #include "tracehost.h"
 
 #include <system_error>
+#include <type_traits>
 #include <utility>
 
 class tracehost_session {
@@ -44,7 +45,7 @@ public:
     template <typename Call, typename... Arguments> tracehost_reply call(Call made, Arguments... arguments)
     {
         tracehost_reply reply;
-        check(made(&handle, arguments..., &reply));
+        check(made(&handle, argument<Arguments>{arguments}..., &reply));
         return reply;
     }
 
@@ -73,7 +74,7 @@ public:
 
     // what a function of handle_with returns: TRACEHOST_CONTINUE .. is one without a signal
     struct verdict {
-        verdict(uint32_t decision, uint32_t pass = 0) : decision(decision), pass(pass) {}
+        verdict(uint32_t made, uint32_t signal = 0) : decision(made), pass(signal) {}
         uint32_t decision, pass;
     };
     static verdict passing(uint32_t decision, uint32_t signal) { return verdict(decision, signal); }
@@ -90,6 +91,13 @@ public:
     }
 
 private:
+    // a number of any type is converted to the call's, so that 0 and -1 may be given without a warning
+    template <typename Given> struct argument {
+        static_assert(!std::is_floating_point<Given>::value, "the calls have no argument with a fraction");
+        Given given;
+        template <typename Wanted> operator Wanted() const { return static_cast<Wanted>(given); }
+    };
+
     struct unopened {};
     explicit tracehost_session(unopened) noexcept {}
 

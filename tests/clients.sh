@@ -136,6 +136,10 @@ in_cpp() {
     check "c++ -std=c++$standard session.cpp" c++ "-std=c++$standard" "${flags[@]:1}" -I include \
       -o "$room/cpp$standard" clients/cpp/tests/session.cpp "$archive"
     check "the tests of tracehost.hpp in C++$standard" "$room/cpp$standard"
+    if need clang++; then # warns of signs too
+      check "clang++ -std=c++$standard session.cpp" clang++ "-std=c++$standard" "${strict[@]}" -I include \
+        -fsyntax-only clients/cpp/tests/session.cpp
+    fi
   done
 }
 if [ -e include/tracehost.h ] && [ -e "$archive" ]; then

@@ -115,8 +115,7 @@ fi
 
 # ---- the instructions of a view
 need valgrind && TRACEHOST_LIB_DIR=$library run_pytest tests/python/test_views.py
-need mypy && check "the types of the counts" env MYPYPATH=bench:clients/python mypy --strict --cache-dir "$room/mypy" \
-  bench/in_process.py tests/python/test_views.py tests/python/test_library_abi.py
+need mypy && check "the types of the counts" env MYPYPATH=clients/python mypy --strict --cache-dir "$room/mypy" bench/in_process.py
 
 # ---- the shared object
 shared() {

@@ -2,7 +2,7 @@
 # `make install` and the Debian package, each in a fresh folder: the program, the manual pages, the completions, the
 # viewer, the client in C, the library, and C programs on the model are found and run there. `make uninstall` removes all.
 # Nothing is installed elsewhere. tests/python/test_install.py does it as a stranger: with spaces in names, umask 077, a
-# clone that can't be written, CMake and Meson.
+# clone that can't be written, CMake and Meson. test_pages.py runs the commands that README.md and docs/ show in a clone.
 #
 #   bash tests/install.sh
 program=none
@@ -116,7 +116,7 @@ make_installs() {
 dpkg_install() {
   if [ "$(id -u)" -eq 0 ]; then
     mkdir -p "$room/root/var/lib/dpkg" && touch "$room/root/var/lib/dpkg/status"
-    dpkg --root="$room/root" --log="$room/log" --force-depends --install "$1"
+    dpkg --root="$room/root" --log="$room/log" --force-depends --force-script-chrootless --install "$1"
   else
     dpkg-deb --extract "$1" "$room/root"
   fi
@@ -135,8 +135,14 @@ dpkg_installs() {
     check "the C library that it depends on" test \
       "$(dpkg-deb --field "${package[0]}" Depends)" = "libc6 (>= $(newest_glibc "$room/root/usr/bin/tracehost"))"
   fi
+  if [ "$(id -u)" -eq 0 ]; then
+    mkdir "$room/root/usr/lib/$(uname -m)-linux-gnu/tracehost-posix/tracehost_posix/__pycache__" # as root's tracehost-run does
+    check "dpkg --remove" dpkg --root="$room/root" --log="$room/log" --force-script-chrootless --remove tracehost
+    find "$room/root" -name '*tracehost*' >"$room/left"
+    same /dev/null "$room/left" "what dpkg --remove leaves"
+  fi
 }
 
 make_installs
 dpkg_installs
-run_pytest tests/python/test_install.py tests/python/test_sbom.py
+run_pytest tests/python/test_install.py tests/python/test_pages.py tests/python/test_sbom.py

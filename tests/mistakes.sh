@@ -24,7 +24,5 @@ if folder=$(find_library); then
   export TRACEHOST_LIBRARY=$folder/libtracehost.so
   ! need cc || ! grep -q tracehost_strerror "$folder/libtracehost.a" || library=$folder/libtracehost.a
 fi
-need mypy && check "the types of the clients' mistakes" env MYPYPATH=clients/python:tests/python mypy --strict \
-  --cache-dir "$room/mypy" tests/python/test_client_mistakes.py
 count "with the clients" python3 tests/python/test_client_mistakes.py "$program" tests/client_mistakes.tsv tests/mistakes.tsv \
   "$room" ${library:+"$library"}

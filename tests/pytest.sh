@@ -21,8 +21,12 @@ fi
 # -rN leaves out the closing summary, which repeats more if CI is set
 run_pytest() { "$python" -m pytest -q -rN -p tracehost.pytest_plugin -p no:cacheprovider "$@"; }
 
-need mypy && MYPYPATH=clients/python check "mypy" mypy --strict --python-executable "$python" --cache-dir "$room/mypy" \
-  clients/python/*/*.py clients/c/tests/*.py
+if need mypy; then
+  types=(mypy --strict --python-executable "$python" --cache-dir "$room/mypy")
+  MYPYPATH=clients/python check "the types of the clients" "${types[@]}" clients/python/*/*.py clients/c/tests/*.py
+  MYPYPATH=clients/python:clients/python/tests:viewer:bench:. check "the types of all tests in Python" \
+    "${types[@]}" tests/python/*.py
+fi
 
 # the plugin's own tests, by $1, in the folder $at
 own_tests() {

@@ -9,6 +9,5 @@ need python3 || exit
 count "--json=trace" python3 tests/python/test_trace.py "$program"
 count "viewer/perfetto" python3 tests/python/test_perfetto.py "$program"
 if need mypy; then
-  MYPYPATH=tests/python:viewer check "mypy" mypy --strict --cache-dir "$room/mypy" --scripts-are-modules \
-    viewer/perfetto viewer/*.py tests/python/test_trace.py tests/python/test_perfetto.py
+  MYPYPATH=viewer check "mypy" mypy --strict --cache-dir "$room/mypy" --scripts-are-modules viewer/perfetto viewer/*.py
 fi

@@ -6,12 +6,15 @@ The texts are the scenarios, every kind of step in them with one key taken away,
 texts that are cut short or have one wrong byte.
 """
 
+from __future__ import annotations
+
 import concurrent.futures
 import json
 import random
 import re
 import subprocess
 import sys
+from typing import Any
 
 from changed_steps import changes, shape
 from counting import Counts
@@ -21,12 +24,12 @@ counts = Counts()
 random.seed(1)
 
 
-def ran(text, *options):
+def ran(text: str, *options: str) -> tuple[int, str, str]:
     it = subprocess.run([program, *options], input=text.encode(), capture_output=True)
     return it.returncode, it.stdout.decode(), it.stderr.decode()
 
 
-def trouble(text):
+def trouble(text: str) -> str:
     """What is wrong with what the program says of the scenario with --explain, or nothing."""
     status, out, err = ran(text)
     got = ran(text, '--explain')
@@ -51,12 +54,15 @@ def trouble(text):
         'BadName': r'" is no ', 'BadNumber': r' is out of range; ', 'TooManyRules': r' rules; ',
         'BadJson': r'  line \d+, column \d+: ',
     }
-    fault = re.search(r'refused: (\w+)', err)[1]
+    found = re.search(r'refused: (\w+)', err)
+    assert found is not None
+    fault = found[1]
     return '' if re.search(kinds[fault], told) else f'{fault}, and it tells {told}'
 
 
 # every kind of step behind one that is well, changed once; and whole scenarios with a bad step behind them
-shapes, texts = {}, []
+shapes: dict[str, Any] = {}
+texts = []
 for file in files:
     try:
         with open(file, encoding='utf-8') as it:

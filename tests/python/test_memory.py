@@ -18,7 +18,7 @@ from counting import Counts
 
 TIMES = 4
 # The modes of a run: with `--expect` goes the file of its lines.
-MODES = {'plain': [], '--threads': ['--threads'], '--json': ['--json'], '--expect': ['--expect']}
+MODES: dict[str, list[str]] = {'plain': [], '--threads': ['--threads'], '--json': ['--json'], '--expect': ['--expect']}
 LOADS = {
     'fork, exit and wait': scenarios.of_one(scenarios.forks_and_exits),
     'attach, wait and detach': scenarios.of_one(scenarios.attach_cycles),
@@ -75,8 +75,8 @@ for name, make in LOADS.items():
     size = os.path.getsize(scenario)
     for mode, words in MODES.items():
         expected = [*words, lines] if mode == '--expect' else words
-        with open(f'{room}/printed', 'wb') as out:
-            peak, status = peak_and_status(expected, out)
+        with open(f'{room}/printed', 'wb') as printing:
+            peak, status = peak_and_status(expected, printing)
         printed = os.path.getsize(f'{room}/printed')
         if mode == 'plain':
             os.replace(f'{room}/printed', lines)

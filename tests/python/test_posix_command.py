@@ -34,7 +34,9 @@ int main(int argc, char **argv)
 	if (strcmp(how, "instruction") != 0) {
 		long (*call)(long, long) = (long (*)(long, long))dlsym(RTLD_DEFAULT, name);
 		call(strcmp(name, "system") == 0 ? (long)"true" : getppid(), 0);
-	} else if (strcmp(name, "kill") == 0)
+	} else if (strcmp(name, "int80") == 0)
+		__asm__ volatile("int $0x80" : : "a"(20) : "memory"); /* getpid, of 32 bits */
+	else if (strcmp(name, "kill") == 0)
 		host(62, getppid(), 0);
 	else if (strcmp(name, "fork") == 0)
 		host(57, 0, 0);
@@ -168,6 +170,11 @@ def test_a_call_that_is_not_there_ends_the_run(folder: pathlib.Path, call: str) 
     assert f"in {call} at {folder}/refused.c:" in done.stderr
 
 
+def test_a_call_of_32_bits_is_held(folder: pathlib.Path) -> None:
+    done = run(RUN, folder / "past", "instruction", "int80")
+    assert done.returncode == 1 and "calls int80 past the runtime" in done.stderr
+
+
 def test_the_clock_of_the_host_is_held(folder: pathlib.Path) -> None:
     done = run(RUN, folder / "past", "instruction", "clock_settime")
     assert done.returncode == 1 and "calls clock_settime past the runtime" in done.stderr
@@ -193,6 +200,25 @@ def test_an_object_and_a_library_of_another_compiler_are_told(tmp_path: pathlib.
     assert done.returncode == 0 and "libown.so calls fork of the host" in done.stderr
     done = run(RUN, tmp_path / "with_library", "x")
     assert done.returncode == 1 and "past the runtime, in " in done.stderr and "libown.so" in done.stderr
+
+
+def test_make_may_name_the_compiler(tmp_path: pathlib.Path) -> None:
+    """`make CC=tracehost-cc` and `configure CC=tracehost-cc` leave that name in the environment."""
+    (tmp_path / "main.c").write_text("#include <unistd.h>\nint main(void) { return getpid() != 1000; }\n")
+    done = run("make", "-C", tmp_path, f"CC={POSIX / 'tracehost-cc'} --freebsd", "main")
+    assert done.returncode == 0, done.stderr
+    assert run(RUN, tmp_path / "main").returncode == 0
+
+
+def test_assembly_is_compiled(tmp_path: pathlib.Path) -> None:
+    (tmp_path / "seven.S").write_text(
+        "#ifndef __linux__\n.section .note.GNU-stack\n.text\n.globl seven\nseven: mov $7, %eax\nret\n#endif\n"
+    )
+    (tmp_path / "main.c").write_text("int seven(void); int main(void) { return seven() != 7 || getpid() != 1000; }\n")
+    words = [POSIX / "tracehost-cc", "--freebsd", "-o", tmp_path / "main", tmp_path / "main.c", tmp_path / "seven.S"]
+    done = run(*words)
+    assert (done.returncode, done.stderr) == (0, "")
+    assert run(RUN, tmp_path / "main").returncode == 0
 
 
 def test_a_search_that_tries_nothing_fails(tmp_path: pathlib.Path) -> None:
@@ -270,6 +296,18 @@ def test_a_deadlock_and_a_switch_have_places(folder: pathlib.Path, tmp_path: pat
     assert title is not None and re.fullmatch(r"race its words: deadlock: .* \(switches before step \d+\)", title[1]), title
 
 
+def test_what_was_never_preempted_is_listed(tmp_path: pathlib.Path) -> None:
+    race = POSIX / "races" / "lost_wakeup.c"
+    assert run(POSIX / "tracehost-cc", "-g", "-DRIGHT", "-o", tmp_path / "right", race).returncode == 0
+    at_suspend = f"  sigsuspend at {race}:{line_of('sigsuspend(&', race.read_text())}"
+    done = subprocess.run([RUN, "--coverage", "--preemptions", "0", "right"], capture_output=True, text=True, cwd=tmp_path)
+    assert re.search(r"of (\d+) calls at which another could go on \1 were never preempted", done.stderr), done.stderr
+    assert at_suspend in done.stderr.splitlines()
+    done = subprocess.run([RUN, "--coverage", "--preemptions", "1", "right"], capture_output=True, text=True, cwd=tmp_path)
+    assert "were never preempted" in done.stderr and at_suspend not in done.stderr.splitlines(), done.stderr
+    assert "preempted" not in run(RUN, tmp_path / "right").stderr
+
+
 # ---- whose fault it is
 
 
@@ -286,10 +324,8 @@ def test_output_has_a_bound(folder: pathlib.Path) -> None:
 
 
 def test_a_stopped_server_goes_on(folder: pathlib.Path) -> None:
-    began = time.monotonic()
     done = run(RUN, "--patience", 5, "--schedules", 3, folder / "odd", "stops")
     assert done.returncode == 0, done.stderr
-    assert time.monotonic() - began < 60
 
 
 def test_descriptors_that_are_used_up(folder: pathlib.Path) -> None:

@@ -1,9 +1,11 @@
-"""A test suite that nobody here wrote: Debian's `posixtestsuite`, the Open POSIX Test Suite, on the model.
+"""Programs that nobody here wrote, on the model: Debian's `posixtestsuite`, the Open POSIX Test Suite, and `libunwind`.
 
-Its source package is downloaded into a folder of its own, and nothing of it stays; `POSIXTESTSUITE` may name an unpacked
-one. Each program of the interfaces below runs plain and under 20 seeds. All have to pass, except those of
-clients/posix/tests/OUTSIDE.txt, which have the result and the reason that it names. It takes a quarter of an hour: it runs if
-`TRACEHOST_OUTSIDE_SUITE` is 1. Where source packages can't be had the tests are skipped. Programs that would set the clock are left out, and nothing here runs as root.
+Their source packages are downloaded into a folder of its own, and nothing of them stays; `POSIXTESTSUITE` and `LIBUNWIND`
+may name unpacked ones. Each program of the suite's interfaces below runs plain and under 20 seeds. All have to pass, except
+those of clients/posix/tests/OUTSIDE.txt, which have the result and the reason that it names. libunwind is configured
+for FreeBSD and built, and its test-ptrace prints a backtrace at each instruction of a program. All this takes a quarter
+of an hour: it runs if `TRACEHOST_OUTSIDE_SUITE` is 1. If source packages can't be had the tests are skipped. Programs that
+would set the clock are left out, and nothing here runs as root.
 """
 
 from __future__ import annotations
@@ -78,9 +80,9 @@ class Outside:
             cwd=self.room, env=self._environment, stdin=subprocess.DEVNULL, **self._user,
         )  # fmt: skip
 
-    def source(self) -> pathlib.Path:
-        """The suite's folder, unpacked here."""
-        given = os.environ.get("POSIXTESTSUITE")
+    def source(self, package: str) -> pathlib.Path:
+        """The package's folder, unpacked here."""
+        given = os.environ.get(package.upper())
         if given:
             return pathlib.Path(given)
         for command in ("apt-get", "dpkg-source"):
@@ -90,13 +92,13 @@ class Outside:
             self.run(["mkdir", "-p", folder])
         (self.room / "sources.list").write_text(SOURCES)
         (self.room / "apt.conf").write_text(APT.format(room=self.room))
-        for words in (["apt-get", "-q", "update"], ["apt-get", "-q", "source", "--download-only", "posixtestsuite"]):
+        for words in (["apt-get", "-q", "update"], ["apt-get", "-q", "source", "--download-only", package]):
             done = self.run([*words], 300)
             if done.returncode != 0:
                 pytest.skip(f"{' '.join(words)}: {done.stderr.strip()[-200:]}")
-        done = self.run(["sh", "-c", "dpkg-source -x posixtestsuite_*.dsc suite"])
+        done = self.run(["sh", "-c", f"dpkg-source -x {package}_*.dsc {package}"])
         assert done.returncode == 0, done.stderr
-        return self.room / "suite"
+        return self.room / package
 
 
 def result(done: subprocess.CompletedProcess[str]) -> str:
@@ -130,25 +132,30 @@ def run_one(outside: Outside, suite: pathlib.Path, source: pathlib.Path) -> str:
 
 
 @pytest.fixture(scope="module")
-def results() -> Iterator[dict[str, str]]:
-    """What came of each program, by `INTERFACE/FILE`."""
+def outside() -> Iterator[Outside]:
     root = os.geteuid() == 0  # whose folders for temporary files another user may not enter
     room = pathlib.Path(tempfile.mkdtemp(prefix="tracehost-outside-", dir="/tmp" if root else None))
     try:
-        outside = Outside(room)
-        if outside.run(["test", "-r", POSIX / "tracehost-run"]).returncode != 0:
+        made = Outside(room)
+        if made.run(["test", "-r", POSIX / "tracehost-run"]).returncode != 0:
             pytest.skip("this folder can't be read by an unprivileged user, and the suite isn't run as root")
-        suite = outside.source()
-        # FreeBSD has SIGIO, and not its other name
-        (room / "sigpoll.h").write_text("#define SIGPOLL SIGIO\n")
-        sources = [path for path in sorted(suite.glob("conformance/interfaces/*/*.c")) if INTERFACES.fullmatch(path.parent.name)]
-        sources = [path for path in sources if re.fullmatch(r"\d+-\d+(-buildonly)?", path.stem)]
-        sources = [path for path in sources if not SETS_THE_CLOCK.search(path.read_text(errors="replace"))]
-        with ThreadPoolExecutor(max(1, (os.cpu_count() or 2) // 2)) as pool:
-            found = pool.map(lambda source: run_one(outside, suite, source), sources)
-            yield {f"{source.parent.name}/{source.stem}": word for source, word in zip(sources, found)}
+        yield made
     finally:
         shutil.rmtree(room, ignore_errors=True)
+
+
+@pytest.fixture(scope="module")
+def results(outside: Outside) -> dict[str, str]:
+    """What came of each program, by `INTERFACE/FILE`."""
+    suite = outside.source("posixtestsuite")
+    # FreeBSD has SIGIO, and not its other name
+    (outside.room / "sigpoll.h").write_text("#define SIGPOLL SIGIO\n")
+    sources = [path for path in sorted(suite.glob("conformance/interfaces/*/*.c")) if INTERFACES.fullmatch(path.parent.name)]
+    sources = [path for path in sources if re.fullmatch(r"\d+-\d+(-buildonly)?", path.stem)]
+    sources = [path for path in sources if not SETS_THE_CLOCK.search(path.read_text(errors="replace"))]
+    with ThreadPoolExecutor(max(1, (os.cpu_count() or 2) // 2)) as pool:
+        found = pool.map(lambda source: run_one(outside, suite, source), sources)
+        return {f"{source.parent.name}/{source.stem}": word for source, word in zip(sources, found)}
 
 
 def test_the_table_says_what_each_reason_is() -> None:
@@ -171,3 +178,42 @@ def test_the_table_names_no_other_program(results: dict[str, str]) -> None:
 
 def test_enough_pass(results: dict[str, str]) -> None:
     assert sum(word in ("pass", "seeds") for word in results.values()) >= PASSING
+
+
+STEPPED = """\
+static volatile int signals;
+static void handler(int number) { signals += number == SIGUSR1; }
+int two(int x) { return x + 2; }
+int three(int x) { return two(x) + 3; }
+int main(int argc, char **argv)
+{
+	signal(SIGUSR1, handler);
+	signal(SIGUSR2, handler);
+	kill(getpid(), SIGUSR1); /* test-ptrace steps from here to the other signal */
+	int result = three(argc) - 6;
+	kill(getpid(), SIGUSR2);
+	return result + (signals != 1);
+}
+"""
+
+
+def test_ptrace_of_libunwind_prints_its_backtraces(outside: Outside) -> None:
+    source, room = outside.source("libunwind"), outside.room
+    compiler = str(POSIX / "tracehost-cc")
+    (room / "stepped.c").write_text(STEPPED)
+    done = outside.run([compiler, "-g", "-O1", "-fno-inline", "-o", room / "stepped", room / "stepped.c"])
+    assert done.returncode == 0, done.stderr
+    options = ["--host=x86_64-unknown-freebsd14", "--disable-shared", "--disable-minidebuginfo", "--disable-coredump", "--disable-cxx-exceptions"]
+    build = f"""mkdir build && cd build && {source}/configure {" ".join(options)} --disable-documentation CC='{compiler} --freebsd' \
+        CFLAGS='-g -O1 -w' && make -C src && make -C tests test-ptrace"""
+    done = outside.run(["sh", "-c", build], 3000)
+    assert done.returncode == 0, done.stdout[-2000:] + done.stderr[-2000:]
+    run = [sys.executable, POSIX / "tracehost-run", "--limit", 10**7]
+    command = [room / "build" / "tests" / "test-ptrace", "-v", "-c", "-t", room / "stepped"]
+    done = outside.run([*run, *command])
+    assert done.returncode == 0 and done.stdout.endswith("SUCCESS\n"), done.stdout[-2000:] + done.stderr
+    frames = [re.findall(r"^[0-9a-f]{16} (\w+)", trace, re.MULTILINE) for trace in done.stdout.split("================")]
+    assert ["two", "three", "main"] in [names[:3] for names in frames]
+    assert all(names[-1] == "_start" for names in frames if names)
+    done = outside.run([*run, "--schedules", 5, *command], 600)
+    assert done.returncode == 0 and "6 schedules passed" in done.stderr, done.stderr

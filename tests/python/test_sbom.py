@@ -7,6 +7,7 @@ import json
 import pathlib
 import platform
 import re
+import shutil
 import subprocess
 from typing import Any
 
@@ -71,3 +72,30 @@ def test_twice_the_same_and_its_usage() -> None:
     assert printed() == printed()
     assert "tools/sbom >tracehost.spdx.json" in printed("--help")
     assert printed("--nothing", status=2) == ""
+
+
+def test_the_digests_in_the_changelog() -> None:
+    """tools/release writes them under the release's version."""
+    manifest = dict(line.split(" ", 1) for line in (RELEASE / "MANIFEST").read_text().splitlines())
+    changelog = (TOP / "CHANGELOG.md").read_text(encoding="utf-8")
+    (part,) = (part for part in re.split(r"^## ", changelog, flags=re.MULTILINE) if part.startswith(f"[{manifest['version']}]"))
+    for name in ("tracehost", "libtracehost.a", "libtracehost.so"):
+        digest = hashlib.sha256((RELEASE / name).read_bytes()).hexdigest()
+        assert part.count(f"- `{name}`: `{digest}`\n") == 1
+    assert part.count("### Digests") == 1
+
+
+def test_digests_are_written_in_place_of_older_ones(tmp_path: pathlib.Path) -> None:
+    for name in ("tools/release", "CHANGELOG.md", f"release/{RELEASE.name}/MANIFEST"):
+        (tmp_path / name).parent.mkdir(parents=True, exist_ok=True)
+        shutil.copy(TOP / name, tmp_path / name)
+    manifest, changelog = tmp_path / "release" / RELEASE.name / "MANIFEST", tmp_path / "CHANGELOG.md"
+    program = hashlib.sha256((RELEASE / "tracehost").read_bytes()).hexdigest()
+    before = changelog.read_text(encoding="utf-8")
+    manifest.write_text(manifest.read_text().replace(program, "0" * 64))
+    for _ in range(2):
+        subprocess.run([tmp_path / "tools/release", "--changelog"], check=True)
+        assert changelog.read_text(encoding="utf-8") == before.replace(program, "0" * 64)
+    manifest.write_text(manifest.read_text().replace("version ", "version 9"))
+    done = subprocess.run([tmp_path / "tools/release", "--changelog"], stderr=subprocess.PIPE, text=True)
+    assert (done.returncode, done.stderr.startswith("release: CHANGELOG.md has no version 9")) == (1, True)

@@ -3,11 +3,15 @@
     python3 tests/python/test_schema.py PROGRAM SCENARIO..
 """
 
+from __future__ import annotations
+
 import collections
 import concurrent.futures
 import json
+import pathlib
 import subprocess
 import sys
+from typing import Any
 
 import jsonschema
 
@@ -21,11 +25,12 @@ jsonschema.Draft202012Validator.check_schema(schema)
 validator = jsonschema.Draft202012Validator(schema)
 
 
-def in_short(scenario):
+def in_short(scenario: Any) -> Any:
     """The scenario with at most 20 steps of each kind, since the schema's reader takes milliseconds for each."""
     if not isinstance(scenario, dict) or not isinstance(scenario.get('steps'), list):
         return scenario
-    counts, kept = collections.Counter(), []
+    counts: collections.Counter[str] = collections.Counter()
+    kept = []
     for step in scenario['steps']:
         counts[shape(step)] += 1
         if counts[shape(step)] <= 20:
@@ -33,33 +38,32 @@ def in_short(scenario):
     return {**scenario, 'steps': kept}
 
 
-def accepted(text):
+def accepted(text: bytes) -> bool:
     return subprocess.run([program], input=text, capture_output=True).returncode == 0
 
 
-cases, shapes = [], {}
+cases: dict[bytes, str] = {}  # the texts, with what they are named by
+shapes: dict[str, Any] = {}
 for file in files:
-    with open(file, 'rb') as it:
-        data = it.read()
+    data = pathlib.Path(file).read_bytes()
     try:
         scenario = json.loads(data)
     except (ValueError, RecursionError):
         continue  # no JSON: nothing for a schema to say
-    cases.append((file, data))
+    cases[data] = file
     if isinstance(scenario, dict) and isinstance(scenario.get('steps'), list):
         for step in scenario['steps']:
             shapes.setdefault(shape(step), step)
 for step in shapes.values():
     for changed in changes(step):
-        cases.append((json.dumps(changed), json.dumps({'steps': [changed]}).encode()))
+        cases[json.dumps({'steps': [changed]}).encode()] = json.dumps(changed)
 for changed in changes({'steps': [], 'kill_on_debugger_exit': 0}):
-    cases.append((json.dumps(changed), json.dumps(changed).encode()))
-cases = list(dict((data, name) for name, data in cases).items())
+    cases[json.dumps(changed).encode()] = json.dumps(changed)
 
 with concurrent.futures.ThreadPoolExecutor(8) as pool:
-    answers = list(pool.map(lambda case: accepted(case[0]), cases))
+    answers = list(pool.map(accepted, cases))
 counts = Counts()
-for (data, name), answer in zip(cases, answers):
+for (data, name), answer in zip(cases.items(), answers):
     is_same = validator.is_valid(in_short(json.loads(data))) == answer
     counts.check(is_same, f'the program {"accepts" if answer else "refuses"}, and the schema does not: {name[:150]}')
 counts.check(any(answers), 'the program accepts no scenario')

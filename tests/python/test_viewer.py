@@ -3,6 +3,9 @@
 
 What a page shows is read from the document that the browser has made of it, and compared with the program's lines.
 """
+
+from __future__ import annotations
+
 import base64
 import collections
 import hashlib
@@ -14,10 +17,12 @@ import shutil
 import subprocess
 import sys
 import unittest
+from collections.abc import Iterator
+from typing import Any
 
 import viewer_runs as runs
-from viewer_browser import Tab
-from viewer_pages import BROWSER, EXAMPLES, HAS_BROWSER, MAKE, NO_BROWSER, PROGRAM, TOP, Pages, lines_of, run, run_make
+from viewer_browser import Document, Tab
+from viewer_pages import EXAMPLES, HAS_BROWSER, MAKE, NO_BROWSER, PROGRAM, TOP, Pages, browser, lines_of, run, run_make
 
 ALARM = "document.body.dataset.executed = 1"
 # files that nothing can be drawn of: the name, the bytes, what is said of it, and what the program explains
@@ -37,29 +42,31 @@ NO_RUNS = (
 class Make(unittest.TestCase):
     """viewer/make, without a browser."""
 
-    def setUp(self):
+    def setUp(self) -> None:
         self.pages = Pages()
         self.addCleanup(self.pages.folder.cleanup)
 
-    def embedded(self, page):
+    def embedded(self, page: bytes) -> tuple[Any, int]:
         """What a page has in it, as a browser's reader of HTML finds it, and how many scripts."""
-        found = []
+        names: list[object] = []
+        texts: list[str] = []
 
         class Reader(html.parser.HTMLParser):
-            def handle_starttag(self, tag, attributes):
+            def handle_starttag(self, tag: str, attrs: list[tuple[str, str | None]]) -> None:
                 if tag == "script":
-                    found.append([dict(attributes), ""])
+                    names.append(dict(attrs).get("id"))
+                    texts.append("")
 
-            def handle_data(self, data):
-                if found and self.cdata_elem == "script":
-                    found[-1][1] += data
+            def handle_data(self, data: str) -> None:
+                if texts and self.cdata_elem == "script":
+                    texts[-1] += data
 
         Reader().feed(page.decode())
-        data = [json.loads(text) for attributes, text in found if attributes.get("id") == "embedded"]
+        data = [json.loads(text) for name, text in zip(names, texts) if name == "embedded"]
         self.assertEqual(len(data), 1)
-        return data[0], len(found)
+        return data[0], len(texts)
 
-    def test_files_come_back_as_they_were(self):
+    def test_files_come_back_as_they_were(self) -> None:
         hostile = '</script><script>alert(1)</script>\n<!-- <script>\n]]>\u2028\u2029"\\ &lt; \u00e9 \U0001f600\n'
         data, scripts = self.embedded(self.pages.unread("a", hostile).read_bytes())
         self.assertEqual((data["files"], scripts), ([{"name": "a.lines", "text": hostile}], 2))
@@ -73,13 +80,13 @@ class Make(unittest.TestCase):
         self.assertEqual(made.stderr.decode().splitlines(), ['viewer/make: b.json, step 2: no step: "</script>"',
                                                              '  steps[1]: expected an object, got "</script>"'])
 
-    def test_only_the_data_differs_from_the_empty_page(self):
+    def test_only_the_data_differs_from_the_empty_page(self) -> None:
         lines = self.pages.file("a.lines", b'{"refused":"BadJson"}\n')
         made, empty = run_make(lines, check=True).stdout.decode(), run_make(check=True).stdout.decode()
         before, after = empty.split('id="embedded">null<')
         self.assertTrue(made.startswith(before + 'id="embedded">{') and made.endswith("}<" + after))
 
-    def test_output_title_and_standard_input(self):
+    def test_output_title_and_standard_input(self) -> None:
         lines = self.pages.file("a.lines", b'{"refused":"BadJson"}\n')
         page = self.pages.room / "page.html"
         done = run_make("-", "-t", "A <b> title", "-o", page, input=lines.read_bytes())
@@ -88,19 +95,19 @@ class Make(unittest.TestCase):
         self.assertEqual(data["title"], "A <b> title")
         self.assertEqual(data["files"], [{"name": "standard input", "text": '{"refused":"BadJson"}\n'}])
 
-    def test_bytes_that_are_no_text_are_replaced(self):
+    def test_bytes_that_are_no_text_are_replaced(self) -> None:
         line = b'{"user":1001,"step":1,"reply":"ok","a":"\xff\xfe"}\n'
         data, _ = self.embedded(run_make(self.pages.file("a.lines", line), check=True).stdout)
         self.assertEqual(data["files"][0]["text"], '{"user":1001,"step":1,"reply":"ok","a":"\ufffd\ufffd"}\n')
 
-    def test_a_missing_file(self):
+    def test_a_missing_file(self) -> None:
         page = self.pages.room / "page.html"
         done = run_make(self.pages.room / "none.lines", "-o", page)
         self.assertEqual((done.returncode, done.stdout), (1, b""))
         self.assertRegex(done.stderr.decode(), r"\Aviewer/make: .*none.lines: No such file or directory\n\Z")
         self.assertFalse(page.exists())
 
-    def told(self, *words, **how):
+    def told(self, *words: object, **how: Any) -> tuple[list[str], bool]:
         """The lines that are said of files that aren't a run, and whether there is a page."""
         page = self.pages.room / "page.html"
         page.unlink(missing_ok=True)
@@ -110,13 +117,13 @@ class Make(unittest.TestCase):
         self.assertTrue(text.startswith("viewer/make: ") and text.endswith("\n"), text)
         return text.removeprefix("viewer/make: ").removesuffix("\n").split("\n"), page.exists()
 
-    def test_what_is_no_run_is_refused(self):
+    def test_what_is_no_run_is_refused(self) -> None:
         """With a status, a line, and what the program says of it."""
         for name, data, fault, explanation in NO_RUNS:
             with self.subTest(name):
                 self.assertEqual(self.told(self.pages.file(name, data)), ([f"{name}: {fault}", f"  {explanation}"], False))
 
-    def test_without_a_program_what_is_no_run_is_refused_by_its_line_only(self):
+    def test_without_a_program_what_is_no_run_is_refused_by_its_line_only(self) -> None:
         """None is named, on the path, beside the viewer or in a checkout."""
         folder = self.pages.room / "prefix" / "share" / "viewer"
         shutil.copytree(TOP / "viewer", folder)
@@ -125,7 +132,7 @@ class Make(unittest.TestCase):
             with self.subTest(name):
                 self.assertEqual(self.told(self.pages.file(name, data), **alone), ([f"{name}: {fault}"], False))
 
-    def test_a_program_that_explains_nothing(self):
+    def test_a_program_that_explains_nothing(self) -> None:
         """One that refuses the option, says nothing, or is ended by a signal: that on the path is asked instead."""
         name, data, fault, explanation = NO_RUNS[0]
         file, path = self.pages.file(name, data), self.pages.room / "bin"
@@ -138,7 +145,7 @@ class Make(unittest.TestCase):
             with self.subTest(words):
                 self.assertEqual(self.told(file, env=env), ([f"{name}: {fault}", f"  {explanation}"], False))
 
-    def test_a_page_is_made_of_what_can_be_drawn(self):
+    def test_a_page_is_made_of_what_can_be_drawn(self) -> None:
         """And what can't is told in a line: the program isn't asked of lines that it has printed."""
         lines = lines_of(TOP / "examples" / "first.json")
         (text,), is_made = self.told(self.pages.file("half", lines[:-20]))
@@ -150,14 +157,14 @@ class Make(unittest.TestCase):
         self.assertTrue(is_made)
         self.assertRegex(text, r"^sandbox.json isn't the scenario of these lines: its step \d+ of user \d+ can't be answered")
 
-    def test_a_run_without_steps(self):
+    def test_a_run_without_steps(self) -> None:
         """It has no lines, and a page."""
         scenario = self.pages.file("none.json", b'{"steps":[]}')
         done = run_make(self.pages.file("none.lines", b""), scenario)
         self.assertEqual((done.returncode, done.stderr), (0, b""))
         self.assertIn(b"</html>", done.stdout)
 
-    def test_a_page_is_whole_or_as_it_was(self):
+    def test_a_page_is_whole_or_as_it_was(self) -> None:
         """A disk that is full, for standard output and for a file; a file's mode stays, and so does what can't be written."""
         lines = self.pages.file("a.lines", lines_of(TOP / "examples" / "first.json"))
         with open("/dev/full", "wb") as full:
@@ -175,7 +182,7 @@ class Make(unittest.TestCase):
         self.assertEqual(page.stat().st_mode & 0o777, 0o640)
         self.assertIn(b"</html>", page.read_bytes())
 
-    def test_the_policy_has_the_digest_of_the_script(self):
+    def test_the_policy_has_the_digest_of_the_script(self) -> None:
         """Content-Security-Policy: it has the SHA-256 of the text between the script's tags, and no other script may run."""
         text = run_make(check=True).stdout.decode()
         code = text.split("<script>", 1)[1].split("</script>", 1)[0]
@@ -183,7 +190,7 @@ class Make(unittest.TestCase):
         policy = text.split('http-equiv="Content-Security-Policy"', 1)[1].split(">", 1)[0]
         self.assertIn(f"default-src 'none'; script-src 'sha256-{digest}';", policy)
 
-    def test_the_page_needs_nothing_else(self):
+    def test_the_page_needs_nothing_else(self) -> None:
         text = run_make(check=True).stdout.decode()
         self.assertEqual(text.count("http"), text.count("http://www.w3.org/2000/svg") + text.count("http-equiv"))
         for word in ("src=", "href=", "@import", "url(", "fetch(", "XMLHttpRequest", "innerHTML", "eval("):
@@ -194,27 +201,32 @@ class Make(unittest.TestCase):
 class Examples(unittest.TestCase):
     """Each example's page, its marks counted against its lines."""
 
+    pages: Pages
+    lines: dict[str, bytes]
+    documents: dict[str | int, Document]
+
     @classmethod
-    def setUpClass(cls):
+    def setUpClass(cls) -> None:
         cls.pages = Pages()
         cls.addClassCleanup(cls.pages.folder.cleanup)
         cls.lines = {path.stem: lines_of(path) for path in EXAMPLES}
         page, opened = cls.pages.page, cls.pages.open
-        pages = {path.stem: page(path.stem, cls.lines[path.stem], path) for path in EXAMPLES}
+        pages: dict[str, pathlib.Path] = {path.stem: page(path.stem, cls.lines[path.stem], path) for path in EXAMPLES}
         two = TOP / "examples" / "two_users.json"
-        alone = {user: opened(pages["two_users"], f"draw=all&user={user}") for user in (1001, 1002)}
+        alone: dict[str | int, Document] = {user: opened(pages["two_users"], f"draw=all&user={user}") for user in (1001, 1002)}
         pages |= {f"only {user}": page(f"only{user}", lines_of(two, "--user", user), two) for user in alone}
         pages["threads"] = page("threads", lines_of(two, "--threads"), two)
         pages["alone"] = page("alone", cls.lines["follow_a_fork"])
         pages["trace"] = page("trace", lines_of("--json=trace", two))
         pages["trace by user"] = page("trace_by_user", lines_of("--json=trace", "--threads", two))
         pages |= cls.more_pages()
-        cls.documents = alone | {name: opened(path) for name, path in pages.items()}
+        cls.documents = {**alone, **{name: opened(path) for name, path in pages.items()}}
 
     @classmethod
-    def more_pages(cls):
+    def more_pages(cls) -> dict[str, pathlib.Path]:
         """A debugger's end with nothing behind it, under both settings; a run by lines, which tells none; others."""
-        pages, steps = {}, json.loads((TOP / "examples" / "death_of_a_debugger_leaves.json").read_text())["steps"]
+        pages: dict[str, pathlib.Path] = {}
+        steps = json.loads((TOP / "examples" / "death_of_a_debugger_leaves.json").read_text())["steps"]
         for setting in (0, 1):
             scenario = {"kill_on_debugger_exit": setting, "steps": steps[:10]}
             file = cls.pages.file(f"end{setting}.json", json.dumps(scenario).encode())
@@ -233,14 +245,14 @@ class Examples(unittest.TestCase):
             pages[name] = cls.pages.page(name, lines_of(file), file)
         return pages
 
-    def examples(self):
+    def examples(self) -> Iterator[tuple[str, list[runs.Step], list[runs.Step], Document]]:
         for path in EXAMPLES:
             steps = json.loads(path.read_text())["steps"]
             replies = [json.loads(line) for line in self.lines[path.stem].splitlines()]
             self.assertEqual(len(steps), len(replies))
             yield path.stem, steps, replies, self.documents[path.stem]
 
-    def test_each_step_has_its_mark_on_its_lane(self):
+    def test_each_step_has_its_mark_on_its_lane(self) -> None:
         for name, steps, replies, document in self.examples():
             with self.subTest(name):
                 found = [(mark["data-mark"], mark["lane"]) for mark in document.primary()]
@@ -250,7 +262,7 @@ class Examples(unittest.TestCase):
                 self.assertEqual(document.faults, [])
                 self.assertIn("data-milliseconds", document.body)
 
-    def test_marks_are_as_many_as_replies(self):
+    def test_marks_are_as_many_as_replies(self) -> None:
         for name, steps, replies, document in self.examples():
             with self.subTest(name):
                 kinds = collections.Counter(mark["data-mark"] for mark in document.primary())
@@ -263,35 +275,35 @@ class Examples(unittest.TestCase):
                 asked = [step for step, reply in zip(steps, replies) if reply["reply"] == "ok" and step.get("signal")]
                 self.assertEqual(kinds["post"], sum(step["op"] in ("kill", "turn") for step in asked))
 
-    def test_lanes(self):
+    def test_lanes(self) -> None:
         for name, steps, replies, document in self.examples():
             with self.subTest(name):
                 self.assertEqual(sorted(document.lanes), sorted(runs.expected_lanes(steps, replies)))
 
-    def test_who_traces_whom(self):
+    def test_who_traces_whom(self) -> None:
         self.assertEqual(set(runs.TRACES), {path.stem for path in EXAMPLES})
         for name, _, _, document in self.examples():
             with self.subTest(name):
                 self.assertEqual(sorted(document.traces, key=str), sorted(runs.TRACES[name], key=str))
 
-    def test_what_follows_from_steps(self):
+    def test_what_follows_from_steps(self) -> None:
         for name, _, _, document in self.examples():
             with self.subTest(name):
                 self.assertEqual(document.steps("gone"), runs.ENDS.get(name, []))
                 self.assertEqual(document.steps("followed"), runs.FOLLOWED.get(name, []))
                 self.assertEqual(document.steps("seen"), [])
 
-    def test_the_end_of_a_debugger(self):
+    def test_the_end_of_a_debugger(self) -> None:
         self.assertEqual(self.documents["end 0"].steps("gone"), [])
         self.assertEqual(self.documents["end 1"].steps("gone"), [(1001, 10), (1002, 10)])
         for name in ("end 0", "end 1"):
             self.assertEqual(sorted(self.documents[name].traces), [("1000 1001", 4, 10), ("1000 1002", 6, 10)])
 
-    def test_steps_as_lines_and_a_process_that_lives_on(self):
+    def test_steps_as_lines_and_a_process_that_lives_on(self) -> None:
         document = self.documents["steps"]
         self.assertEqual((len(document.primary()), document.faults, document.steps("gone")), (14, [], []))
 
-    def test_stops_calls_and_suspensions_along_the_lanes(self):
+    def test_stops_calls_and_suspensions_along_the_lanes(self) -> None:
         document = self.documents["threads_of_one"]
         self.assertEqual({tip for tip in document.tips if ", from step " in tip}, runs.THREAD_STRETCHES)
         self.assertEqual((document.traces, document.faults), ([("1000 1001", 4, 27)], []))
@@ -300,25 +312,25 @@ class Examples(unittest.TestCase):
         expected = {"birth": 2, "lwp-birth": 1, "stop": 4, "held": 1, "error": 1, "post": 2, "wait": 5}
         self.assertEqual({kind: kinds[kind] for kind in expected}, expected)
 
-    def test_ends_that_nothing_tells(self):
+    def test_ends_that_nothing_tells(self) -> None:
         for name, end in (("by_turn", 5), ("by_list", 4)):
             self.assertEqual(self.documents[name].steps("gone"), [(1001, end)], name)
             self.assertEqual(self.documents[name].lives["lwp", 100001], (2, end), name)
 
-    def test_the_children_of_two_followed_forks(self):
+    def test_the_children_of_two_followed_forks(self) -> None:
         document = self.documents["two_forks"]
         self.assertEqual(document.steps("followed"), [(1003, 14), (1004, 15)])
         self.assertEqual(document.traces, [("1000 1001", 4, None), ("1000 1002", 5, None), ("1000 1003", 14, None),
                                            ("1000 1004", 15, None)])
 
-    def test_a_mark_tells_its_step_and_its_reply(self):
+    def test_a_mark_tells_its_step_and_its_reply(self) -> None:
         stop = self.documents["follow_a_fork"].primary()[7]
         for words in ("user 1001, step 8", "LWP 100001: leave", "5 is SIGTRAP",
                       "stopped 100001 5 flags=PL_FLAG_SCX+PL_FLAG_FORKED"):
             self.assertIn(words, stop["aria-label"])
         self.assertIn("SIGTRAP SCX FORKED", self.documents["follow_a_fork"].texts)
 
-    def test_labels_do_not_overlap(self):
+    def test_labels_do_not_overlap(self) -> None:
         overlapping = """(() => {
             const labels = [...document.querySelectorAll(".label")];
             const boxes = labels.map((label) => ({ text: label.textContent, box: label.getBoundingClientRect() }));
@@ -331,11 +343,11 @@ class Examples(unittest.TestCase):
         for name in ("crash_collector", "sandbox", "two_users"):
             for width in (8, 26, 60, 110):
                 with self.subTest(name, width=width):
-                    tab = Tab(BROWSER, self.pages.room / f"{name}.html", f"draw=all&width={width}")
+                    tab = Tab(browser(), self.pages.room / f"{name}.html", f"draw=all&width={width}")
                     self.assertEqual(tab.value(overlapping), [])
                     tab.close()
 
-    def test_one_user_alone(self):
+    def test_one_user_alone(self) -> None:
         for user in (1001, 1002):
             document = self.documents[user]
             lines = [line for line in map(json.loads, self.lines["two_users"].splitlines()) if line["user"] == user]
@@ -344,7 +356,7 @@ class Examples(unittest.TestCase):
             numbers = range(1000 * (user - 1000), 1000 * (user - 999))
             self.assertEqual({number in numbers for kind, number in document.lanes if kind == "process"}, {True})
 
-    def test_one_users_lines_give_the_same_picture(self):
+    def test_one_users_lines_give_the_same_picture(self) -> None:
         for user in (1001, 1002):
             alone, only = self.documents[user], self.documents[f"only {user}"]
             shown = [[(mark["data-mark"], mark["lane"], mark["data-step"]) for mark in one.primary()]
@@ -352,12 +364,12 @@ class Examples(unittest.TestCase):
             self.assertEqual(*shown)
             self.assertEqual(alone.traces, only.traces)
 
-    def test_lines_of_threads_stand_in_the_scenarios_order(self):
+    def test_lines_of_threads_stand_in_the_scenarios_order(self) -> None:
         shown = [[(mark["data-mark"], mark["data-user"], mark["data-step"]) for mark in self.documents[name].primary()]
                  for name in ("threads", "two_users")]
         self.assertEqual(*shown)
 
-    def test_a_trace_needs_no_scenario(self):
+    def test_a_trace_needs_no_scenario(self) -> None:
         wanted = self.documents["two_users"]
         shown = [[(mark["data-mark"], mark["lane"], mark["data-user"], mark["data-step"]) for mark in one.primary()]
                  for one in (wanted, self.documents["trace"], self.documents["trace by user"])]
@@ -365,7 +377,7 @@ class Examples(unittest.TestCase):
         for name in ("trace", "trace by user"):
             self.assertEqual((self.documents[name].faults, self.documents[name].traces), ([], wanted.traces))
 
-    def test_lines_alone(self):
+    def test_lines_alone(self) -> None:
         document = self.documents["alone"]
         self.assertEqual((document.faults, document.traces), ([], []))
         self.assertEqual(len(document.primary()), 18)
@@ -377,8 +389,14 @@ class Examples(unittest.TestCase):
 class Page(unittest.TestCase):
     """What is hostile, long, or done by hand."""
 
+    pages: Pages
+    example: pathlib.Path
+    lines: bytes
+    bad: list[str]
+    documents: dict[str, Document]
+
     @classmethod
-    def setUpClass(cls):
+    def setUpClass(cls) -> None:
         cls.pages = Pages()
         cls.addClassCleanup(cls.pages.folder.cleanup)
         cls.example = TOP / "examples" / "two_users.json"
@@ -386,7 +404,7 @@ class Page(unittest.TestCase):
         cls.documents = {name: cls.pages.open(page) for name, page in cls.hostile().items()}
 
     @classmethod
-    def hostile(cls):
+    def hostile(cls) -> dict[str, pathlib.Path]:
         good = b'{"user":1001,"step":1,"reply":"new","pid":1000,"lwp":100000}\n'
         bad = [
             f'</script><script>{ALARM}</script>',
@@ -400,9 +418,9 @@ class Page(unittest.TestCase):
             '{"refused":"<script>"}', "[]", "null", "1001 2 ok",
         ]
         cls.bad = bad
-        steps = [{"op": "spawn"}, {"op": "ptrace", "caller": 1000, "request": f"<img onerror='{ALARM}'>"}]
-        scenario = {"steps": [{"user": 1001, **step} for step in steps]}
-        scenario = cls.pages.file("hostile.json", json.dumps(scenario).encode())
+        steps: list[runs.Step] = [{"op": "spawn"}, {"op": "ptrace", "caller": 1000, "request": f"<img onerror='{ALARM}'>"}]
+        text = json.dumps({"steps": [{"user": 1001, **step} for step in steps]})
+        scenario = cls.pages.file("hostile.json", text.encode())
         truncated = cls.lines[:-20]
         page = cls.pages.page
         return {
@@ -416,7 +434,7 @@ class Page(unittest.TestCase):
             "empty": cls.pages.empty(),
         }
 
-    def test_bad_lines_are_shown_and_not_executed(self):
+    def test_bad_lines_are_shown_and_not_executed(self) -> None:
         document = self.documents["bad"]
         self.assertEqual(len(document.faults), len(self.bad))
         for number, (fault, line) in enumerate(zip(document.faults, self.bad), 2):
@@ -426,7 +444,7 @@ class Page(unittest.TestCase):
         self.is_harmless(document)
 
     @classmethod
-    def injected(cls, page):
+    def injected(cls, page: pathlib.Path) -> pathlib.Path:
         """A page with scripts of somebody else in it, as if its data had ended its element."""
         scripts = f"<script>{ALARM}</script><img src=x onerror='{ALARM}'><a id=a href='javascript:{ALARM}'></a></body>"
         text = page.read_text()
@@ -434,42 +452,42 @@ class Page(unittest.TestCase):
         page.write_text(text.replace("</body>", scripts))
         return page
 
-    def test_the_policy_stops_other_scripts(self):
+    def test_the_policy_stops_other_scripts(self) -> None:
         """The page's own script runs: its marks are there."""
         document = self.documents["injected"]
         self.assertNotIn("data-executed", document.body)
         self.assertEqual(len(document.primary()), 16)
 
-    def test_a_bad_scenario_is_told(self):
+    def test_a_bad_scenario_is_told(self) -> None:
         document = self.documents["bad scenario"]
         self.assertIn("<img onerror=", document.faults[0])
         self.assertEqual(len(document.primary()), 2)
         self.is_harmless(document)
 
-    def is_harmless(self, document):
+    def is_harmless(self, document: Document) -> None:
         self.assertNotIn("data-executed", document.body)
         self.assertEqual([tag for tag, _ in document.elements if tag in ("img", "b", "i")], [])
         self.assertEqual(sum(tag == "script" for tag, _ in document.elements), 2)
 
-    def test_a_truncated_file(self):
+    def test_a_truncated_file(self) -> None:
         document = self.documents["truncated"]
         self.assertEqual(len(document.faults), 1)
         self.assertIn("line 16: no JSON: ", document.faults[0])
         self.assertEqual(len(document.primary()), 15)
 
-    def test_another_scenario_is_told_and_left_out(self):
+    def test_another_scenario_is_told_and_left_out(self) -> None:
         document = self.documents["other scenario"]
         self.assertIn("isn't the scenario of these lines", document.faults[0])
         self.assertEqual((len(document.primary()), document.traces), (16, []))
 
-    def test_plain_text_is_told(self):
+    def test_plain_text_is_told(self) -> None:
         self.assertIn("run tracehost with --json", self.documents["plain"].faults[0])
 
-    def test_refused_lines_have_a_lane(self):
+    def test_refused_lines_have_a_lane(self) -> None:
         found = [(mark["data-mark"], mark["lane"][0]) for mark in self.documents["refused"].primary()]
         self.assertEqual(found, [("birth", "process"), ("refused", "input"), ("ok", "user")])
 
-    def test_the_empty_page(self):
+    def test_the_empty_page(self) -> None:
         self.assertEqual((self.documents["empty"].marks, self.documents["empty"].faults), ([], []))
 
 

@@ -1,15 +1,19 @@
 #!/usr/bin/env python3
 """Tests of what is done by hand with a page of the viewer: test_viewer_by_hand.py PROGRAM [CHROMIUM]."""
 
+from __future__ import annotations
+
 import collections
 import json
+import pathlib
 import re
 import unittest
 import xml.etree.ElementTree
+from typing import Any
 
 import viewer_runs as runs
 from viewer_browser import Tab
-from viewer_pages import BROWSER, HAS_BROWSER, NO_BROWSER, TOP, Pages, lines_of, run
+from viewer_pages import HAS_BROWSER, NO_BROWSER, TOP, Pages, browser, lines_of, run
 
 EXAMPLE = TOP / "examples" / "two_users.json"
 LENGTHS = (300, 5000)
@@ -22,8 +26,14 @@ MOST_MILLISECONDS = 10000  # of a page of 5,000 steps on a machine with much oth
 class ByHand(unittest.TestCase):
     """Keys, the pointer, fields, buttons, links."""
 
+    pages: Pages
+    lines: bytes
+    page: pathlib.Path
+    random: dict[int, pathlib.Path]
+    replies: dict[int, list[runs.Step]]
+
     @classmethod
-    def setUpClass(cls):
+    def setUpClass(cls) -> None:
         cls.pages = Pages()
         cls.addClassCleanup(cls.pages.folder.cleanup)
         cls.lines = lines_of(EXAMPLE)
@@ -35,16 +45,16 @@ class ByHand(unittest.TestCase):
             cls.replies[count] = [json.loads(line) for line in lines.splitlines()]
             cls.random[count] = cls.pages.page(f"random{count}", lines, scenario)
 
-    def open(self, page, address="", **size):
-        tab = Tab(BROWSER, page, address, **size)
+    def open(self, page: pathlib.Path, address: str = "", **size: int) -> Tab:
+        tab = Tab(browser(), page, address, **size)
         self.addCleanup(tab.close)
         return tab
 
-    def numbers(self, count, *words):
+    def numbers(self, count: int, *words: str) -> list[int]:
         """The numbers of the steps with these replies."""
         return [number for number, reply in enumerate(self.replies[count], 1) if reply["reply"] in words]
 
-    def test_arrows(self):
+    def test_arrows(self) -> None:
         tab = self.open(self.page)
         seen = []
         while tab.value("document.activeElement.id") != "picture":
@@ -62,7 +72,7 @@ class ByHand(unittest.TestCase):
         tab.press("Escape")
         self.assertTrue(tab.value("card.hidden"))
 
-    def test_the_pointer(self):
+    def test_the_pointer(self) -> None:
         tab = self.open(self.page)
         tab.point("[data-mark=attach]")
         shown = tab.value("card.hidden || card.textContent")
@@ -76,7 +86,7 @@ class ByHand(unittest.TestCase):
         tab.settle()
         self.assertEqual(tab.value(f"[location.hash, {users}]"), ["", "1001,1002"])
 
-    def test_the_card_stays_and_can_be_selected(self):
+    def test_the_card_stays_and_can_be_selected(self) -> None:
         tab = self.open(self.page)
         tab.point("[data-mark=attach]", click=True)
         x, y = tab.middle("#card p.raw")
@@ -90,7 +100,7 @@ class ByHand(unittest.TestCase):
         tab.point("[data-mark=wait]")
         self.assertIn("PT_ATTACH", tab.value("card.textContent"))
 
-    def test_the_mouse_drags(self):
+    def test_the_mouse_drags(self) -> None:
         tab = self.open(self.random[300])
         place = "[scroller.scrollLeft, scroller.scrollTop]"
         self.assertEqual(tab.value(place), [0, 0])
@@ -100,7 +110,7 @@ class ByHand(unittest.TestCase):
         tab.drag(900, 300, 150, 0)
         self.assertEqual(tab.value(place), [250, 90])
 
-    def test_next_stop_and_error_by_key(self):
+    def test_next_stop_and_error_by_key(self) -> None:
         tab = self.open(self.random[300])
         for key, word in (("s", "stopped"), ("e", "error")):
             wanted = [str(number) for number in self.numbers(300, word)]
@@ -117,7 +127,7 @@ class ByHand(unittest.TestCase):
         tab.point("#next-stop", click=True)
         self.assertEqual(tab.value(ACTIVE), str(self.numbers(300, "stopped")[0]))
 
-    def test_go_to_a_step(self):
+    def test_go_to_a_step(self) -> None:
         tab = self.open(self.random[5000])
         tab.press("g")
         tab.write("3210")
@@ -130,7 +140,7 @@ class ByHand(unittest.TestCase):
         tab.press("Enter", 13)
         self.assertEqual(tab.value("said.textContent"), "there is no step 9999")
 
-    def test_a_link_to_a_step(self):
+    def test_a_link_to_a_step(self) -> None:
         tab = self.open(self.random[5000], "step=4040")
         self.assertEqual((tab.value(ACTIVE), tab.value(CHOSEN)), ("4040", "4040"))
         box = tab.value("(box => [box.left, box.right, box.top, box.bottom])(active.getBoundingClientRect())")
@@ -143,7 +153,7 @@ class ByHand(unittest.TestCase):
         wanted = [number for number, reply in enumerate(self.replies[5000], 1) if reply["user"] == user][19]
         self.assertEqual(own.value(ACTIVE), str(wanted))
 
-    def test_search(self):
+    def test_search(self) -> None:
         tab = self.open(self.page)
         tab.press("/")
         tab.write("pt_")
@@ -163,7 +173,7 @@ class ByHand(unittest.TestCase):
         tab.write("nowhere")
         self.assertEqual(tab.value("found.textContent"), "not found")
 
-    def test_the_list(self):
+    def test_the_list(self) -> None:
         tab = self.open(self.page)
         rows = tab.value("[...document.querySelectorAll('.row')].map(row =>"
                          "[row.dataset.line, row.querySelector('.reply').textContent])")
@@ -181,7 +191,7 @@ class ByHand(unittest.TestCase):
         tab.press("l")
         self.assertTrue(tab.value("list.hidden"))
 
-    def test_a_long_list_has_the_rows_of_its_window(self):
+    def test_a_long_list_has_the_rows_of_its_window(self) -> None:
         tab = self.open(self.random[5000])
         tab.value("list.scrollTop = 40000")
         tab.settle()
@@ -190,7 +200,7 @@ class ByHand(unittest.TestCase):
         self.assertIn(2001, lines)
         self.assertEqual(lines, list(range(lines[0], lines[-1] + 1)))
 
-    def test_held_and_errors_can_be_left_out(self):
+    def test_held_and_errors_can_be_left_out(self) -> None:
         for words, replies in (("held", ["held"]), ("held,error", ["held", "error"])):
             tab = self.open(self.random[300], f"draw=all&hide={words}")
             left_out = self.numbers(300, *replies)
@@ -201,7 +211,7 @@ class ByHand(unittest.TestCase):
         self.assertEqual(tab.value("location.hash"), "#draw=all&hide=held")
         self.assertEqual(tab.value("errors.textContent"), f"errors {len(self.numbers(300, 'error'))}")
 
-    def test_fit(self):
+    def test_fit(self) -> None:
         for page, count in ((self.page, 16), (self.random[300], 300), (self.random[5000], 5000)):
             with self.subTest(count):
                 tab = self.open(page, "width=fit")
@@ -214,7 +224,7 @@ class ByHand(unittest.TestCase):
                 tab.press("0")
                 self.assertLessEqual(tab.value("scroller.scrollWidth - scroller.clientWidth"), 0)
 
-    def test_bars_where_marks_would_overlap(self):
+    def test_bars_where_marks_would_overlap(self) -> None:
         tab = self.open(self.random[5000], "width=fit")
         self.assertGreater(tab.value("document.querySelectorAll('.bars').length"), 10)
         labels = tab.value("[...document.querySelectorAll('.density')].map(bars => bars.getAttribute('aria-label'))")
@@ -222,7 +232,7 @@ class ByHand(unittest.TestCase):
         tab.press("s")
         self.assertEqual(tab.value(ACTIVE), str(self.numbers(5000, "stopped")[0]))
 
-    def test_lanes_in_view(self):
+    def test_lanes_in_view(self) -> None:
         tab = self.open(self.random[300])
         tab.value("page.picture.hidesOthers || page.toggleOthers()")
         exact = """(() => {
@@ -244,13 +254,13 @@ class ByHand(unittest.TestCase):
             self.assertEqual(shown, wanted, left)
             self.assertLess(len(shown), most)
 
-    def test_a_phone(self):
+    def test_a_phone(self) -> None:
         tab = self.open(self.random[300], width=390, height=844)
         self.assertLessEqual(tab.value("corner.offsetWidth"), 80)
         self.assertLessEqual(tab.value("document.documentElement.scrollWidth"), 390)
         self.assertGreater(tab.value("scroller.clientHeight"), 300)
 
-    def test_a_file_of_svg_and_printing(self):
+    def test_a_file_of_svg_and_printing(self) -> None:
         tab = self.open(self.page, "theme=dark")
         tab.value("dispatchEvent(new Event('beforeprint'))")
         ground = tab.value("document.querySelector('#print > svg > rect').getAttribute('fill')")
@@ -269,7 +279,7 @@ class ByHand(unittest.TestCase):
         tab.value("dispatchEvent(new Event('afterprint'))")
         self.assertEqual(tab.value("print.children?.length ?? document.getElementById('print').children.length"), 0)
 
-    def test_forced_colors(self):
+    def test_forced_colors(self) -> None:
         tab = self.open(self.page)
         fill = "getComputedStyle(document.querySelector('[data-mark=birth] .shape')).fill"
         before = tab.value(fill)
@@ -277,7 +287,7 @@ class ByHand(unittest.TestCase):
         self.assertEqual(tab.value("matchMedia('(forced-colors: active)').matches"), True)
         self.assertNotEqual(tab.value(fill), before)
 
-    def test_drop_and_paste(self):
+    def test_drop_and_paste(self) -> None:
         tab = self.open(self.pages.empty())
         texts = json.dumps([EXAMPLE.read_text(), self.lines.decode()])
         count = "document.querySelectorAll('[data-mark]').length"
@@ -297,7 +307,7 @@ class ByHand(unittest.TestCase):
         })()""")
         self.assertEqual([mark["data-user"] for mark in tab.document().marks], ["1007"])
 
-    def test_each_line_of_a_random_run_has_its_mark(self):
+    def test_each_line_of_a_random_run_has_its_mark(self) -> None:
         for count in LENGTHS:
             with self.subTest(count):
                 tab = self.open(self.random[count], "draw=all")
@@ -314,7 +324,7 @@ class ByHand(unittest.TestCase):
                 self.assertEqual(tab.value("document.querySelectorAll('[data-mark]:not([aria-label])').length"), 0)
                 self.assertEqual(tab.value("faults.children.length"), 0)
 
-    def test_a_long_session_is_drawn_in_part(self):
+    def test_a_long_session_is_drawn_in_part(self) -> None:
         tab = self.open(self.random[5000])
         part = tab.document()
         tab.value("scroller.scrollTo(60000, 0)")

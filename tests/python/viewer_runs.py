@@ -4,13 +4,21 @@
 viewer_runs.py FOLDER writes scenarios of 300 and 5,000 random steps there.
 """
 
+from __future__ import annotations
+
 import json
 import pathlib
 import random
 import sys
+from typing import Any, Optional
+
+Step = dict[str, Any]  # a step of docs/FORMAT.md, or a reply of docs/JSON.md
+Scenario = dict[str, list[Step]]
+Lane = tuple[str, int]
+Mark = tuple[str, tuple[str, Any]]
 
 # who traces whom, from which step to which, by the rules of docs/MACHINE.md; None if tracing goes on
-TRACES = {
+TRACES: dict[str, list[tuple[str, int, Optional[int]]]] = {
     "attach_and_continue": [("1000 1001", 3, 11)],
     "crash_collector": [("1000 1001", 3, 19), ("1000 1002", 6, 23)],
     "death_of_a_debugger_kills": [("1000 1001", 4, 10), ("1000 1002", 6, 10)],
@@ -33,17 +41,17 @@ ENDS = {
 FOLLOWED = {"follow_a_fork": [(1002, 8)], "vfork_and_exec": [(1002, 8)]}
 
 
-def thread_steps():
+def thread_steps() -> Scenario:
     """A program is started by PT_TRACE_ME; one of its two LWPs is suspended, the other ends; then all is killed."""
-    def turn(lwp, act, **more):
+    def turn(lwp: int, act: str, **more: Any) -> Step:
         return {"op": "turn", "lwp": lwp, "act": act, **more}
 
-    def ptrace(request, target, **more):
+    def ptrace(request: str, target: int, **more: Any) -> Step:
         return {"op": "ptrace", "caller": 1000, "request": request, "target": target, **more}
 
     first, second = 100001, 100002
     wait, go = {"op": "wait4", "caller": 1000, "which": -1}, ptrace("PT_CONTINUE", 1001)
-    steps = [
+    steps: list[Step] = [
         {"op": "spawn"}, turn(100000, "enter", call="fork"), turn(100000, "leave"),
         {"op": "ptrace", "caller": 1001, "request": "PT_TRACE_ME"},
         turn(first, "enter", call="exec"), turn(first, "leave"), wait,
@@ -75,9 +83,9 @@ THREAD_LIVES = {
 }
 
 
-def untold_end():
+def untold_end() -> Scenario:
     """A process ends by the signal that it is detached with, of which no wait tells; a turn is answered ESRCH."""
-    steps = [
+    steps: list[Step] = [
         {"op": "spawn"}, {"op": "spawn"}, {"op": "ptrace", "caller": 1000, "request": "PT_ATTACH", "target": 1001},
         {"op": "wait4", "caller": 1000, "which": -1},
         {"op": "ptrace", "caller": 1000, "request": "PT_DETACH", "target": 1001, "data": 15},
@@ -86,16 +94,16 @@ def untold_end():
     return {"steps": [{"user": 1001, **step} for step in steps]}
 
 
-def fork_steps():
+def fork_steps() -> Scenario:
     """Two followed forks, of both of which the child is known only later, that of the second first."""
-    steps = [{"op": "spawn"}] * 3
+    steps: list[Step] = [{"op": "spawn"}] * 3
 
-    def ptrace(request, *targets):
+    def ptrace(request: str, *targets: int) -> None:
         data = int(request == "PT_FOLLOW_FORK")
         steps.extend({"op": "ptrace", "caller": 1000, "request": request, "target": target, "data": data}
                      for target in targets)
 
-    def wait(*pids):
+    def wait(*pids: int) -> None:
         steps.extend({"op": "wait4", "caller": 1000, "which": pid} for pid in pids)
 
     ptrace("PT_ATTACH", 1001, 1002)
@@ -110,17 +118,17 @@ def fork_steps():
     return {"steps": [{"user": 1001, **step} for step in steps]}
 
 
-def long_scenario(count):
+def long_scenario(count: int) -> Scenario:
     """A session of so many steps: a debugger of each of four users follows the system calls of two processes."""
-    steps = []
+    steps: list[list[Step]] = []
     for user in (1001, 1002, 1003, 1004):
         pid, lwp = 1000 * (user - 1000), 100000 + 4000 * (user - 1001)
-        own = [{"op": "spawn"}] * 3
+        own: list[Step] = [{"op": "spawn"}] * 3
 
-        def ptrace(request, target):
+        def ptrace(request: str, target: int) -> None:
             own.append({"op": "ptrace", "caller": pid, "request": request, "target": target})
 
-        def stopped(at):
+        def stopped(at: int) -> None:
             own.append({"op": "wait4", "caller": pid, "which": -1})
             ptrace("PT_SYSCALL", pid + at)
 
@@ -137,12 +145,12 @@ def long_scenario(count):
     return {"steps": [step for four in zip(*steps) for step in four]}
 
 
-def expected_mark(step, reply, known):
+def expected_mark(step: Step, reply: Step, known: dict[int, int]) -> Mark:
     """The kind of mark of a step, and its lane, by what docs/VIEWER.md says."""
     word = reply["reply"]
     if word == "new":
         return ("lwp-birth", ("lwp", reply["lwp"])) if reply["pid"] in known else ("birth", ("process", reply["pid"]))
-    home = ("process", step["caller"]) if "caller" in step else ("lwp", step.get("lwp"))
+    home: tuple[str, Any] = ("process", step["caller"]) if "caller" in step else ("lwp", step.get("lwp"))
     if word == "ended":
         return "end", ("process", known[step["lwp"]])
     fixed = {"status": "wait", "stopped": "stop", "nothing": "nothing", "handled": "handled", "caught": "caught",
@@ -160,11 +168,12 @@ def expected_mark(step, reply, known):
     requests = {"PT_ATTACH": "attach", "PT_TRACE_ME": "attach", "PT_DETACH": "detach", "PT_KILL": "kill",
                 "PT_CONTINUE": "resume", "PT_STEP": "resume", "PT_TO_SCE": "resume", "PT_TO_SCX": "resume",
                 "PT_SYSCALL": "resume"}
-    return requests.get(step.get("request"), "request"), home
+    return requests.get(step.get("request", ""), "request"), home
 
 
-def expected_marks(steps, replies):
-    known, marks = {}, []
+def expected_marks(steps: list[Step], replies: list[Step]) -> list[Mark]:
+    known: dict[int, int] = {}
+    marks: list[Mark] = []
     for step, reply in zip(steps, replies):
         if reply["reply"] == "info":
             known[reply["lwp"]] = step["target"]
@@ -174,9 +183,9 @@ def expected_marks(steps, replies):
     return marks
 
 
-def expected_lanes(steps, replies):
+def expected_lanes(steps: list[Step], replies: list[Step]) -> set[Lane]:
     """The users, processes and LWPs that the replies, and the steps that aren't refused, name."""
-    lanes = set()
+    lanes: set[Lane] = set()
     for step, reply in zip(steps, replies):
         lanes.add(("user", step["user"]))
         lanes |= {("process", reply["pid"])} if "pid" in reply else set()
@@ -199,42 +208,45 @@ KEPT = 10  # processes of a user, about
 class RandomUser:
     """Random steps of a user. Processes and LWPs are made only if that succeeds, so that their numbers are known."""
 
-    def __init__(self, dice, user):
+    def __init__(self, dice: random.Random, user: int) -> None:
         self.dice, self.user = dice, user
-        self.pids, self.lwps, self.planned, self.killed = [], [], [], 0
+        self.pids: list[int] = []
+        self.lwps: list[int] = []
+        self.planned: list[Step] = []
+        self.killed = 0
 
-    def new_pid(self):
+    def new_pid(self) -> int:
         self.pids.append(1000 * (self.user - 1000) + len(self.pids))
         return self.pids[-1]
 
-    def new_lwp(self):
+    def new_lwp(self) -> int:
         self.lwps.append(100000 + 4000 * (self.user - 1001) + len(self.lwps))
         return self.lwps[-1]
 
-    def pid(self):
+    def pid(self) -> int:
         return self.dice.choice(self.pids[-KEPT:])
 
-    def turn(self, act, lwp=None, **more):
+    def turn(self, act: str, lwp: Optional[int] = None, **more: Any) -> Step:
         return {"op": "turn", "lwp": lwp or self.dice.choice(self.lwps[-KEPT:]), "act": act, **more}
 
-    def ptrace(self, caller, request, target, **more):
+    def ptrace(self, caller: int, request: str, target: int, **more: Any) -> Step:
         return {"op": "ptrace", "caller": caller, "request": request, "target": target, **more}
 
-    def wait(self, caller=None):
+    def wait(self, caller: Optional[int] = None) -> Step:
         return {"op": "wait4", "caller": caller or self.pid(), "which": -1}
 
-    def spawn(self):
+    def spawn(self) -> tuple[int, int, list[Step]]:
         """A new process ends the old ones, so that there are never too many."""
         pid = self.new_pid()
         old = self.pids[self.killed:-KEPT]
         self.killed += len(old)
-        kills = [{"op": "kill", "caller": pid, "which": other, "signal": 9} for other in old]
-        return pid, self.new_lwp(), [{"op": "spawn"}] + kills
+        kills: list[Step] = [{"op": "kill", "caller": pid, "which": other, "signal": 9} for other in old]
+        return pid, self.new_lwp(), [{"op": "spawn"}, *kills]
 
-    def calls(self, lwp, call):
+    def calls(self, lwp: int, call: str) -> list[Step]:
         return [self.turn("enter", lwp, call=call), self.turn("leave", lwp)]
 
-    def made(self):
+    def made(self) -> list[Step]:
         """A process that makes another one, or an LWP."""
         _, lwp, steps = self.spawn()
         call = self.dice.choice(["fork", "vfork", "thr_new"])
@@ -243,7 +255,7 @@ class RandomUser:
         self.new_lwp()
         return steps + self.calls(lwp, call)
 
-    def traced(self):
+    def traced(self) -> list[Step]:
         """A debugger that attaches, and follows a fork or a vfork."""
         debugger, _, steps = self.spawn()
         target, lwp, more = self.spawn()
@@ -258,24 +270,24 @@ class RandomUser:
             self.ptrace(debugger, "PT_CONTINUE", target),
             self.ptrace(debugger, self.dice.choice(["PT_CONTINUE", "PT_SYSCALL", "PT_DETACH"]), child)]
 
-    def other(self):
+    def other(self) -> list[Step]:
         dice = self.dice
         call, signal = dice.choice(CALLS), dice.choice(SIGNALS)
-        code = {"code": dice.randrange(4)} if call in ("exit", "other") else {}
+        code: dict[str, Any] = {"code": dice.randrange(4)} if call in ("exit", "other") else {}
         return dice.choice([
             [self.turn("enter", call=call, **code)], [self.turn("leave")], [self.turn("compute")],
             [self.turn("compute")], [self.turn("raise", signal=signal)], [self.wait()], [self.wait()],
             [{"op": "kill", "caller": self.pid(), "which": self.pid(), "signal": signal}],
             [self.ptrace(self.pid(), dice.choice(REQUESTS), self.pid())], [{"op": "list", "caller": self.pid()}]])
 
-    def step(self):
+    def step(self) -> Step:
         if not self.planned:
             makes = [self.other] * 12 + [self.made, self.traced] if self.pids else [self.made]
             self.planned = self.dice.choice(makes)()
         return {"user": self.user, **self.planned.pop(0)}
 
 
-def random_scenario(seed, count):
+def random_scenario(seed: int, count: int) -> Scenario:
     dice = random.Random(seed)
     users = [RandomUser(dice, user) for user in (1001, 1002, 1003, 1004)]
     return {"steps": [dice.choice(users).step() for _ in range(count)]}

@@ -346,7 +346,7 @@ BODY(stat_call)
 	if (!is_there)
 		say_error(ESRCH);
 	else if (p == NULL)
-		say("ok 5 0 0 0 0");
+		say("ok 5 0 0 0 0 0");
 	else
-		say("ok 2 %d %d %zu %d", p->parent, p->tracer, p->lists.lwps.count, p->real);
+		say("ok 2 %d %d %zu %d %d", p->parent, p->tracer, p->lists.lwps.count, p->real, p->lists.lwps.count > 0 ? p->lists.lwps.at[0]->tid : 0);
 }

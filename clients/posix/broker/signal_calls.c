@@ -295,13 +295,15 @@ BODY(sigwait_call)
 	turn(l, act_of(l, TRACEHOST_BLOCK, (old & ~wanted) >> 1), (struct how){0});
 	l->mask = old & ~wanted;
 	int got = first_accepted(l, until);
+	struct info info = got > 0 ? info_of(l, got, (struct info){0}) : (struct info){0};
 	block(l, old);
 	accept_no_longer(l, wanted);
 	back(l);
 	if (got < 0)
 		say_error(-got);
 	else
-		say("ok %d", got);
+		say("ok %lld %lld %lld %lld %lld", (long long)info.signal, (long long)info.code, (long long)info.sender, (long long)info.status,
+			(long long)info.address);
 }
 
 /* sigpending(2): the model has no such question, so that the signals are met, and posted again. */

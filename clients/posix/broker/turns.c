@@ -100,7 +100,7 @@ bool is_discarded(const struct process *p, int signal)
 }
 
 /* What is known of a signal that is met; if nobody has sent it, the kernel has. */
-static struct info info_of(struct lwp *l, int signal, struct info otherwise)
+struct info info_of(struct lwp *l, int signal, struct info otherwise)
 {
 	struct info known = otherwise;
 	if (has(l->has_sent, signal)) {

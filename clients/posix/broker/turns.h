@@ -68,6 +68,8 @@ bool linger(struct lwp *l, int64_t topic, bool restarts, int64_t until);
 bool interrupts(const struct process *p, signals met, bool restarts);
 bool is_due(const struct lwp *l);
 
+struct info info_of(struct lwp *l, int signal, struct info otherwise);
+
 /* ---- news.c: who hears of what */
 
 bool is_discarded(const struct process *p, int signal); /* of turns.c: a traced process doesn't stop for it */

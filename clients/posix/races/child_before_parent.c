@@ -8,47 +8,18 @@
  * into the table too.
  * Known from: gdb, which remembers such children until their parents' events.
  */
-#include <sys/types.h>
-#include <sys/ptrace.h>
-#include <sys/wait.h>
-#include <err.h>
-#include <signal.h>
-#include <stdio.h>
-#include <unistd.h>
+#include "races.h"
 
 static pid_t known[16];
 static int count, live;
 
-static int
-is_known(pid_t pid)
-{
-	for (int i = 0; i < count; i++)
-		if (known[i] == pid)
-			return (1);
-	return (0);
-}
-
 static void
 add(pid_t pid)
 {
-	if (is_known(pid))
+	if (is_in(known, count, pid))
 		return;
 	known[count++] = pid;
 	live++;
-}
-
-static void
-run_target(void)
-{
-	pid_t pid;
-
-	if (ptrace(PT_TRACE_ME, 0, NULL, 0) != 0)
-		_exit(2);
-	raise(SIGSTOP);
-	if ((pid = fork()) == 0)
-		_exit(0);
-	(void)waitpid(pid, NULL, 0);
-	_exit(0);
 }
 
 static void
@@ -62,7 +33,7 @@ stopped(pid_t pid)
 	if (pl.pl_flags & PL_FLAG_CHILD)
 		add(pid);
 #endif
-	if (!is_known(pid))
+	if (!is_in(known, count, pid))
 		errx(1, "%d isn't mine", (int)pid);
 	if (pl.pl_flags & PL_FLAG_FORKED)
 		add(pl.pl_child_pid);
@@ -79,7 +50,7 @@ main(void)
 	if (target == -1)
 		err(1, "fork");
 	if (target == 0)
-		run_target();
+		run_forking_target();
 	add(target);
 	if (waitpid(target, &status, 0) != target || ptrace(PT_FOLLOW_FORK, target, NULL, 1) != 0)
 		err(1, "PT_FOLLOW_FORK");

@@ -35,6 +35,30 @@ start_target(int signals)
 	return (pid);
 }
 
+/* What a target does that its debugger traces, and that forks a child after its first stop. */
+static inline void
+run_forking_target(void)
+{
+	pid_t pid;
+
+	if (ptrace(PT_TRACE_ME, 0, NULL, 0) != 0)
+		_exit(2);
+	raise(SIGSTOP);
+	if ((pid = fork()) == 0)
+		_exit(0);
+	(void)waitpid(pid, NULL, 0);
+	_exit(0);
+}
+
+static inline int
+is_in(const pid_t table[], int count, pid_t pid)
+{
+	for (int i = 0; i < count; i++)
+		if (table[i] == pid)
+			return (1);
+	return (0);
+}
+
 static inline void
 request(int number, pid_t pid, int data)
 {

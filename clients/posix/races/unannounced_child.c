@@ -9,42 +9,12 @@
  * Known from: strace, which takes any process that wait4(2) names into its
  * table, as a child's first stop may be seen before its parent's event.
  */
-#include <sys/types.h>
-#include <sys/ptrace.h>
-#include <sys/wait.h>
-#include <err.h>
-#include <errno.h>
-#include <signal.h>
-#include <stdio.h>
-#include <unistd.h>
+#include "races.h"
 
 #ifndef RIGHT
 static pid_t announced[16];
 static int count;
-
-static int
-is_announced(pid_t pid)
-{
-	for (int i = 0; i < count; i++)
-		if (announced[i] == pid)
-			return (1);
-	return (0);
-}
 #endif
-
-static void
-run_target(void)
-{
-	pid_t pid;
-
-	if (ptrace(PT_TRACE_ME, 0, NULL, 0) != 0)
-		_exit(2);
-	raise(SIGSTOP);
-	if ((pid = fork()) == 0)
-		_exit(0);
-	(void)waitpid(pid, NULL, 0);
-	_exit(0);
-}
 
 /* The target has ten seconds. */
 static pid_t
@@ -82,7 +52,7 @@ see_stop(pid_t pid)
 		announced[count++] = pl.pl_child_pid;
 		go_on(pl.pl_child_pid);
 	}
-	if ((pl.pl_flags & PL_FLAG_CHILD) && !is_announced(pid))
+	if ((pl.pl_flags & PL_FLAG_CHILD) && !is_in(announced, count, pid))
 		return;
 #endif
 	go_on(pid);
@@ -97,7 +67,7 @@ main(void)
 	if (target == -1)
 		err(1, "fork");
 	if (target == 0)
-		run_target();
+		run_forking_target();
 	if (waitpid(target, &status, 0) != target || !WIFSTOPPED(status))
 		errx(1, "no first stop");
 	watchdog = start_watchdog(target);

@@ -151,7 +151,9 @@ static int give_process(pid_t pid, void *to, size_t *size)
 	process.ki_tracer = (pid_t)tracehost_number(), process.ki_numthreads = (int)tracehost_number();
 	process.ki_flag = process.ki_tracer != 0 ? P_TRACED : 0;
 	process.ki_uid = process.ki_ruid = process.ki_svuid = getuid(), process.ki_rgid = process.ki_svgid = getgid();
-	char *name = read_file(tracehost_number(), "comm", &length);
+	long real = tracehost_number();
+	process.ki_tid = (lwpid_t)tracehost_number();
+	char *name = read_file(real, "comm", &length);
 	if (length > 0)
 		snprintf(process.ki_comm, sizeof process.ki_comm, "%.*s", (int)length - 1, name);
 	memcpy(process.ki_tdname, process.ki_comm, sizeof process.ki_tdname - 1);
@@ -227,7 +229,7 @@ int tracehost_sysctl(const int *name, unsigned count, void *to, size_t *size, co
 	(void)new, (void)new_size;
 	if (count != 4 || name[0] != CTL_KERN || name[1] != KERN_PROC || (name[2] != KERN_PROC_PID && name[2] != KERN_PROC_ARGS &&
 		name[2] != KERN_PROC_PATHNAME && name[2] != KERN_PROC_VMMAP && name[2] != KERN_PROC_AUXV)) {
-		tracehost_say("sysctl: kern.proc is here with pid, args, pathname, vmmap and auxv alone (ENOENT)");
+		tracehost_say("sysctl: only kern.proc is here, with pid, args, pathname, vmmap and auxv (ENOENT)");
 		return fail(ENOENT);
 	}
 	if (name[2] == KERN_PROC_PATHNAME && name[3] == -1) /* a program looks for itself */

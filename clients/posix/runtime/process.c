@@ -42,6 +42,7 @@ pid_t tracehost_make_child(const void *where, const char *call)
 		tracehost_only_thread(tid);
 		tracehost_no_timers();
 		tracehost_no_kqueues();
+		tracehost_drop_hardware();
 		tracehost_no_descriptors();
 		own.now.frame->rax = 0; /* a debugger may look at it before it has returned */
 		tracehost_begin(fd, pid, tid);

@@ -128,13 +128,15 @@ void tracehost_fetch(int code)
 	memset(to->floats.fpr_spare, 0, sizeof to->floats.fpr_spare);
 	if (own.now.frame != NULL)
 		find_arguments(to->arguments, own.now.frame);
-	to->error = own.error;
+	to->error = own.error, to->debug = own.debug;
 }
 
 void tracehost_apply(int kind)
 {
 	if (kind == BASES)
 		syscall(SYS_arch_prctl, ARCH_SET_GS, own.record.gs);
+	else if (kind == DEBUG)
+		own.record.refused = tracehost_set_hardware(&own.record.debug);
 	else if (own.now.context != NULL && kind == GENERAL)
 		to_context(own.now.context, &own.record.general);
 	else if (own.now.context != NULL)
@@ -208,6 +210,10 @@ int tracehost_trap(siginfo_t *info, void *context)
 		tracehost_say_hello(context);
 		return 1;
 	}
+	if (info->si_code == HOST_TRAP_PERF && (own.busy || own.now.inside)) /* a call touches it: a kernel's doing */
+		return 1;
+	if (info->si_code == HOST_TRAP_PERF)
+		tracehost_hit(info);
 	if (info->si_code != TRAP_TRACE)
 		return 0;
 	if (at < __start_tracehost_entry || at >= __stop_tracehost_entry)

@@ -55,10 +55,12 @@ struct record {
 	struct reg general;
 	struct fpreg floats __attribute__((aligned(16)));
 	unsigned long fs, gs;
+	struct dbreg debug;
 	long arguments[6]; /* of its last call */
 	int error; /* of its last call, as it lands */
+	int refused; /* the host's errno, where it makes no hardware breakpoint */
 };
-enum { GENERAL, FLOATS, BASES };
+enum { GENERAL, FLOATS, BASES, DEBUG };
 
 /* A function of the program's, called on its stack. */
 struct outcall {
@@ -84,6 +86,8 @@ struct own {
 	struct birth *birth; /* of a thread whose routine hasn't begun */
 	int error; /* of the last call that landed */
 	struct record record, later; /* of a stopped thread; and what is set as its call returns */
+	struct dbreg debug;
+	void *hardware[4]; /* the host's breakpoints (hardware.c) */
 	int cancelled, uncancellable, cancels_at_once; /* pthread_cancel(3) */
 	int forking; /* a fork of the runtime's is under way */
 	char answer[8192];
@@ -142,6 +146,12 @@ int tracehost_trap(siginfo_t *info, void *context);
 void tracehost_handle(int number);
 void tracehost_describe(siginfo_t *info); /* by the next four numbers of the answer */
 void tracehost_say_hello(void *context);
+
+/* Debug registers (hardware.c), and that one was hit. */
+int tracehost_set_hardware(const struct dbreg *new);
+void tracehost_drop_hardware(void);
+void tracehost_hit(const siginfo_t *info);
+enum { HOST_TRAP_PERF = 6 }; /* si_code of a hardware breakpoint */
 
 /* The map of a process's memory (look.c). */
 struct ptrace_vm_entry;

@@ -188,6 +188,7 @@ static int await_signal(const void *where, const sigset_t *set, const struct tim
 	if (info != NULL) {
 		memset(info, 0, sizeof *info);
 		info->si_signo = number;
+		tracehost_describe(info);
 	}
 	return number;
 }

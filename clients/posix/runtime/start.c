@@ -76,7 +76,7 @@ static void on_poke(int number, siginfo_t *info, void *context)
 static int code_of(int number, const siginfo_t *info)
 {
 	if (number == SIGTRAP)
-		return TRAP_BRKPT;
+		return info->si_code == HOST_TRAP_PERF ? TRAP_TRACE : TRAP_BRKPT;
 	return info->si_code == SI_TKILL ? BSD_SI_LWP : info->si_code == SI_KERNEL ? BSD_SI_KERNEL : info->si_code;
 }
 
@@ -153,6 +153,7 @@ void tracehost_let_go(void)
 		if (own_fds[i] == own.fd)
 			own_fds[i] = 0;
 	timer_delete(own.tick);
+	tracehost_drop_hardware();
 	close(own.fd);
 	own.fd = -1;
 	tracehost_drop_stacks();

@@ -49,15 +49,22 @@ static int io(const void *where, pid_t target, struct ptrace_io_desc *request)
 
 /* ---- registers: a stopped thread fills a record of its own, and takes it over as it is asked */
 
-static int read_record(const void *where, pid_t target, struct record *record, long *real, unsigned long *at)
+struct found {
+	struct record record;
+	long real; /* the host's number of its process */
+	unsigned long at;
+};
+
+static int read_record(const void *where, pid_t target, struct found *found)
 {
 	if (tracehost_ask(where, "registers %d", target) != 0) {
 		if (errno == EINVAL)
 			tracehost_say("ptrace: there are no registers under --strict, nor of a program without the runtime (EINVAL)");
 		return -1;
 	}
-	*real = tracehost_number(), *at = (unsigned long)tracehost_number();
-	return transfer(*real, *at, record, sizeof *record, 0) == sizeof *record ? 0 : -1;
+	found->real = tracehost_number(), found->at = (unsigned long)tracehost_number();
+	ssize_t got = transfer(found->real, found->at, &found->record, sizeof found->record, 0);
+	return got == sizeof found->record ? 0 : -1;
 }
 
 /* Flags that only a kernel may set stay, as does the privilege of the code segment. */
@@ -66,58 +73,83 @@ static int are_secure(const struct reg *new, const struct reg *old)
 	return ((new->r_rflags ^ old->r_rflags) & ~(int64_t)PSL_USERCHANGE) == 0 && (new->r_cs & 3) == 3;
 }
 
-static int get_registers(const void *where, pid_t target, void *to, int kind)
+/* The control register has no input or output, the upper halves are 0, and addresses are a program's: as FreeBSD has it. */
+static int is_debug(const struct dbreg *new)
 {
-	struct record record;
-	long real;
-	unsigned long at;
-	if (read_record(where, target, &record, &real, &at) != 0)
+	const unsigned long behind = 1UL << 47;
+	for (int i = 0; i < 4; i++)
+		if ((new->dr[7] >> (16 + 4 * i) & 3) == 2 || ((new->dr[7] >> (2 * i) & 3) != 0 && new->dr[i] >= behind))
+			return 0;
+	return new->dr[6] >> 32 == 0 && new->dr[7] >> 32 == 0;
+}
+
+/* The thread has said in its record whether the host makes such breakpoints. */
+static int was_refused(const struct found *found)
+{
+	int error = 0;
+	if (transfer(found->real, found->at + offsetof(struct record, refused), &error, sizeof error, 0) != sizeof error)
+		return 1;
+	if (error != 0)
+		tracehost_say("ptrace: the host makes no hardware breakpoint: %s (EINVAL)", strerror(error));
+	return error != 0;
+}
+
+static int set_debug(const void *where, pid_t target, const struct dbreg *from)
+{
+	struct found found;
+	if (read_record(where, target, &found) != 0)
 		return -1;
-	if (kind == GENERAL)
-		memcpy(to, &record.general, sizeof record.general);
+	found.record.debug = *from;
+	if (!is_debug(from) || transfer(found.real, found.at, &found.record, sizeof found.record, 1) != sizeof found.record ||
+		tracehost_ask(where, "apply %d %d", target, DEBUG) != 0 || was_refused(&found)) {
+		errno = EINVAL;
+		return -1;
+	}
+	return 0;
+}
+
+static int get_registers(const void *where, pid_t target, int request, void *to)
+{
+	struct found found;
+	if (read_record(where, target, &found) != 0)
+		return -1;
+	if (request == PT_GETREGS)
+		memcpy(to, &found.record.general, sizeof found.record.general);
+	else if (request == PT_GETFPREGS)
+		memcpy(to, &found.record.floats, sizeof found.record.floats);
+	else if (request == PT_GETDBREGS)
+		memcpy(to, &found.record.debug, sizeof found.record.debug);
 	else
-		memcpy(to, &record.floats, sizeof record.floats);
+		memcpy(to, request == PT_GETFSBASE ? &found.record.fs : &found.record.gs, sizeof found.record.fs);
 	return 0;
 }
 
 static int set_registers(const void *where, pid_t target, const void *from, int kind)
 {
-	struct record record;
-	long real;
-	unsigned long at;
-	if (read_record(where, target, &record, &real, &at) != 0)
+	struct found found;
+	if (read_record(where, target, &found) != 0)
 		return -1;
-	if (kind == GENERAL && !are_secure(from, &record.general)) {
+	struct record *record = &found.record;
+	if (kind == GENERAL && !are_secure(from, &record->general)) {
 		errno = EINVAL;
 		return -1;
 	}
 	if (kind == GENERAL)
-		memcpy(&record.general, from, sizeof record.general);
+		memcpy(&record->general, from, sizeof record->general);
 	else if (kind == FLOATS)
-		memcpy(&record.floats, from, sizeof record.floats);
+		memcpy(&record->floats, from, sizeof record->floats);
 	else
-		memcpy(&record.gs, from, sizeof record.gs);
-	if (transfer(real, at, &record, sizeof record, 1) != sizeof record)
+		memcpy(&record->gs, from, sizeof record->gs);
+	if (transfer(found.real, found.at, record, sizeof *record, 1) != sizeof *record)
 		return -1;
 	return tracehost_ask(where, "apply %d %d", target, kind);
-}
-
-static int get_base(const void *where, pid_t target, void *to, int is_fs)
-{
-	struct record record;
-	long real;
-	unsigned long at;
-	if (read_record(where, target, &record, &real, &at) != 0)
-		return -1;
-	memcpy(to, is_fs ? &record.fs : &record.gs, sizeof record.fs);
-	return 0;
 }
 
 /* The target goes on there. */
 static int set_counter(const void *where, pid_t target, const char *address)
 {
 	struct reg registers;
-	if (get_registers(where, target, &registers, GENERAL) != 0)
+	if (get_registers(where, target, PT_GETREGS, &registers) != 0)
 		return -1;
 	registers.r_rip = (int64_t)address;
 	return set_registers(where, target, &registers, GENERAL);
@@ -190,39 +222,37 @@ static int information(const void *where, pid_t target, void *to, int size)
 	return 0;
 }
 
-/* PT_GET_SC_ARGS, and the result at a call's exit. */
+/* PT_GET_SC_ARGS; and PT_GET_SC_RET, at a call's exit. */
+static int at_call(const void *where, pid_t target, int flags, struct ptrace_lwpinfo *info, struct found *found)
+{
+	if (ask_information(where, target, info) != 0 || read_record(where, target, found) != 0)
+		return -1;
+	if (info->pl_flags & flags)
+		return 0;
+	errno = EINVAL;
+	return -1;
+}
+
 static int call_arguments(const void *where, pid_t target, void *to, size_t size)
 {
 	struct ptrace_lwpinfo info;
-	struct record record;
-	long real;
-	unsigned long at;
-	if (ask_information(where, target, &info) != 0 || read_record(where, target, &record, &real, &at) != 0)
+	struct found found;
+	if (at_call(where, target, PL_FLAG_SCE | PL_FLAG_SCX, &info, &found) != 0)
 		return -1;
-	if (!(info.pl_flags & (PL_FLAG_SCE | PL_FLAG_SCX))) {
-		errno = EINVAL;
-		return -1;
-	}
-	size_t all = info.pl_syscall_narg * sizeof record.arguments[0];
-	memcpy(to, record.arguments, size < all ? size : all);
+	size_t all = info.pl_syscall_narg * sizeof found.record.arguments[0];
+	memcpy(to, found.record.arguments, size < all ? size : all);
 	return 0;
 }
 
 static int call_result(const void *where, pid_t target, struct ptrace_sc_ret *to, size_t size)
 {
 	struct ptrace_lwpinfo info;
-	struct record record;
-	long real;
-	unsigned long at;
-	if (ask_information(where, target, &info) != 0 || read_record(where, target, &record, &real, &at) != 0)
+	struct found found;
+	if (at_call(where, target, PL_FLAG_SCX, &info, &found) != 0)
 		return -1;
-	if (!(info.pl_flags & PL_FLAG_SCX)) {
-		errno = EINVAL;
-		return -1;
-	}
-	struct ptrace_sc_ret result = {.sr_retval = {record.general.r_rax, 0}};
-	if (record.error != 0)
-		result = (struct ptrace_sc_ret){.sr_error = record.error};
+	struct ptrace_sc_ret result = {.sr_retval = {found.record.general.r_rax, 0}};
+	if (found.record.error != 0)
+		result = (struct ptrace_sc_ret){.sr_error = found.record.error};
 	memcpy(to, &result, size < sizeof result ? size : sizeof result);
 	return 0;
 }
@@ -254,9 +284,7 @@ static int event_mask(const void *where, int request, pid_t target, int *mask, i
 
 static int unknown(int request)
 {
-	if (request == PT_GETDBREGS || request == PT_SETDBREGS)
-		tracehost_say("ptrace: the host lets no program set its debug registers: request %d is answered EINVAL", request);
-	else if (request == PT_SETFSBASE)
+	if (request == PT_SETFSBASE)
 		tracehost_say("ptrace: the base of fs is the runtime's too: PT_SETFSBASE is answered EINVAL");
 	else
 		tracehost_say("ptrace: request %d isn't in the model, and is answered EINVAL", request);
@@ -283,18 +311,16 @@ static int resume(const void *where, int request, pid_t target, const char *addr
 static int registers(const void *where, int request, pid_t target, void *address)
 {
 	switch (request) {
-	case PT_GETREGS:
-		return get_registers(where, target, address, GENERAL);
 	case PT_SETREGS:
 		return set_registers(where, target, address, GENERAL);
-	case PT_GETFPREGS:
-		return get_registers(where, target, address, FLOATS);
 	case PT_SETFPREGS:
 		return set_registers(where, target, address, FLOATS);
 	case PT_SETGSBASE:
 		return set_registers(where, target, address, BASES);
+	case PT_SETDBREGS:
+		return set_debug(where, target, address);
 	default:
-		return get_base(where, target, address, request == PT_GETFSBASE);
+		return get_registers(where, target, request, address);
 	}
 }
 
@@ -317,6 +343,8 @@ int tracehost_ptrace(int request, pid_t target, char *address, int data)
 	case PT_SETREGS:
 	case PT_GETFPREGS:
 	case PT_SETFPREGS:
+	case PT_GETDBREGS:
+	case PT_SETDBREGS:
 	case PT_GETFSBASE:
 	case PT_GETGSBASE:
 	case PT_SETGSBASE:

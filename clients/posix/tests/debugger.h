@@ -47,6 +47,28 @@ start(void (*body)(void))
 	return (pid);
 }
 
+/* A process whose child exits with 2 exits with 1 then. */
+static inline void
+see_child_exit(pid_t pid)
+{
+	int status;
+
+	CHILD_REQUIRE(waitpid(pid, &status, 0) == pid);
+	CHILD_REQUIRE(WIFEXITED(status) && WEXITSTATUS(status) == 2);
+	_exit(1);
+}
+
+static inline void
+fork_once(void)
+{
+	pid_t pid = fork();
+
+	CHILD_REQUIRE(pid != -1);
+	if (pid == 0)
+		_exit(2);
+	see_child_exit(pid);
+}
+
 /* The next status of a process has to be this one. */
 static inline bool
 reports(pid_t pid, int wanted)

@@ -2,28 +2,6 @@
 #include "debugger.h"
 #include <sys/syscall.h>
 
-/* A process whose child exits with 2 exits with 1 then. */
-static void
-see_child_exit(pid_t pid)
-{
-	int status;
-
-	CHILD_REQUIRE(waitpid(pid, &status, 0) == pid);
-	CHILD_REQUIRE(WIFEXITED(status) && WEXITSTATUS(status) == 2);
-	_exit(1);
-}
-
-static void
-fork_once(void)
-{
-	pid_t pid = fork();
-
-	CHILD_REQUIRE(pid != -1);
-	if (pid == 0)
-		_exit(2);
-	see_child_exit(pid);
-}
-
 static void
 vfork_once(void)
 {

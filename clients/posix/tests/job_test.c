@@ -267,6 +267,115 @@ ATF_TC_BODY(sigchld_of_exit_alone, tc)
 	ATF_REQUIRE(wait_exit(pid, 0));
 }
 
+/* What siginfo_t says of a child: sigaction(2) and siginfo(3). Each is read before the next one can come. */
+static siginfo_t told;
+static volatile sig_atomic_t is_told;
+static sigset_t unblocked;
+
+static void
+take_info(int sig, siginfo_t *si, void *context)
+{
+	(void)context;
+	told = *si;
+	is_told = sig == SIGCHLD;
+}
+
+static void
+await_infos(void)
+{
+	struct sigaction sa;
+	sigset_t set;
+
+	memset(&sa, 0, sizeof(sa));
+	sa.sa_sigaction = take_info;
+	sa.sa_flags = SA_SIGINFO;
+	sigemptyset(&sa.sa_mask);
+	ATF_REQUIRE(sigaction(SIGCHLD, &sa, NULL) == 0);
+	sigemptyset(&set);
+	sigaddset(&set, SIGCHLD);
+	ATF_REQUIRE(sigprocmask(SIG_BLOCK, &set, &unblocked) == 0);
+}
+
+static void
+told_of(pid_t pid, int code, int status)
+{
+	is_told = 0;
+	while (is_told == 0)
+		sigsuspend(&unblocked);
+	ATF_REQUIRE(told.si_signo == SIGCHLD && told.si_pid == pid && told.si_uid == getuid());
+	ATF_REQUIRE_MSG(told.si_code == code && told.si_status == status, "si_code %d with status %d, where %d with %d is due",
+	    told.si_code, told.si_status, code, status);
+}
+
+static void exit_with_7(void) { _exit(7); }
+
+ATF_TC_WITHOUT_HEAD(siginfo_of_an_exit);
+ATF_TC_BODY(siginfo_of_an_exit, tc)
+{
+	pid_t pid;
+
+	await_infos();
+	pid = start(exit_with_7);
+	told_of(pid, CLD_EXITED, 7);
+	ATF_REQUIRE(wait_exit(pid, 7));
+}
+
+ATF_TC_WITHOUT_HEAD(siginfo_of_a_killed_child);
+ATF_TC_BODY(siginfo_of_a_killed_child, tc)
+{
+	pid_t pid;
+
+	await_infos();
+	pid = start(sleep_for_ever);
+	ATF_REQUIRE(kill(pid, SIGTERM) == 0);
+	told_of(pid, CLD_KILLED, SIGTERM);
+	ATF_REQUIRE(wait_signaled(pid, SIGTERM));
+}
+
+ATF_TC_WITHOUT_HEAD(siginfo_of_a_job_stop);
+ATF_TC_BODY(siginfo_of_a_job_stop, tc)
+{
+	pid_t pid;
+
+	await_infos();
+	pid = start(sleep_for_ever);
+	ATF_REQUIRE(kill(pid, SIGSTOP) == 0);
+	told_of(pid, CLD_STOPPED, SIGSTOP);
+	ATF_REQUIRE(wait_job_stop(pid, SIGSTOP));
+	ATF_REQUIRE(kill(pid, SIGCONT) == 0);
+	told_of(pid, CLD_CONTINUED, SIGCONT);
+	ATF_REQUIRE(wait_continued(pid));
+	ATF_REQUIRE(kill(pid, SIGKILL) == 0);
+	told_of(pid, CLD_KILLED, SIGKILL);
+	ATF_REQUIRE(wait_signaled(pid, SIGKILL));
+}
+
+static void
+be_traced_and_exit(void)
+{
+	trace_me();
+	CHILD_REQUIRE(raise(SIGUSR1) == 0);
+	_exit(7);
+}
+
+/* Its tracer hears of a trace stop; a signal that isn't passed on ends nobody. */
+ATF_TC_WITHOUT_HEAD(siginfo_of_a_trace_stop);
+ATF_TC_BODY(siginfo_of_a_trace_stop, tc)
+{
+	pid_t pid;
+
+	await_infos();
+	pid = start(be_traced_and_exit);
+	told_of(pid, CLD_TRAPPED, SIGSTOP);
+	ATF_REQUIRE(wait_stop(pid, SIGSTOP));
+	ATF_REQUIRE(go_on(pid));
+	told_of(pid, CLD_TRAPPED, SIGUSR1);
+	ATF_REQUIRE(wait_stop(pid, SIGUSR1));
+	ATF_REQUIRE(go_on(pid));
+	told_of(pid, CLD_EXITED, 7);
+	ATF_REQUIRE(wait_exit(pid, 7));
+}
+
 /* The stop of a traced process is for its debugger: its parent doesn't see it. */
 static pid_t target;
 static int attached[2];
@@ -310,6 +419,10 @@ ATF_TP_ADD_TCS(tp)
 	ATF_TP_ADD_TC(tp, sigchld_of_stop_and_exit);
 	ATF_TP_ADD_TC(tp, sigchld_of_trace_stop);
 	ATF_TP_ADD_TC(tp, sigchld_of_exit_alone);
+	ATF_TP_ADD_TC(tp, siginfo_of_an_exit);
+	ATF_TP_ADD_TC(tp, siginfo_of_a_killed_child);
+	ATF_TP_ADD_TC(tp, siginfo_of_a_job_stop);
+	ATF_TP_ADD_TC(tp, siginfo_of_a_trace_stop);
 	ATF_TP_ADD_TC(tp, trace_stop_is_not_a_job_stop);
 	return (atf_no_error());
 }

@@ -4,20 +4,6 @@
  */
 #include "debugger.h"
 
-static void
-fork_and_collect(void)
-{
-	pid_t pid = fork();
-	int status;
-
-	CHILD_REQUIRE(pid != -1);
-	if (pid == 0)
-		_exit(2);
-	CHILD_REQUIRE(waitpid(pid, &status, 0) == pid);
-	CHILD_REQUIRE(status == EXITED_WITH(2));
-	_exit(1);
-}
-
 /* Both stops of a fork, in either order, by waits for any child: the child's number. */
 static pid_t
 take_fork_stops(pid_t parent)
@@ -55,7 +41,7 @@ require_exit(pid_t pid, int code)
 ATF_TC_WITHOUT_HEAD(fork_stops_in_any_order);
 ATF_TC_BODY(fork_stops_in_any_order, tc)
 {
-	pid_t parent = start_traced(fork_and_collect), child = take_fork_stops(parent);
+	pid_t parent = start_traced(fork_once), child = take_fork_stops(parent);
 
 	ATF_REQUIRE(go_on(parent));
 	ATF_REQUIRE(go_on(child));
@@ -67,7 +53,7 @@ ATF_TC_BODY(fork_stops_in_any_order, tc)
 ATF_TC_WITHOUT_HEAD(detached_child_wakes_no_debugger);
 ATF_TC_BODY(detached_child_wakes_no_debugger, tc)
 {
-	pid_t parent = start_traced(fork_and_collect), child = take_fork_stops(parent);
+	pid_t parent = start_traced(fork_once), child = take_fork_stops(parent);
 
 	ATF_REQUIRE(request(PT_DETACH, child, 0));
 	ATF_REQUIRE(go_on(parent));

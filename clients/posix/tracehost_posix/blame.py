@@ -9,10 +9,18 @@ from collections import Counter, deque
 from collections.abc import Sequence
 
 from .describe import Place, place_of
-from .table import Lwp
+from .table import Failed, Lwp, Process
 
 LAST, LOOPS = 200, 5
 """Of a run without an end: of so many last questions it is said which were asked most, so many of them."""
+
+
+class Gone(Failed):
+    """A process has ended, or closed its socket, outside of the model."""
+
+    def __init__(self, process: Process) -> None:
+        super().__init__(gone(process.pid))
+        self.real = process.real
 
 
 class Blame:
@@ -38,6 +46,11 @@ def loops(last: Sequence[Place]) -> list[Place]:
     """A run has no end: who has asked most of the last questions."""
     most = Counter(last).most_common(LOOPS)
     return [place._replace(then=f"{count} of the last {len(last)} questions") for place, count in most]
+
+
+def gone(pid: int) -> str:
+    """A process that has ended in the host only."""
+    return f"process {pid} has ended, or closed its socket, outside of the model"
 
 
 def ended_by(status: int) -> str:

@@ -17,6 +17,7 @@ from typing import Any, NoReturn
 
 from . import compiled, record, report, search
 from .compiled import Unable, started
+from .coverage import Met
 from .outcome import Outcome, Result
 from .pool import Pool, WorkerEnded
 from .program import NotRunnable, check
@@ -93,9 +94,10 @@ def parser() -> Parser:
     add("--output-limit", type=_count, default=64 << 20, metavar="BYTES", help="a run may print so many, where its output is kept (67108864)")
     add("--digest", action="store_true", help="prints a digest of each run: its steps, answers and output")
     add("--verify", action="store_true", help="has each run's record replayed by tracehost --expect")
+    add("--coverage", action="store_true", help="prints the calls at which another could go on, and never did")
     add("--figures", action="store_true", help="prints what the runs took")
     add("--broker", choices=["auto", "c", "python"], default="auto", help="what runs a schedule: the compiled broker, if it is built and "
-        "--model names no other program, or the one in Python; both make the same runs")
+        "--model and --coverage aren't given, or the one in Python; both make the same runs")
     add("--model", metavar="PROGRAM", help="the program tracehost; else $TRACEHOST, else tracehost on the path")
     made.add_argument("--version", action="version", version=f"tracehost-run {VERSION}")
     add("program", nargs="?", metavar="PROGRAM")
@@ -138,8 +140,10 @@ def _model(given: argparse.Namespace, made: Parser) -> str:
 
 def _broker(given: argparse.Namespace, made: Parser) -> str | None:
     """The compiled broker, if it is to run the program."""
-    if given.broker == "python" or given.broker == "auto" and given.model is not None:
+    if given.broker == "python" or given.broker == "auto" and (given.model is not None or given.coverage):
         return None
+    if given.coverage:
+        made.error("--broker c doesn't have --coverage")
     if not compiled.has(Task(given.seed or given.schedules, given.depth, given.length or 0)):
         return None
     found = compiled.find()
@@ -158,6 +162,7 @@ class Command:
         self.began = time.monotonic()
         self.runs = self.questions = self.steps = self.passed = self.skipped = self.examined = self.most = 0
         self.schedules: set[str] = set()
+        self.covered: dict[Met, bool] = {}
         self.news: deque[bool] = deque(maxlen=LAST)
         """Of the last runs, whether nothing like them had run before."""
 
@@ -172,8 +177,13 @@ class Command:
         self.most = max(self.most, result.questions)
         self.news.append(result.schedule not in self.schedules)
         self.schedules.add(result.schedule)
+        self._cover(dict(result.covered))
         if self.given.digest:
             print(f"{'plain' if task.seed is None else task.seed} {result.digest}")
+
+    def _cover(self, met: dict[Met, bool]) -> None:
+        for call, preempted in met.items():
+            self.covered[call] = self.covered.get(call, False) or preempted
 
     # ---- one run
 
@@ -196,6 +206,7 @@ class Command:
             outcome = outcome._replace(result=result)
         self.runs, self.questions, self.steps = self.runs + 1, self.questions + result.questions, self.steps + result.steps
         self.passed, self.skipped, self.examined = result.passed, result.skipped, result.examined
+        self._cover(dict(result.covered))
         if self.given.digest and self.given.schedules is None:
             print(record.digest(outcome.kept, outcome.output))
         return outcome
@@ -351,6 +362,11 @@ class Command:
             say(f"{self.skipped} stops of traced processes were passed over, for signals that FreeBSD discards (--strict: none)")
         if self.examined:
             say(f"registers and instructions were used {self.examined} times, which the model doesn't have: not proved (--strict: none)")
+        if self.given.coverage:
+            calls, count = report.unpreempted(self.covered)
+            say(f"of {count} calls at which another could go on {len(calls)} were never preempted")
+            for call in calls:
+                print(f"  {call}", file=sys.stderr)
         if self.given.figures:
             took = time.monotonic() - self.began
             times = os.times()
@@ -394,7 +410,7 @@ def main(words: Sequence[str] | None = None) -> int:
     resource.setrlimit(resource.RLIMIT_NOFILE, (max(soft, min(hard, 4096)), hard))  # a socket for each thread
     ctypes.CDLL(None).personality(_ADDR_NO_RANDOMIZE)  # addresses are the same in each run
     kill = None if given.kill_on_debugger_exit is None else given.kill_on_debugger_exit == "1"
-    options = Options(given.calls, given.strict, given.limit, given.patience, given.output_limit)
+    options = Options(given.calls, given.strict, given.limit, given.patience, given.output_limit, given.coverage)
     broker = _broker(given, made)
     try:
         command = [check(given.program), *given.arguments]

@@ -77,4 +77,6 @@ def kept(run: Run) -> Kept:
 def _result(run: Run, why: str | None) -> Result:
     turns = run.turns
     points = tuple(Choice(*point) for point in run.choice_points or ())
-    return Result(why, run.questions, turns.steps, run.choices, text_of(run.switches), "", turns.passed, turns.skipped, turns.examined, points)
+    covered = () if run.coverage is None else tuple(run.coverage.met.items())
+    counts = turns.passed, turns.skipped, turns.examined
+    return Result(why, run.questions, turns.steps, run.choices, text_of(run.switches), "", *counts, points, covered)

@@ -6,7 +6,8 @@ from collections.abc import Sequence
 from typing import NamedTuple
 from urllib.parse import unquote
 
-from .blame import ended_by, loops, unheard_of
+from .blame import ended_by, gone, loops, unheard_of
+from .coverage import Met
 from .describe import Place, Waiting, signal_name, waiting
 from .schedules import Switch
 from .table import Options
@@ -44,6 +45,8 @@ class Result(NamedTuple):
     examined: int = 0
     """Registers that were read or set, and steps by an instruction."""
     points: tuple[Choice, ...] = ()
+    covered: tuple[tuple[Met, bool], ...] = ()
+    """Calls at which others could go on, and whether one did."""
 
     @property
     def switches(self) -> tuple[Switch, ...]:
@@ -77,10 +80,6 @@ def printed_too_much(limit: int) -> str:
 
 def hang(pid: int, tid: int, patience: float) -> str:
     return f"hang: {pid}/{tid} has made no call for {patience:g} s"
-
-
-def gone(pid: int) -> str:
-    return f"process {pid} has ended, or closed its socket, outside of the model"
 
 
 def late(pid: int, told: int, status: int) -> str:

@@ -246,4 +246,7 @@ def stat(turns: Turns, lwp: Lwp, pid: int) -> Leg:
     if str(pid) not in reply[1:]:
         return error(["error", "ESRCH"])
     process = turns.table.processes.get(pid)
-    return f"ok 2 {process.parent} {process.tracer or 0} {len(process.lwps)} {process.real}" if process else "ok 5 0 0 0 0"
+    if process is None:
+        return "ok 5 0 0 0 0 0"
+    lwps = process.lwps
+    return f"ok 2 {process.parent} {process.tracer or 0} {len(lwps)} {process.real} {lwps[0].tid if lwps else 0}"

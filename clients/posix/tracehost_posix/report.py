@@ -8,8 +8,9 @@ import shutil
 import subprocess
 import sys
 import tempfile
-from collections.abc import Iterable
+from collections.abc import Iterable, Mapping
 
+from .coverage import Met
 from .describe import CODES, Place, call_name
 
 TOP = os.path.realpath(os.path.join(os.path.dirname(__file__), "..", "..", ".."))
@@ -40,6 +41,17 @@ def places(found: Iterable[Place]) -> list[str]:
         at = f" at {at}" if at else ""
         texts.append("; ".join(filter(None, [f"{place.who} in {call_name(place.asked)}{at}" if place.who else "", place.then])))
     return texts
+
+
+def unpreempted(covered: Mapping[Met, bool]) -> tuple[list[str], int]:
+    """The calls, with file and line, at which another LWP could go on and never did; and of how many."""
+    lines = _source_lines({(met.program, met.where) for met in covered if met.program and met.where})
+    calls: dict[str, bool] = {}
+    for met, preempted in covered.items():
+        at = lines.get((met.program, met.where), "")
+        call = f"{met.call} at {at}" if at else met.call
+        calls[call] = calls.get(call, False) or preempted
+    return sorted(call for call, preempted in calls.items() if not preempted), len(calls)
 
 
 def _source_lines(addresses: set[tuple[str, int]]) -> dict[tuple[str, int], str]:

@@ -13,7 +13,8 @@ from collections.abc import Callable
 from typing import NoReturn
 
 from . import blame, event_calls, outcome, process_calls, questions, waiting_calls
-from .blame import Blame, ended_by, loops, origin, unheard_of
+from .blame import Blame, Gone, ended_by, loops, origin, unheard_of
+from .coverage import Coverage
 from .describe import Place, name_of, place_of, waiting_of
 from .model import Step, View
 from .program import ENDING, LOOK, Program, pair
@@ -25,14 +26,6 @@ from .watch import Watch
 
 BETWEEN_POKES = 0.1
 """A thread that computes asks `poke` after so many seconds of its processor's time."""
-
-
-class Gone(Failed):
-    """A process has ended, or closed its socket, outside of the model."""
-
-    def __init__(self, process: Process) -> None:
-        super().__init__(outcome.gone(process.pid))
-        self.real = process.real
 
 
 class Run:
@@ -53,6 +46,7 @@ class Run:
         """All choices, where they are wanted."""
         self.places: list[Place] | None = [] if places else None
         self.blame = Blame(places)
+        self.coverage = Coverage(self.table) if options.coverage else None
         self.on_failure: Callable[[int], None] | None = None
         """Called with the host's number of the process that fails, before it ends."""
         self._ends: dict[int, Process] = {}
@@ -152,6 +146,8 @@ class Run:
             asleep = self._asleep(can)
             plain = plain_choice(can, current)
             chosen = self.schedule.choose(can, asleep, current, point, plain)
+            if self.coverage is not None and current is not None and current in can and not current.yields and chosen is not None:
+                self.coverage.note(current, chosen)
             if self.choices_made is not None:
                 tids = tuple(lwp.tid for lwp in can), tuple(lwp.tid for lwp in asleep)
                 self.choices_made.append(Choosing(*tids, chosen.tid if chosen is not None else None))
@@ -177,6 +173,8 @@ class Run:
         stays = able and self.schedule.stays(current, point)
         if stays and self.choices_made is not None:
             self.choices_made.append(None)
+        if stays and self.coverage is not None:
+            self.coverage.note(current, current)
         return stays
 
     def _look_again(self) -> bool:

@@ -202,7 +202,8 @@ def sigwait(turns: Turns, lwp: Lwp, bits: int, nanoseconds: int) -> Leg:
     while not answer:
         got = yield from turns.user(lwp)
         if any(number in wanted for number in got):
-            answer = f"ok {next(number for number in got if number in wanted)}"
+            number = next(number for number in got if number in wanted)
+            answer = f"ok {' '.join(map(str, turns.info_of(lwp, number)))}"
         elif got or lwp.cancelled:
             answer = EINTR
         elif until is not None and turns.table.now >= until:

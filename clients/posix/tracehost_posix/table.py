@@ -87,6 +87,8 @@ class Options(NamedTuple):
     """A thread that makes no call for so many seconds hangs."""
     output_limit: int = 64 << 20
     """A run whose output is kept may print so many bytes."""
+    coverage: bool = False
+    """Calls at which others could go on are noted."""
 
 
 class Rung:

@@ -189,7 +189,7 @@ class Turns:
 
     def _pass_over(self, lwp: Lwp, signal: int) -> Part:
         """The tracer takes the stop and lets the process go on, before anybody else may look."""
-        self._info(lwp, signal)  # nobody gets it
+        self.info_of(lwp, signal)  # nobody gets it
         process, tracer = lwp.process, self.table.processes.get(lwp.process.tracer or 0)
         if tracer is None:
             return
@@ -225,14 +225,14 @@ class Turns:
 
     def _stopped(self, lwp: Lwp, signal: int, by_signal: bool) -> None:
         self.met(lwp.process, signal)
-        lwp.info = self._info(lwp, signal) if by_signal else Info()
+        lwp.info = self.info_of(lwp, signal) if by_signal else Info()
         lwp.process.reporting = lwp
         lwp.process.stops = True
         lwp.process.maybe.discard(signal)
         self.child_news(lwp.process, CLD_STOPPED if lwp.process.tracer is None else CLD_TRAPPED, signal)
 
     @staticmethod
-    def _info(lwp: Lwp, signal: int, else_from: Info = Info()) -> Info:
+    def info_of(lwp: Lwp, signal: int, else_from: Info = Info()) -> Info:
         """What is known of a signal that is met; where nobody has sent it, the kernel has."""
         sent = lwp.sent if signal in lwp.sent else lwp.process.sent
         known = sent.pop(signal, else_from)
@@ -250,7 +250,7 @@ class Turns:
         if action.reset:
             yield from self.dispose(lwp, signal, "default")
         yield from self.block(lwp, old | action.mask | (frozenset() if action.no_defer else {signal}))
-        yield Handle(signal, self._info(lwp, signal, lwp.info))
+        yield Handle(signal, self.info_of(lwp, signal, lwp.info))
         yield from self.block(lwp, old)
 
     def dispose(self, lwp: Lwp, signal: int, action: str, caught: Caught | None = None) -> Replied:

@@ -18,7 +18,7 @@ from typing import Any, Literal
 import pytest
 
 sys.path.insert(0, str(pathlib.Path(__file__).resolve().parents[1]))
-from tracehost import Action, Call, Compute, Decision, Enter, Held, Host, Leave, Raise, Request, Rule, Signal
+from tracehost import Action, Call, Compute, Decision, Enter, Held, Host, Leave, New, Raise, Request, Rule, Signal, User
 from tracehost.names import CALLER_OPS
 from tracehost.refusals import Asked, Rows, asked_by, causes
 
@@ -217,6 +217,28 @@ def test_the_limit_of_lwps(host: Host) -> None:
         user.turn(lwp, Enter(Call.THR_NEW))
         user.turn(lwp, Leave())
     assert told(user.spawn) == "spawn() by user 1001: EAGAIN, user 1001 has 1000 LWPs"
+
+
+def new_lwp(user: User, lwp: int) -> int:
+    user.turn(lwp, Enter(Call.THR_NEW))
+    made = user.turn(lwp, Leave())
+    assert isinstance(made, New)
+    return made.tid
+
+
+def test_a_younger_lwp_with_a_lower_number() -> None:
+    """The search for a free number has gone round, so LWPs in order of birth don't have rising numbers."""
+    with Host(transport="library") as host:
+        user = host.user(1001)
+        lwp = user.spawn().tid
+        numbers = range(lwp + 1, lwp + 3999)
+        for number in numbers:
+            assert new_lwp(user, lwp) == number
+            user.turn(number, Enter(Call.THR_EXIT))
+            user.turn(number, Leave())
+        assert [new_lwp(user, lwp), new_lwp(user, lwp)] == [lwp + 3999, lwp + 1]
+        for number in (lwp, lwp + 3999, lwp + 1):
+            assert told(lambda: user.process(1000).ptrace(Request.PT_ATTACH, number)).endswith("a process can't trace itself")
 
 
 def test_an_ended_target_and_cycles(host: Host) -> None:

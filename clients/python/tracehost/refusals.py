@@ -59,7 +59,7 @@ class Asked(NamedTuple):
 
 
 class Rows:
-    """A user's rows by number: processes and LWPs both have rising ones."""
+    """A user's rows by number. Processes have rising numbers. LWPs are in order of birth, and numbers are used again."""
 
     def __init__(self, raw: RawRows) -> None:
         self._processes, self._lwps = raw
@@ -71,8 +71,7 @@ class Rows:
         return self._processes[place] if place < self.processes and self._pids[place] == pid else None
 
     def lwp(self, lwp: int) -> Optional[CLwp]:
-        place = bisect_left(self._lwpids, lwp)
-        return self._lwps[place] if place < self.lwps and self._lwpids[place] == lwp else None
+        return next((self._lwps[place] for place, tid in enumerate(self._lwpids) if tid == lwp), None)
 
     def target(self, number: int) -> Optional[CProcess]:
         """The process that a target of ptrace(2) names, by its number or an LWP's."""

@@ -25,5 +25,20 @@ struct fpreg {
 struct dbreg {
 	uint64_t dr[16];
 };
+#define DBREG_DR7_LOCAL_ENABLE 0x01
+#define DBREG_DR7_GLOBAL_ENABLE 0x02
+#define DBREG_DR7_LEN_1 0x00
+#define DBREG_DR7_LEN_2 0x01
+#define DBREG_DR7_LEN_8 0x02
+#define DBREG_DR7_LEN_4 0x03
+#define DBREG_DR7_EXEC 0x00
+#define DBREG_DR7_WRONLY 0x01
+#define DBREG_DR7_RDWR 0x03
+#define DBREG_DR7_MASK(i) (0xful << ((i) * 4 + 16) | 0x3ul << (i) * 2)
+#define DBREG_DR7_SET(i, len, access, enable) ((uint64_t)((len) << 2 | (access)) << ((i) * 4 + 16) | (uint64_t)(enable) << (i) * 2)
+#define DBREG_DR7_ENABLED(d, i) (((d) & 0x3ul << (i) * 2) != 0)
+#define DBREG_DR7_ACCESS(d, i) ((d) >> ((i) * 4 + 16) & 0x3)
+#define DBREG_DR7_LEN(d, i) ((d) >> ((i) * 4 + 18) & 0x3)
+#define DBREG_DRX(d, x) ((d)->dr[(x)])
 
 #endif

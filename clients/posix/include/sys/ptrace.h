@@ -37,8 +37,8 @@
 #define PT_SETREGS 34
 #define PT_GETFPREGS 35
 #define PT_SETFPREGS 36
-#define PT_GETDBREGS 37 /* EINVAL */
-#define PT_SETDBREGS 38 /* EINVAL */
+#define PT_GETDBREGS 37
+#define PT_SETDBREGS 38
 #define PT_VM_TIMESTAMP 40
 #define PT_VM_ENTRY 41
 #define PT_FIRSTMACH 64

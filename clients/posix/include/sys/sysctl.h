@@ -6,6 +6,7 @@
 
 #define CTL_KERN 1
 #define KERN_PROC 14
+#define KERN_PROC_ALL 0 /* ENOENT */
 #define KERN_PROC_PID 1
 #define KERN_PROC_ARGS 7
 #define KERN_PROC_PATHNAME 12

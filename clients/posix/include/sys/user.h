@@ -17,6 +17,7 @@ struct kinfo_proc {
 	uid_t ki_uid, ki_ruid, ki_svuid;
 	gid_t ki_rgid, ki_svgid;
 	int ki_numthreads;
+	lwpid_t ki_tid; /* of its first thread */
 	long ki_flag; /* P_TRACED */
 	char ki_stat; /* SRUN, or SZOMB */
 	char ki_comm[COMMLEN + 1], ki_tdname[TDNAMLEN + 1];

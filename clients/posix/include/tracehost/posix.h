@@ -13,6 +13,7 @@
 #error "tracehost-posix needs Linux on x86-64"
 #endif
 
+#ifndef __ASSEMBLER__
 #include <tracehost/names.h>
 
 #include <fcntl.h>
@@ -91,6 +92,12 @@ long long strtonum(const char *, long long, long long, const char **);
 #ifdef __cplusplus
 }
 #endif
+#undef sigpause /* FreeBSD's takes a mask */
+#define sigpause tracehost_sigpause
+#undef pthread_yield
+#define pthread_yield sched_yield
+#endif /* a source in assembly has no calls that are renamed */
+
 #ifdef TRACEHOST_FREEBSD /* tracehost-cc --freebsd: the host's headers above are still for the host */
 #include <osreldate.h>
 #define __FreeBSD__ 14
@@ -99,9 +106,5 @@ long long strtonum(const char *, long long, long long, const char **);
 #undef linux
 #undef __gnu_linux__
 #endif
-#undef sigpause /* FreeBSD's takes a mask */
-#define sigpause tracehost_sigpause
-#undef pthread_yield
-#define pthread_yield sched_yield
 
 #endif

@@ -1,21 +1,21 @@
-/* Signals for threads that sleep.
- * schedules: 400
+/* A signal for a thread that sleeps once, or three times with another one blocked.
+ * flags: -DSLEEPS=1 | -DSLEEPS=3
+ * schedules: 1000
  * natively: no */
 #include <pthread.h>
 #include <signal.h>
 #include <unistd.h>
-static int n;
 static void h(int s)
 {
-	n++;
 }
 static void *th(void *a)
 {
 	sigset_t m;
 	sigemptyset(&m);
 	sigaddset(&m, SIGUSR1);
-	pthread_sigmask(SIG_BLOCK, &m, 0);
-	for (int i = 0; i < 3; i++)
+	if (SLEEPS > 1)
+		pthread_sigmask(SIG_BLOCK, &m, 0);
+	for (int i = 0; i < SLEEPS; i++)
 		sleep(60);
 	return 0;
 }
@@ -25,7 +25,7 @@ int main(void)
 	signal(SIGUSR2, h);
 	pthread_create(&t, 0, th, 0);
 	pthread_kill(t, SIGUSR2);
-	for (int i = 0; i < 3; i++)
+	for (int i = 0; i < SLEEPS; i++)
 		sleep(60);
 	pthread_join(t, 0);
 	return 0;

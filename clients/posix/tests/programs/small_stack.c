@@ -1,5 +1,8 @@
-/* A thread with a stack of 32 KB.
- * prints: ok */
+/* A thread with a small stack.
+ * flags: -DSIZE=32768 | -DSIZE=PTHREAD_STACK_MIN
+ * prints: ok
+ * schedules: 40 */
+#include <limits.h>
 #include <pthread.h>
 #include <stdio.h>
 static void *t(void *a)
@@ -11,7 +14,7 @@ int main(void)
 	pthread_attr_t a;
 	pthread_t p;
 	pthread_attr_init(&a);
-	pthread_attr_setstacksize(&a, 32768);
+	pthread_attr_setstacksize(&a, SIZE);
 	int r = pthread_create(&p, &a, t, 0);
 	if (r)
 		return 2;

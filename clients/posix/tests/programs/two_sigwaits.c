@@ -1,4 +1,5 @@
-/* Two threads wait for one signal each.
+/* Two threads wait for one signal each; the signals are sent at once, or when both wait.
+ * flags: -DWAITS=0 | -DWAITS=1
  * prints: 2 */
 #include <pthread.h>
 #include <signal.h>
@@ -21,6 +22,8 @@ int main(void)
 	pthread_sigmask(SIG_BLOCK, &s, 0);
 	for (int i = 0; i < 2; i++)
 		pthread_create(p + i, 0, t, 0);
+	if (WAITS)
+		sleep(1);
 	for (int i = 0; i < 2; i++) {
 		kill(getpid(), SIGUSR1);
 		sleep(1);
