@@ -38,7 +38,7 @@ def sources() -> dict[str, tuple[pathlib.Path, list[str]]]:
         found[f"race_{path.stem}"], found[f"right_{path.stem}"] = (path, [""]), (path, ["-DRIGHT"])
     for path in sorted((POSIX / "tests" / "programs").glob("*.c*")):
         flags = re.search(r"^ \* flags: (.*?) *$", path.read_text().partition("*/")[0], re.MULTILINE)
-        found[f"program_{path.stem}"] = (path, flags[1].split() if flags else [""])
+        found[f"program_{path.stem}"] = (path, flags[1].partition("|")[0].split() if flags else [""])
     for name in ("examples/truss.c", "examples/traced.c", "tests/truss_interrupted.c"):
         found[pathlib.Path(name).stem] = (POSIX / name, [""])
     return found
