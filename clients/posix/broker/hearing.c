@@ -140,6 +140,8 @@ static bool hear(struct lwp *l, bool amid)
 		return false;
 	bool is_poke = reading == ASKS && q.call->body == poke;
 	l->pokes = is_poke ? l->pokes + 1 : 0;
+	if (is_poke) /* a thread that computes leaves no time without a message */
+		end_if_python_is_gone();
 	if (l->pokes * between_pokes > options.patience)
 		hangs(l);
 	count_busy(l);
