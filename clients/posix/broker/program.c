@@ -201,8 +201,7 @@ static void end_orphans(void)
 			fclose(list);
 		if (!found)
 			return;
-		while (waitpid(-1, NULL, 0) > 0)
-			;
+		waitpid(-1, NULL, 0); /* one: the children of those that end come here meanwhile */
 	}
 }
 
