@@ -14,12 +14,13 @@ static struct thread {
 	struct own *own;
 	struct { void *lowest; size_t size; } stack; /* what the program has asked for, if the host's is another; else no size */
 } threads[THREADS];
+static int used; /* places behind these are empty */
 static int living; /* threads that haven't begun to end */
 static pthread_key_t ending;
 
 static struct thread *find(pthread_t thread)
 {
-	for (int i = 0; i < THREADS; i++)
+	for (int i = 0; i < used; i++)
 		if (threads[i].tid != 0 && pthread_equal(threads[i].thread, thread))
 			return &threads[i];
 	return NULL;
@@ -35,6 +36,7 @@ static void note(struct thread thread)
 		tracehost_broken("too many threads");
 	}
 	threads[i] = thread;
+	used = i < used ? used : i + 1;
 	living++;
 }
 
@@ -97,8 +99,8 @@ void tracehost_make_key(void)
 
 void tracehost_only_thread(int tid)
 {
-	memset(threads, 0, sizeof threads);
-	living = 0;
+	memset(threads, 0, used * sizeof threads[0]); /* not all: each page that a fork's child writes to costs time */
+	used = living = 0;
 	note((struct thread){.thread = pthread_self(), .tid = tid});
 	be_noted();
 }

@@ -2,7 +2,7 @@
 
 Each module has one thought:
 
-- `model`: the pipe to ``tracehost --lines``, of which each run has a user;
+- `limits`: the numbers of a user; `model`: the pipe to ``tracehost --lines``, of which each run has a user;
 - `table`: the processes and LWPs of a run, and who waits for what;
 - `turns`: how an LWP makes a step, and waits where it can't;
 - `answers`: a reply of the model, for the runtime;
@@ -12,7 +12,9 @@ Each module has one thought:
 - `schedules`: the choices;
 - `questions`: what the runtime asks;
 - `describe`: who waits in which call, and for whom; `blame`: the place at which a run has failed;
-- `runner`, `pool`: runs one after the other, and on several processors;
+- `outcome`: what comes of a run, and the words for it;
+- `runner`, `in_python`, `compiled`, `pool`: runs one after the other, by the broker in Python or the compiled one (broker/), and
+  on several processors;
 - `search`: many schedules, and the shortest that fails;
 - `record`: a run as a scenario, and as a schedule to run again;
 - `report`: a failing run, with its places in the program;

@@ -6,6 +6,7 @@ import os
 import signal
 import traceback
 from collections import Counter, deque
+from collections.abc import Sequence
 
 from .describe import Place, place_of
 from .table import Failed, Lwp, Process
@@ -18,7 +19,7 @@ class Gone(Failed):
     """A process has ended, or closed its socket, outside of the model."""
 
     def __init__(self, process: Process) -> None:
-        super().__init__(f"process {process.pid} has ended, or closed its socket, outside of the model")
+        super().__init__(gone(process.pid))
         self.real = process.real
 
 
@@ -28,7 +29,7 @@ class Blame:
     def __init__(self, wanted: bool) -> None:
         self._wanted = wanted
         self.places: list[Place] = []
-        self._last: deque[Place] = deque(maxlen=LAST)
+        self.last: deque[Place] = deque(maxlen=LAST)
 
     def at(self, lwp: Lwp, then: str = "") -> None:
         """The run fails where this LWP is."""
@@ -38,12 +39,18 @@ class Blame:
     def asks(self, lwp: Lwp) -> None:
         """One of the last questions."""
         if self._wanted:
-            self._last.append(place_of(lwp, ""))
+            self.last.append(place_of(lwp, ""))
 
-    def loops(self) -> None:
-        """The run has no end: who has asked most of the last questions."""
-        most = Counter(self._last).most_common(LOOPS)
-        self.places = [place._replace(then=f"{count} of the last {len(self._last)} questions") for place, count in most]
+
+def loops(last: Sequence[Place]) -> list[Place]:
+    """A run has no end: who has asked most of the last questions."""
+    most = Counter(last).most_common(LOOPS)
+    return [place._replace(then=f"{count} of the last {len(last)} questions") for place, count in most]
+
+
+def gone(pid: int) -> str:
+    """A process that has ended in the host only."""
+    return f"process {pid} has ended, or closed its socket, outside of the model"
 
 
 def ended_by(status: int) -> str:

@@ -15,16 +15,16 @@ from collections import deque
 from collections.abc import Callable, Sequence
 from typing import Any, NoReturn
 
-from . import record, report, search
+from . import compiled, record, report, search
+from .compiled import Unable, started
 from .coverage import Met
-from .model import ModelFailed
+from .outcome import Outcome, Result
 from .pool import Pool, WorkerEnded
 from .program import NotRunnable, check
-from .report import say
-from .run import Run
-from .runner import Result, Runner, Setting, Task, verify
-from .schedules import Switch
-from .table import Broken, Options
+from .report import say, say_once
+from .runner import Runner, Setting, Task, verify
+from .schedules import Switch, text_of
+from .table import Broken, ModelFailed, Options
 
 FAILED, USAGE, BROKEN, ANOTHER_WAY = 1, 2, 3, 4
 LAST = 100
@@ -96,6 +96,8 @@ def parser() -> Parser:
     add("--verify", action="store_true", help="has each run's record replayed by tracehost --expect")
     add("--coverage", action="store_true", help="prints the calls at which another could go on, and never did")
     add("--figures", action="store_true", help="prints what the runs took")
+    add("--broker", choices=["auto", "c", "python"], default="auto", help="what runs a schedule: the compiled broker, if it is built and "
+        "--model and --coverage aren't given, or the one in Python; both make the same runs")
     add("--model", metavar="PROGRAM", help="the program tracehost; else $TRACEHOST, else tracehost on the path")
     made.add_argument("--version", action="version", version=f"tracehost-run {VERSION}")
     add("program", nargs="?", metavar="PROGRAM")
@@ -136,6 +138,22 @@ def _model(given: argparse.Namespace, made: Parser) -> str:
     return found
 
 
+def _broker(given: argparse.Namespace, made: Parser) -> str | None:
+    """The compiled broker, if it is to run the program."""
+    if given.broker == "python" or given.broker == "auto" and (given.model is not None or given.coverage):
+        return None
+    if given.coverage:
+        made.error("--broker c doesn't have --coverage")
+    if not compiled.has(Task(given.seed or given.schedules, given.depth, given.length or 0)):
+        return None
+    found = compiled.find()
+    if found is None and given.broker == "c":
+        made.error("--broker c: there is no compiled broker; make -C clients/posix says why")
+    if found is None:
+        say_once("the compiled broker isn't built: the slower one in Python runs the program")
+    return found
+
+
 class Command:
     """What was asked for."""
 
@@ -143,7 +161,7 @@ class Command:
         self.given, self.setting = given, setting
         self.began = time.monotonic()
         self.runs = self.questions = self.steps = self.passed = self.skipped = self.examined = self.most = 0
-        self.schedules: set[tuple[Switch, ...]] = set()
+        self.schedules: set[str] = set()
         self.covered: dict[Met, bool] = {}
         self.news: deque[bool] = deque(maxlen=LAST)
         """Of the last runs, whether nothing like them had run before."""
@@ -157,8 +175,8 @@ class Command:
         self.skipped += result.skipped
         self.examined += result.examined
         self.most = max(self.most, result.questions)
-        self.news.append(result.switches not in self.schedules)
-        self.schedules.add(result.switches)
+        self.news.append(result.schedule not in self.schedules)
+        self.schedules.add(result.schedule)
         self._cover(dict(result.covered))
         if self.given.digest:
             print(f"{'plain' if task.seed is None else task.seed} {result.digest}")
@@ -169,25 +187,29 @@ class Command:
 
     # ---- one run
 
-    def one(self, task: Task, quiet: bool) -> tuple[Run, str | None, int]:
+    def one(self, task: Task, quiet: bool) -> Outcome:
         """A run with its report."""
-        runner = Runner(self.setting, quiet)
+        runner = started(self.setting, quiet)
         try:
-            run, why = runner.run(task, self._tool(), places=True)
-            output = runner.output
+            return self._one(runner, task, quiet)
         finally:
             runner.close()
+
+    def _one(self, runner: Runner, task: Task, quiet: bool) -> Outcome:
+        outcome = runner.run(task, self._tool(), places=True)
         if quiet:
-            sys.stdout.buffer.write(output)
+            sys.stdout.buffer.write(outcome.output)
             sys.stdout.buffer.flush()
-        if self.setting.verify:
-            why = why or verify(run, self.setting)
-        self.runs, self.questions, self.steps = self.runs + 1, self.questions + run.questions, self.steps + run.turns.steps
-        self.passed, self.skipped, self.examined = run.turns.passed, run.turns.skipped, run.turns.examined
-        self._cover(run.coverage.met if run.coverage is not None else {})
+        result = outcome.result
+        if self.setting.verify and result.why is None:
+            result = result._replace(why=verify(outcome.kept, self.setting))
+            outcome = outcome._replace(result=result)
+        self.runs, self.questions, self.steps = self.runs + 1, self.questions + result.questions, self.steps + result.steps
+        self.passed, self.skipped, self.examined = result.passed, result.skipped, result.examined
+        self._cover(dict(result.covered))
         if self.given.digest and self.given.schedules is None:
-            print(record.digest(run.turns.kept, output))
-        return run, why, len(output)
+            print(record.digest(outcome.kept, outcome.output))
+        return outcome
 
     def _tool(self) -> Callable[[int], None] | None:
         words = ["gdb", "-q", "-p"] if self.given.gdb else shlex.split(self.given.tool or "")
@@ -204,22 +226,23 @@ class Command:
 
     def plain(self, task: Task) -> int:
         """The plain schedule, that of a seed, or one with switches."""
-        run, why, _ = self.one(task, quiet=self.given.digest)
-        self._record(run, why)
-        if why is not None and run.switches:
-            self._switches(run)
-        if run.questions <= 1 and why is None:
+        outcome = self.one(task, quiet=self.given.digest)
+        result = outcome.result
+        self._record(outcome)
+        if result.why is not None and result.switches:
+            self._switches(outcome)
+        if result.questions <= 1 and result.why is None:
             say("the program has made no call but its end")
-        status = self._end(why)
-        self._blame(run)
-        return status or self._unmet(task, run)
+        status = self._end(result.why)
+        self._blame(outcome)
+        return status or self._unmet(task, result)
 
-    def _unmet(self, task: Task, run: Run) -> int:
+    def _unmet(self, task: Task, result: Result) -> int:
         """Switches that were asked for have to be met."""
-        unmet = [switch for switch in task.switches or () if switch not in run.switches]
+        unmet = [switch for switch in task.switches or () if switch not in result.switches]
         if not unmet:
             return 0
-        say(f"not met: {record.text_of(unmet)}: the program isn't the one that these switches are of")
+        say(f"not met: {text_of(unmet)}: the program isn't the one that these switches are of")
         return ANOTHER_WAY
 
     def replay(self) -> int:
@@ -227,14 +250,15 @@ class Command:
         path = self.given.replay
         switches = record.switches_of(self.given.switches)
         task = Task(switches=tuple(Switch(tid, point, to) for (tid, point), to in switches.items()))
-        run, why, _ = self.one(task, quiet=False)
-        differs = record.difference(path, run)
+        outcome = self.one(task, quiet=False)
+        why = outcome.result.why
+        differs = record.difference(path, outcome.kept)
         if why is not None:
             say(why)
         if differs is not None:
             say(f"goes another way than {path}: {differs}")
             return ANOTHER_WAY
-        say(f"goes as recorded: {len(run.turns.kept)} steps")
+        say(f"goes as recorded: {len(outcome.kept)} steps")
         return FAILED if why is not None else 0
 
     # ---- many
@@ -244,7 +268,7 @@ class Command:
             return Task()
         length = self.given.length
         if length is None:
-            runner = Runner(self.setting)
+            runner = started(self.setting)
             length = runner.result(Task()).choices
             runner.close()
         return Task(depth=self.given.depth, length=length)
@@ -259,7 +283,6 @@ class Command:
         task = self._task() if given.preemptions is None else Task()
         pool = Pool(self.setting, given.jobs, given.digest)
         found = None
-        ended = ""
         try:
             if given.preemptions is None:
                 found = search.seeds(pool, given.schedules, task, self.heard)
@@ -271,32 +294,32 @@ class Command:
             bound = f"with at most {given.preemptions} preemptions"
             ended = f"all {self.runs} schedules {bound} passed" if end.complete else f"{self.runs} schedules {bound} passed, and there are more"
         finally:
-            pool.close()
+            if found is None:
+                pool.close()
         if found is None:
             say(ended)
             return self._end(None) or self._untried()
-        return self._failing(*found)
+        try:
+            return self._failing(pool, *found)
+        finally:
+            pool.close()
 
-    def _failing(self, task: Task, result: Result) -> int:
+    def _failing(self, pool: Pool, task: Task, result: Result) -> int:
         how = f"a schedule with {len(result.switches)} switches" if task.switches is not None else task.name()
         say(f"fails under {how}, after {self.runs - 1} schedules that passed: {result.why}")
         if result.why is not None and result.why.startswith("the record is"):
             return FAILED
-        switches = result.switches
+        runner = pool.runner()
+        switches = search.shrink(runner, result) if result.switches else result.switches
+        outcome = self._one(runner, Task(switches=switches), quiet=True)
         if switches:
-            runner = Runner(self.setting)
-            try:
-                switches = search.shrink(runner, result)
-            finally:
-                runner.close()
-        run, why, _ = self.one(Task(switches=switches), quiet=True)
-        if switches:
-            enough = "1 is" if len(run.switches) == 1 else f"{len(run.switches)} are"
-            say(f"of its {len(result.switches)} switches {enough} enough: --switches {record.text_of(run.switches)}")
-        self._switches(run)
-        self._record(run, why)
-        status = self._end(why or result.why)
-        self._blame(run)
+            left = len(outcome.result.switches)
+            enough = "1 is" if left == 1 else f"{left} are"
+            say(f"of its {len(result.switches)} switches {enough} enough: --switches {outcome.result.schedule}")
+        self._switches(outcome)
+        self._record(outcome)
+        status = self._end(outcome.result.why or result.why)
+        self._blame(outcome)
         return status
 
     def _untried(self) -> int:
@@ -308,23 +331,24 @@ class Command:
 
     # ---- what is printed at the end
 
-    def _switches(self, run: Run) -> None:
-        for line in report.places(run.places or ()):
+    @staticmethod
+    def _switches(outcome: Outcome) -> None:
+        for line in report.places(outcome.places):
             print(f"  {line}", file=sys.stderr)
 
     @staticmethod
-    def _blame(run: Run) -> None:
-        for line in report.places(run.blame.places):
+    def _blame(outcome: Outcome) -> None:
+        for line in report.places(outcome.blamed):
             print(f"  {line}", file=sys.stderr)
 
-    def _record(self, run: Run, why: str | None) -> None:
+    def _record(self, outcome: Outcome) -> None:
         path = self.given.record
         if path is None:
             return
-        setting = self.setting
+        setting, why = self.setting, outcome.result.why
         options = {"calls": setting.options.calls, "strict": setting.options.strict, "limit": setting.options.limit, "failed": why}
-        record.write(path, run, setting.command, setting.kill_on_debugger_exit, {**options, "kill_on_debugger_exit": setting.kill_on_debugger_exit})
-        steps = ", ".join(str(place.step) for place in run.places or ())
+        record.write(path, outcome, setting.command, setting.kill_on_debugger_exit, {**options, "kill_on_debugger_exit": setting.kill_on_debugger_exit})
+        steps = ", ".join(str(place.step) for place in outcome.places)
         words = " ".join([os.path.basename(setting.command[0]), *setting.command[1:]])
         title = f"{words}: {why or 'passed'}" + (f" (switches before step {steps})" if steps else "")
         trouble = report.page(setting.model, path, title)
@@ -387,10 +411,11 @@ def main(words: Sequence[str] | None = None) -> int:
     ctypes.CDLL(None).personality(_ADDR_NO_RANDOMIZE)  # addresses are the same in each run
     kill = None if given.kill_on_debugger_exit is None else given.kill_on_debugger_exit == "1"
     options = Options(given.calls, given.strict, given.limit, given.patience, given.output_limit, given.coverage)
+    broker = _broker(given, made)
     try:
         command = [check(given.program), *given.arguments]
-        setting = Setting(command, model, options, kill, given.sleeps == "any", given.verify)
-        return _run(Command(given, setting))
+        setting = Setting(command, model, options, kill, given.sleeps == "any", given.verify, broker)
+        return _run_by_either(given, setting)
     except NotRunnable as why:
         if str(why):  # else the program has said it
             say(str(why))
@@ -403,6 +428,17 @@ def main(words: Sequence[str] | None = None) -> int:
         return BROKEN
     except KeyboardInterrupt:
         return 130
+
+
+def _run_by_either(given: argparse.Namespace, setting: Setting) -> int:
+    try:
+        return _run(Command(given, setting))
+    except Unable as lacks:
+        if given.broker == "c":
+            raise Broken(f"the compiled broker doesn't have this: {lacks}") from lacks
+        status = _run(Command(given, setting._replace(broker=None)))
+        say(f"the broker in Python has run the program: the compiled one doesn't have this: {lacks}")
+        return status
 
 
 def _run(command: Command) -> int:

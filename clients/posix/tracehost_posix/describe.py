@@ -5,8 +5,6 @@ from __future__ import annotations
 import os
 from typing import NamedTuple
 
-from tracehost import Signal
-
 from .table import Lwp
 
 class Place(NamedTuple):
@@ -33,7 +31,11 @@ def place_of(lwp: Lwp, then: str, step: int = 0) -> Place:
     return Place(name_of(lwp), lwp.asked, lwp.where - lwp.process.base if lwp.where else 0, program, then, step)
 
 
-SIGNALS: dict[int, str] = {int(signal): signal.name for signal in Signal}
+def signal_name(number: int) -> str:
+    """FreeBSD's name of a signal."""
+    from tracehost import Signal  # the package takes a while to load, and is rarely needed
+
+    return next((signal.name for signal in Signal if signal == number), str(number))
 
 
 _NAMES = {
@@ -138,20 +140,44 @@ def name_of(lwp: Lwp) -> str:
     return f"{lwp.process.pid}/{lwp.tid}" if lwp.socket is not None else f"the timer of {lwp.process.pid}"
 
 
-def waiting(lwp: Lwp) -> str:
+class Waiting(NamedTuple):
+    """An LWP that waits as a run ends."""
+
+    pid: int
+    tid: int
+    asked: str
+    stopped: bool
+    """It waits until its process may run again."""
+    tracer: int | None
+    reporting: bool
+    """Its process has been stopped."""
+    holder: int
+    """The LWP that holds the mutex it waits for; 0 if nobody does."""
+
+
+def waiting_of(lwp: Lwp) -> Waiting:
+    """What this LWP waits for."""
+    process, words = lwp.process, lwp.asked.split()
+    holder = 0
+    if words[:2] == ["again", "mutex"]:
+        holder = next((other.tid for other in process.lwps if other.real == int(words[2])), 0)
+    stopped = lwp.topics == (-process.pid,)
+    return Waiting(process.pid, lwp.tid, lwp.asked, stopped, process.tracer, process.reporting is not None, holder)
+
+
+def waiting(lwp: Waiting) -> str:
     """Who waits, and for whom."""
     words = lwp.asked.split()
-    name = name_of(lwp)
-    if lwp.topics is not None and lwp.topics == (-lwp.process.pid,):
-        tracer = lwp.process.tracer
-        return f"{name} is stopped, and waits for {tracer if tracer is not None else 'SIGCONT'}" if lwp.process.reporting else f"{name} doesn't run"
+    name = f"{lwp.pid}/{lwp.tid}"
+    if lwp.stopped:
+        tracer = lwp.tracer if lwp.tracer is not None else "SIGCONT"
+        return f"{name} is stopped, and waits for {tracer}" if lwp.reporting else f"{name} doesn't run"
     if words[0] == "wait":
         return f"{name} waits in wait4 for {'any child' if words[1] == '-1' else words[1]}"
     if words[0] == "join":
         return f"{name} waits for the end of LWP {words[1]}"
     if words[0] == "again" and words[1] == "mutex":
-        owner = next((o for o in lwp.process.lwps if o.real == int(words[2])), None)
-        return f"{name} waits for a mutex that {f'{owner.process.pid}/{owner.tid}' if owner else 'nobody'} holds"
+        return f"{name} waits for a mutex that {f'{lwp.pid}/{lwp.holder}' if lwp.holder else 'nobody'} holds"
     if words[0] == "again":
         return f"{name} waits in {words[1]}" + (f" of descriptor {words[2]}" if words[1] in ("read", "write") else "")
     return f"{name} waits in {call_name(lwp.asked)}"

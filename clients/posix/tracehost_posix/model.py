@@ -13,16 +13,11 @@ from typing import NamedTuple
 
 from tracehost import ProgramEnded
 
-FIRST_USER, USERS = 1001, 64
-PROCESSES, LWPS = 1000, 4000  # numbers of a user
-FIRST_PROCESS, FIRST_LWP = 1000, 100000  # of user 1001
+from .limits import FIRST_LWP, FIRST_PROCESS, FIRST_USER, LWPS, PROCESSES, USERS
+from .table import ModelFailed
 
 Reply = list[str]
 """The words of an answer, after the user and the step's number."""
-
-
-class ModelFailed(Exception):
-    """The model has ended, or refuses a step."""
 
 
 class Step(NamedTuple):

@@ -13,6 +13,7 @@ import socket
 import struct
 import subprocess
 
+from .outcome import SERVER_ENDED, server_silent
 from .table import Broken
 
 MARKER = b"tracehost posix runtime, protocol 1"
@@ -101,7 +102,7 @@ class Program:
         try:
             socket.send_fds(self._control, [b"run"], [given.fileno()])
         except OSError as why:
-            raise Broken("the program's server has ended") from why
+            raise Broken(SERVER_ENDED) from why
         finally:
             given.close()
         return own
@@ -112,7 +113,7 @@ class Program:
             self._control.send(b"sweep")
             words = self._hear().decode().split()[1:]
         except OSError as why:
-            raise Broken("the program's server has ended") from why
+            raise Broken(SERVER_ENDED) from why
         return {int(real): int(status) for real, _, status in (word.partition(":") for word in words)}
 
     def _hear(self) -> bytes:
@@ -123,7 +124,7 @@ class Program:
             except BlockingIOError:
                 self._process.send_signal(signal.SIGCONT)
         self._process.kill()
-        raise Broken(f"the program's server has said nothing for {self._patience:g} s")
+        raise Broken(server_silent(self._patience))
 
     def printed(self) -> int:
         """How many bytes the run has printed, if they are kept."""

@@ -7,6 +7,7 @@ from collections.abc import Callable
 from typing import NamedTuple
 
 from . import event_calls, process_calls, signal_calls, trace_calls, waiting_calls
+from .outcome import wrote
 from .table import Broken, Leg, Process
 
 CALLS: dict[str, Callable[..., Leg]] = {
@@ -83,7 +84,7 @@ def read(line: str, process: Process) -> Question:
     """The question that a thread of this process has sent; raises `Broken` for what the runtime doesn't say."""
     form = _FORM.fullmatch(line)
     if form is None:
-        raise Broken(f"process {process.pid} has written {line[:40]!r} on the runtime's socket")
+        raise Broken(wrote(process.pid, line))
     name, *words = form[2].split()
     if name == "broken":
         raise Broken(f"process {process.pid}: {' '.join(words)}")

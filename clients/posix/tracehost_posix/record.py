@@ -4,43 +4,34 @@ from __future__ import annotations
 
 import hashlib
 import json
-from collections.abc import Iterable
 from typing import Any
 
-from .model import FIRST_USER, Reply, Step
-from .run import Run
-from .schedules import Switch
-
-Kept = list[tuple[Step, Reply]]
+from .limits import FIRST_USER
+from .outcome import Kept, Outcome
 
 
 def scenario(kept: Kept, kill_on_debugger_exit: bool | None) -> str:
     """The steps, as docs/FORMAT.md has them."""
     head = "{" if kill_on_debugger_exit is None else f'{{"kill_on_debugger_exit":{int(kill_on_debugger_exit)},'
-    return head + '"steps":[\n' + ",\n".join(step.text() for step, _ in kept) + "\n]}\n"
+    return head + '"steps":[\n' + ",\n".join(step for step, _ in kept) + "\n]}\n"
 
 
 def lines(kept: Kept) -> str:
     """What the program `tracehost` prints for that scenario."""
-    return "".join(f"{FIRST_USER} {number} {' '.join(reply)}\n" for number, (_, reply) in enumerate(kept, 1))
+    return "".join(f"{FIRST_USER} {number} {reply}\n" for number, (_, reply) in enumerate(kept, 1))
 
 
 def digest(kept: Kept, output: bytes) -> str:
     """Two runs with the same digest have the same steps, the same answers and the same output."""
     text = hashlib.sha256()
     for step, reply in kept:
-        text.update(f"{step.text()}\n{' '.join(reply)}\n".encode())
+        text.update(f"{step}\n{reply}\n".encode())
     text.update(output)
     return text.hexdigest()[:16]
 
 
-def text_of(switches: Iterable[Switch]) -> str:
-    """Switches for --switches: `LWP.POINT:LWP,..`."""
-    return ",".join(f"{switch.tid}.{switch.point}:{switch.to}" for switch in switches)
-
-
 def switches_of(text: str) -> dict[tuple[int, int], int]:
-    """The reverse of `text_of`; ValueError where it isn't one."""
+    """The reverse of `schedules.text_of`; ValueError where it isn't one."""
     found = {}
     for item in filter(None, text.split(",")):
         at, _, to = item.partition(":")
@@ -49,14 +40,14 @@ def switches_of(text: str) -> dict[tuple[int, int], int]:
     return found
 
 
-def write(path: str, run: Run, command: list[str], kill_on_debugger_exit: bool | None, settings: dict[str, Any]) -> None:
+def write(path: str, outcome: Outcome, command: list[str], kill_on_debugger_exit: bool | None, settings: dict[str, Any]) -> None:
     """FILE, FILE.lines and FILE.schedule."""
-    kept = run.turns.kept
+    kept = outcome.kept
     with open(path, "w") as file:
         file.write(scenario(kept, kill_on_debugger_exit))
     with open(path + ".lines", "w") as file:
         file.write(lines(kept))
-    schedule = {"program": command, "switches": text_of(run.switches), **settings}
+    schedule = {"program": command, "switches": outcome.result.schedule, **settings}
     with open(path + ".schedule", "w") as file:
         json.dump(schedule, file, indent=1)
         file.write("\n")
@@ -72,19 +63,18 @@ def read_schedule(path: str) -> dict[str, Any]:
     return schedule
 
 
-def difference(path: str, run: Run) -> str | None:
+def difference(path: str, kept: Kept) -> str | None:
     """Where a run goes another way than the recorded one, or None."""
     with open(path) as file:
         steps = [line.rstrip(",\n") for line in file][1:-1]
     with open(path + ".lines") as file:
         answers = file.read().splitlines()
-    kept = run.turns.kept
     for number, (step, reply) in enumerate(kept):
         if number >= len(steps):
-            return f"step {number + 1}: the recorded run has ended; this one makes {step.text()}"
-        if step.text() != steps[number]:
-            return f"step {number + 1}: recorded {steps[number]}; this run makes {step.text()}"
-        answer = f"{FIRST_USER} {number + 1} {' '.join(reply)}"
+            return f"step {number + 1}: the recorded run has ended; this one makes {step}"
+        if step != steps[number]:
+            return f"step {number + 1}: recorded {steps[number]}; this run makes {step}"
+        answer = f"{FIRST_USER} {number + 1} {reply}"
         if answer != answers[number]:
             return f"step {number + 1}: recorded answer {answers[number]!r}; this run has {answer!r}"
     if len(kept) < len(steps):

@@ -7,21 +7,20 @@ that the schedule makes, and of nothing else.
 from __future__ import annotations
 
 import contextlib
-import os
 import socket
 import time
 from collections.abc import Callable
 from typing import NoReturn
 
-from . import blame, event_calls, process_calls, questions, waiting_calls
-from .blame import Blame, Gone, ended_by, origin, unheard_of
+from . import blame, event_calls, outcome, process_calls, questions, waiting_calls
+from .blame import Blame, Gone, ended_by, loops, origin, unheard_of
 from .coverage import Coverage
-from .describe import SIGNALS, Place, name_of, place_of, waiting
-from .model import ModelFailed, Step, View
+from .describe import Place, name_of, place_of, waiting_of
+from .model import Step, View
 from .program import ENDING, LOOK, Program, pair
 from .questions import CALLS, Question
 from .schedules import Choosing, Made, Schedule, Switch, plain_choice
-from .table import IO, SYNC, Broken, Ended, Failed, Handle, Happening, Lwp, Options, Process, Table
+from .table import IO, SYNC, Broken, Ended, Failed, Handle, Happening, Lwp, ModelFailed, Options, Process, Table
 from .turns import KILL, Turns
 from .watch import Watch
 
@@ -98,7 +97,7 @@ class Run:
         for real, status in ends.items():
             process = self._ends.get(real)
             if process is not None and process.told is not None and status != process.told << 8:
-                return f"process {process.pid} has exited with status {process.told}, but was then {ended_by(status)}, by its last handlers"
+                return outcome.late(process.pid, process.told, status)
         return None
 
     def _begin(self) -> None:
@@ -117,13 +116,10 @@ class Run:
             self._stand_by(self.first)
             for lwp in self.table.lwps:
                 self.blame.at(lwp)
-            who = "; ".join(waiting(lwp) for lwp in self.table.lwps if lwp.socket is not None)
-            return f"deadlock: {who}"
+            return outcome.deadlock([waiting_of(lwp) for lwp in self.table.lwps if lwp.socket is not None])
         if self.status is None:
-            return "the first process was killed"
-        if self.status & 127:
-            return f"the first process was ended by {SIGNALS.get(self.status & 127, self.status & 127)}"
-        return f"the first process exited with status {self.status >> 8}" if self.status else None
+            return outcome.KILLED
+        return outcome.status_of_first(self.status) if self.status else None
 
     def _stand_by(self, process: Process) -> None:
         """The process fails: a debugger may look at it now."""
@@ -366,11 +362,11 @@ class Run:
         options = self.options
         if self.questions > options.limit:
             self._stand_by(lwp.process)
-            self.blame.loops()
-            raise Failed(f"no end after {options.limit} questions")
+            self.blame.places = loops(self.blame.last)
+            raise Failed(outcome.endless(options.limit))
         if self.program.printed() > options.output_limit:
             self._stand_by(lwp.process)
-            raise Failed(f"it has printed more than {options.output_limit} bytes (--output-limit)")
+            raise Failed(outcome.printed_too_much(options.output_limit))
 
     def _line(self, lwp: Lwp, amid: bool = False) -> Question:
         """What it asks. One that sleeps in the host's kernel is poked: it asks `poke` then. `amid` a call that is answered
@@ -397,7 +393,7 @@ class Run:
     def _hangs(self, lwp: Lwp) -> NoReturn:
         self._stand_by(lwp.process)
         self.blame.at(lwp, "that was its last call")
-        raise Failed(f"hang: {lwp.process.pid}/{lwp.tid} has made no call for {self.options.patience:g} s")
+        raise Failed(outcome.hang(lwp.process.pid, lwp.tid, self.options.patience))
 
     def _meet(self, lwp: Lwp) -> None:
         """A new thread, or image, says hello."""

@@ -5,17 +5,14 @@ from __future__ import annotations
 import os
 import subprocess
 import tempfile
-from collections.abc import Callable
+from abc import ABC, abstractmethod
+from collections.abc import Callable, Iterator
 from typing import NamedTuple
 
 from . import record
-from .coverage import Met
-from .model import Model
-from .program import Program
-from .report import say_once
-from .run import Run
-from .schedules import Made, Plain, Priorities, Random, Schedule, Switch, Switched
-from .table import Broken, Options
+from .outcome import Kept, Outcome, Result
+from .schedules import Plain, Priorities, Random, Schedule, Switch, Switched
+from .table import Options
 
 
 class Setting(NamedTuple):
@@ -30,6 +27,8 @@ class Setting(NamedTuple):
     """Under a seed a sleep ends at any time."""
     verify: bool = False
     """Each record is replayed by `tracehost --expect`."""
+    broker: str | None = None
+    """The compiled broker; None for Python's."""
 
 
 class Task(NamedTuple):
@@ -57,108 +56,48 @@ class Task(NamedTuple):
         return "the plain schedule" if self.seed is None else f"--seed {self.seed}"
 
 
-class Choice(NamedTuple):
-    """A choice that another schedule could make otherwise."""
-
-    switch: Switch
-    forced: bool
-    """The running LWP can't go on: another choice preempts nobody."""
-    others: tuple[int, ...]
-    state: int
-    """Two choices with the same number come after the same questions and steps."""
-
-
-class Result(NamedTuple):
-    """What came of a run."""
-
-    why: str | None
-    """What failed, or None."""
-    questions: int
-    steps: int
-    choices: int
-    switches: tuple[Switch, ...]
-    digest: str
-    passed: int
-    """Handlers that ran for a passed-on signal."""
-    skipped: int
-    """Stops that were passed over."""
-    examined: int = 0
-    """Registers that were read or set, and steps by an instruction."""
-    points: tuple[Choice, ...] = ()
-    covered: tuple[tuple[Met, bool], ...] = ()
-    """Calls at which others could go on, and whether one did."""
-
-
-class Runner:
+class Runner(ABC):
     """Runs schedules, one after the other."""
 
-    def __init__(self, setting: Setting, quiet: bool = True, tells: bool = True) -> None:
-        """With `tells` it prints what is to be known of the program's libraries."""
-        self.setting = setting
-        self.program = Program(setting.command, quiet, setting.options.patience)
-        for note in self.program.notes if tells else ():
-            say_once(note)
-        self.model = Model(setting.model, setting.kill_on_debugger_exit)
-        self.output = b""
-        """Of the last run, where it was kept."""
-        self._plain: tuple[Result, list[Made]] | None = None
+    setting: Setting
 
-    def run(self, task: Task, on_failure: Callable[[int], None] | None = None, places: bool = False) -> tuple[Run, str | None]:
-        """One run, and what failed."""
-        setting = self.setting
-        run = Run(self.program, self.model.user(), task.schedule(setting.early), setting.options, places)
-        run.on_failure = on_failure
-        if task.points:
-            run.choice_points = []
-        if task == Task():
-            run.choices_made = []
-        try:
-            why = run.run()
-        except Broken as fault:
-            raise Broken(f"{task.name()}: {fault}") from fault
-        self.output = self.program.output()
-        return run, why
+    @abstractmethod
+    def run(self, task: Task, on_failure: Callable[[int], None] | None = None, places: bool = False) -> Outcome:
+        """One run, with all that a record has of it."""
 
+    @abstractmethod
     def result(self, task: Task, digest: bool = False) -> Result:
-        """The same, as what a search needs of it. A seed that makes the plain schedule's choices has its result."""
-        if task.seed is not None and task.depth is None and not self.setting.verify:
-            plain, choices = self._plain or self._run_plain(digest)
-            if Random(task.seed, self.setting.early).is_plain(choices):
-                return plain
-        run, why = self.run(task)
-        if self.setting.verify:
-            why = why or verify(run, self.setting)
-        return self._result_of(run, why, digest)
+        """One run, as what a search needs of it. A seed that makes the plain schedule's choices has its result."""
 
-    def _run_plain(self, digest: bool) -> tuple[Result, list[Made]]:
-        run, why = self.run(Task())
-        self._plain = self._result_of(run, why, digest), run.choices_made or []
-        return self._plain
+    def results(self, tasks: Iterator[Task], digest: bool) -> Iterator[tuple[Task, Result]]:
+        """The same of many, in their order."""
+        for task in tasks:
+            yield task, self.result(task, digest)
 
-    def _result_of(self, run: Run, why: str | None, digest: bool) -> Result:
-        text = record.digest(run.turns.kept, self.output) if digest else ""
-        points = tuple(Choice(*point) for point in run.choice_points or ())
-        covered = () if run.coverage is None else tuple(run.coverage.met.items())
-        turns = run.turns
-        counts = turns.passed, turns.skipped, turns.examined
-        return Result(why, run.questions, turns.steps, run.choices, tuple(run.switches), text, *counts, points, covered)
-
+    @abstractmethod
     def pids(self) -> list[int]:
         """The processes that live longer than a run."""
-        return [self.program.pid, *self.model.pids()]
 
+    @abstractmethod
     def close(self) -> None:
-        self.program.close()
-        self.model.close()
+        """Ends them."""
 
 
-def verify(run: Run, setting: Setting) -> str | None:
+def judged(setting: Setting, outcome: Outcome, digest: bool) -> Result:
+    """The result with its digest, and after `tracehost --expect` was asked."""
+    result = outcome.result
+    if setting.verify and result.why is None:
+        result = result._replace(why=verify(outcome.kept, setting))
+    return result._replace(digest=record.digest(outcome.kept, outcome.output)) if digest else result
+
+
+def verify(steps: Kept, setting: Setting) -> str | None:
     """What `tracehost --expect` says against the record, or None."""
     with tempfile.TemporaryDirectory(prefix="tracehost-") as folder:
         path = os.path.join(folder, "record.json")
         with open(path, "w") as file:
-            file.write(record.scenario(run.turns.kept, setting.kill_on_debugger_exit))
+            file.write(record.scenario(steps, setting.kill_on_debugger_exit))
         with open(path + ".lines", "w") as file:
-            file.write(record.lines(run.turns.kept))
+            file.write(record.lines(steps))
         done = subprocess.run([setting.model, "--expect", path + ".lines", path], capture_output=True, text=True)
     return None if done.returncode == 0 else f"the record is answered otherwise: {done.stderr.strip() or done.returncode}"

@@ -22,6 +22,11 @@ class Switch(NamedTuple):
     to: int
 
 
+def text_of(switches: Iterable[Switch]) -> str:
+    """Switches for --switches: `LWP.POINT:LWP,..`."""
+    return ",".join(f"{switch.tid}.{switch.point}:{switch.to}" for switch in switches)
+
+
 class Choosing(NamedTuple):
     """A choice of the plain schedule where the running LWP didn't simply go on."""
 

@@ -10,7 +10,7 @@ import socket
 from collections.abc import Generator
 from typing import NamedTuple, Union
 
-from .model import FIRST_LWP, FIRST_PROCESS, LWPS, PROCESSES
+from .limits import FIRST_LWP, FIRST_PROCESS, LWPS, PROCESSES
 
 # topics: a process's number (news for it: a child's status, a signal), its negative (it may run again), an LWP's number
 # (it has ended), and these
@@ -118,6 +118,10 @@ class Failed(Exception):
 
 class Broken(Exception):
     """The run can't go on: the broker, the runtime or the host has failed, and nothing is known of the program."""
+
+
+class ModelFailed(Exception):
+    """The model has ended, or refuses a step."""
 
 
 class Ended(Exception):

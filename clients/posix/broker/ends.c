@@ -1,0 +1,127 @@
+/* Ends of LWPs and processes: of run.py the part about ends. */
+#include <errno.h>
+#include <stdlib.h>
+#include <sys/socket.h>
+#include <time.h>
+#include "calls.h"
+#include "run.h"
+
+static double seconds(void)
+{
+	struct timespec now;
+	clock_gettime(CLOCK_MONOTONIC, &now);
+	return now.tv_sec + now.tv_nsec / 1e9;
+}
+
+static void remove_lwp(struct lwp *l)
+{
+	struct lists *lists = &l->process->lists;
+	out_of_table(l);
+	for (size_t i = lists->lwps.count; i-- > 0;)
+		if (lists->lwps.at[i] == l)
+			TAKE_OUT(&lists->lwps, i);
+	l->alive = false;
+	change(l->tid);
+	retire(l);
+}
+
+/* Its socket reads the end once the thread, or the process, has let go all else. */
+void forget_lwp(struct lwp *l)
+{
+	char line[MESSAGE];
+	double began = l->fd >= 0 ? seconds() : 0;
+	while (l->fd >= 0 && seconds() - began < ENDING_S) {
+		ssize_t got = recv(l->fd, line, sizeof line, 0);
+		if (got == 0 || (got < 0 && errno != EAGAIN && errno != EINTR))
+			break;
+		if (got < 0)
+			end_if_python_is_gone();
+	}
+	close_socket(l);
+	remove_lwp(l);
+}
+
+/* An exec has taken the LWP away. */
+void replace_lwp(struct lwp *l)
+{
+	remove_lwp(l);
+	APPEND(&l->process->lists.replaced, l);
+}
+
+/* Its maker may have waited for this exec, or end. */
+void release_parent(struct process *p)
+{
+	if (!p->vforked)
+		return;
+	p->vforked = false;
+	change(-p->parent);
+}
+
+/* The process that had this number of the host's. */
+const struct process *process_that_ended(int real)
+{
+	for (size_t i = table.n_processes; i-- > 0;)
+		if (table.all_processes.at[i]->real == real && !table.all_processes.at[i]->live)
+			return table.all_processes.at[i];
+	return NULL;
+}
+
+static void tell_end(struct process *p, struct lwp *exits)
+{
+	struct lwp *told = exits;
+	for (size_t i = p->lists.lwps.count; exits == NULL && i-- > 0;)
+		if (p->lists.lwps.at[i]->fd >= 0)
+			told = p->lists.lwps.at[i];
+	if (told != NULL && told->fd >= 0)
+		send(told->fd, exits != NULL ? "end" : "die", 3, MSG_NOSIGNAL);
+}
+
+/* Ended in the model: now in the host. An LWP that `exits` runs its last handlers there. Its tracees end, or are let go. */
+static void end_process(struct process *p, int status, struct lwp *exits)
+{
+	LIST(struct process *) tracees = {0};
+	for (EACH_PROCESS(other))
+		if (table.processes.at[other_at]->tracer == p->pid)
+			APPEND(&tracees, table.processes.at[other_at]);
+	tell_end(p, exits);
+	while (p->lists.lwps.count > 0)
+		forget_lwp(p->lists.lwps.at[0]);
+	for (size_t i = 0; i < p->lists.replaced.count; i++)
+		forget_lwp(p->lists.replaced.at[i]);
+	release_parent(p);
+	table_end(p, status);
+	happen(ENDED, p->pid, status);
+	end_news(p, status);
+	for (size_t i = 0; i < tracees.count; i++) {
+		tracees.at[i]->tracer = 0;
+		change(-tracees.at[i]->pid);
+	}
+	reap(tracees.at, tracees.count, KILL);
+	free(tracees.at);
+	close_all_described(p);
+}
+
+/* Processes that another's step may have ended: they are no callers any more. */
+void reap(struct process *const *suspects, size_t count, int status)
+{
+	for (size_t i = 0; i < count; i++)
+		if (suspects[i]->live && look((struct step){.op = LIST_PROCESSES, .actor = suspects[i]->pid}).kind == TRACEHOST_ERROR)
+			end_process(suspects[i], status, NULL);
+}
+
+/* The process of the LWP at its turn has ended, with this status. */
+_Noreturn void ended(struct lwp *l, int status)
+{
+	struct process *p = l->process;
+	if (p == run.first) {
+		run.status = status, run.has_status = true;
+		if (status != 0) {
+			stand_by(p);
+			blame(l, "");
+		}
+	}
+	if (p->told >= 0 && status != p->told << 8)
+		p->told = -1; /* a signal has come before */
+	end_process(p, status, p->told >= 0 ? l : NULL);
+	vanish(l);
+}

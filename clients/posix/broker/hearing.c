@@ -1,0 +1,291 @@
+/* What a thread says, and what it is answered: of run.py the part about sockets. */
+#include <errno.h>
+#include <string.h>
+#include <sys/socket.h>
+#include <unistd.h>
+#include "calls.h"
+#include "run.h"
+
+enum { LAST = 200 }; /* of a run without an end, so many last questions are told */
+static const double between_pokes = 0.1; /* seconds of its processor's time after which a thread that computes asks `poke` */
+
+/* ---- messages */
+
+static void send_line(struct lwp *l, const char *line)
+{
+	ssize_t sent;
+	do
+		sent = send(l->fd, line, strlen(line), MSG_NOSIGNAL);
+	while (sent < 0 && errno == EINTR);
+	if (sent < 0)
+		gone(l->process);
+}
+
+static void send_socket(struct lwp *l, const char *line, struct lwp *born)
+{
+	int given;
+	born->fd = socket_pair(&given);
+	if (!send_with(l->fd, line, given))
+		gone(l->process);
+}
+
+void close_socket(struct lwp *l)
+{
+	if (l->fd >= 0)
+		close(l->fd);
+	l->fd = -1;
+}
+
+static void limits(const struct lwp *l)
+{
+	if (run.questions > options.limit) {
+		stand_by(l->process);
+		failed("endless");
+	}
+	if (program_printed() > options.output_limit) {
+		stand_by(l->process);
+		failed("printed");
+	}
+}
+
+static _Noreturn void hangs(const struct lwp *l)
+{
+	stand_by(l->process);
+	blame(l, "that was its last call");
+	failed("hang %d %d", l->process->pid, l->tid);
+}
+
+static _Noreturn void foreign_text(const struct process *p, const char *line, size_t length)
+{
+	enum { SHOWN = 160 };
+	char text[2 * SHOWN + 1] = "";
+	for (size_t i = 0; i < length && i < SHOWN; i++)
+		sprintf(text + 2 * i, "%02x", (unsigned char)line[i]);
+	broken("wrote %d %s", p->pid, text);
+}
+
+/* Its next message. One that sleeps in the host's kernel is poked: it asks `poke` then. `amid` a call that is answered at
+ * once: the thread isn't in user mode, and the call has an end of its own. */
+static enum reading receive(struct lwp *l, bool amid, struct question *q)
+{
+	static char line[MESSAGE], copy[MESSAGE];
+	struct watch watch;
+	watch_begin(&watch);
+	for (;;) {
+		ssize_t got = recv(l->fd, line, sizeof line - 1, 0);
+		if (got < 0 && errno == EINTR)
+			continue;
+		if (got < 0 && errno == EAGAIN) {
+			end_if_python_is_gone();
+			limits(l);
+			if (watch_look(&watch, l))
+				hangs(l);
+			continue;
+		}
+		if (got <= 0)
+			gone(l->process);
+		line[got] = 0;
+		memcpy(copy, line, got + 1);
+		enum reading reading = strlen(line) == (size_t)got ? read_question(line, q) : FOREIGN_TEXT;
+		if (reading == FOREIGN_TEXT)
+			foreign_text(l->process, copy, got);
+		if (reading == UNKNOWN)
+			unable("question %s", q->text);
+		if (reading == BROKEN)
+			broken("told %d %s", l->process->pid, q->words);
+		if (!amid || reading != ASKS || q->call->body != poke)
+			return reading;
+		send_line(l, "ok");
+	}
+}
+
+/* ---- a question */
+
+static _Noreturn void refuse(struct lwp *l, enum reading reading, const struct question *q)
+{
+	blame(l, "");
+	failed("%s %d %d %s", reading == REFUSED ? "refused" : "outside", l->process->pid, l->tid, q->words);
+}
+
+/* Others have to go on now and then, and sleeps to end. */
+static void count_busy(struct lwp *l)
+{
+	if (++run.busy <= options.limit / 2)
+		return;
+	run.busy = 0;
+	l->yields = true;
+	end_first_sleep();
+}
+
+static void note_question(struct lwp *l, const struct question *q, bool is_user)
+{
+	l->cancelled = false;
+	l->where = q->where;
+	if (!is_user) /* it comes back from its question of before */
+		snprintf(l->asked, sizeof l->asked, "%s", q->text);
+	if (run.questions > options.limit - LAST && run.wants.places)
+		note_place("last", l, "", 0);
+	if (run.wants.points)
+		hash_question(l, q->text);
+}
+
+/* The thread runs until it asks again; false if its handler is over. */
+static bool hear(struct lwp *l, bool amid)
+{
+	struct question q;
+	enum reading reading = receive(l, amid, &q);
+	run.questions++;
+	limits(l);
+	if (reading == HANDLED)
+		return false;
+	bool is_poke = reading == ASKS && q.call->body == poke;
+	l->pokes = is_poke ? l->pokes + 1 : 0;
+	if (is_poke) /* a thread that computes leaves no time without a message */
+		end_if_python_is_gone();
+	if (l->pokes * between_pokes > options.patience)
+		hangs(l);
+	count_busy(l);
+	note_question(l, &q, reading == ASKS && q.call->body == user_call);
+	if (reading != ASKS)
+		refuse(l, reading, &q);
+	if (q.call->body != again && q.call->body != news_call) /* which are looks */
+		change(SYNC);
+	l->call = q.call;
+	memcpy(l->arguments, q.arguments, sizeof l->arguments);
+	l->level++;
+	return true;
+}
+
+/* A new thread, or image, says hello. */
+static void meet(struct lwp *l)
+{
+	struct question q;
+	struct lists *lists = &l->process->lists;
+	enum reading reading = receive(l, true, &q);
+	bool is_foreign = l->born && reading == ASKS && q.call->body == foreign;
+	if (!is_foreign && (reading != ASKS || q.call->body != hello))
+		broken("begins %d %s", l->process->pid, q.text);
+	snprintf(l->asked, sizeof l->asked, "%s", q.text);
+	l->where = 0;
+	l->call = q.call;
+	memcpy(l->arguments, q.arguments, sizeof l->arguments);
+	l->level++;
+	if (is_foreign)
+		return;
+	l->born = false;
+	l->level = 1;
+	l->process->real = q.arguments[0], l->real = q.arguments[1], l->process->base = q.arguments[2];
+	l->waits = false, l->until = NEVER;
+	for (size_t i = 0; i < lists->replaced.count; i++)
+		close_socket(lists->replaced.at[i]);
+	lists->replaced.count = 0;
+	into_table(l);
+}
+
+/* ---- an answer */
+
+static void act(struct lwp *l)
+{
+	int64_t arguments[ARGUMENTS];
+	memcpy(arguments, l->arguments, sizeof arguments); /* a handler's questions have their own */
+	l->call->body(l, l->call, arguments);
+	l->level--;
+	l->waits = false, l->until = NEVER;
+	if (!l->in_table)
+		vanish(l);
+}
+
+/* The LWP's question is answered, and it asks the next one: false if its handler is over. */
+static bool reply_to(struct lwp *l)
+{
+	static char line[ANSWER + 8];
+	struct lwp *born = l->bears;
+	bool lands = l->lands, steps = l->traps && l->level < l->depth; /* not in a handler that runs meanwhile */
+	l->lands = false, l->bears = NULL;
+	snprintf(line, sizeof line, "%s%s", lands ? "land " : steps ? "step " : "", answer);
+	if (born != NULL)
+		send_socket(l, line, born);
+	else
+		send_line(l, line);
+	if (l->leaves) {
+		forget_lwp(l);
+		vanish(l);
+	}
+	if (l->born) { /* its exec: the image that comes says hello */
+		meet(l);
+		longjmp(l->base, 1);
+	}
+	bool asks = hear(l, born != NULL || l->entered >= 0 || lands);
+	if (born != NULL)
+		meet(born);
+	return asks;
+}
+
+static void wait_for_turn(struct lwp *l)
+{
+	if (l->call->at_once)
+		l->before = run.kept.count;
+	else
+		give_way(l);
+}
+
+void run_handler(struct lwp *l, struct info info)
+{
+	char line[160];
+	if (stack_is_low(l))
+		unable("so many handlers within handlers");
+	l->waits = false, l->until = NEVER;
+	end_leg(l);
+	snprintf(line, sizeof line, "handler %lld %lld %lld %lld %lld", (long long)info.signal, (long long)info.code, (long long)info.sender,
+		(long long)info.status, (long long)info.address);
+	send_line(l, line);
+	for (bool asks = hear(l, false); asks; asks = reply_to(l)) {
+		wait_for_turn(l);
+		act(l);
+	}
+	give_way(l);
+}
+
+/* An LWP's life, in its coroutine. */
+void live(struct lwp *l)
+{
+	l->before = run.kept.count;
+	if (l->is_timer) {
+		ring(l);
+		out_of_table(l);
+		vanish(l);
+	}
+	if (l->fd < 0) { /* the first one */
+		l->fd = program_run();
+		meet(l);
+		give_way(l);
+	}
+	if (setjmp(l->base) != 0)
+		give_way(l);
+	for (;;) {
+		act(l);
+		if (!reply_to(l))
+			broken("begins %d handled", l->process->pid);
+		wait_for_turn(l);
+	}
+}
+
+/* What the thread answers to this, which stands in a question: its last word. */
+const char *aside(struct lwp *l, const char *line)
+{
+	static char text[MESSAGE];
+	send_line(l, line);
+	for (int looks = 0; looks < ENDING_S * 1000 / LOOK_MS; looks++) {
+		ssize_t got = recv(l->fd, text, sizeof text - 1, 0);
+		if (got < 0 && (errno == EAGAIN || errno == EINTR)) {
+			end_if_python_is_gone();
+			continue;
+		}
+		if (got <= 0)
+			gone(l->process);
+		text[got] = 0;
+		const char *last = strrchr(text, ' ');
+		return last != NULL ? last + 1 : text;
+	}
+	broken("silent %d %d %s", l->process->pid, l->tid, line);
+}

@@ -1,0 +1,241 @@
+/* What comes of a run, in lines for Python: outcome.py reads them. */
+#include <stdlib.h>
+#include <string.h>
+#include <unistd.h>
+#include "run.h"
+
+static LIST(char) notes, plain; /* plain: the last line of the plain schedule */
+static char failure[MESSAGE + 64]; /* its kind, and what Python makes a sentence of; empty if there is none */
+static enum { PASSED, FAILED, UNABLE } how;
+static int gone_real; /* of a process that has ended outside of the model */
+
+/* ---- lines */
+
+static void put(const char *text, size_t length)
+{
+	notes.at = with_room(notes.at, notes.count + length, &notes.room, 1);
+	memcpy(notes.at + notes.count, text, length);
+	notes.count += length;
+}
+
+void note(const char *format, ...)
+{
+	char text[512];
+	va_list arguments;
+	va_start(arguments, format);
+	int length = vsnprintf(text, sizeof text, format, arguments);
+	va_end(arguments);
+	put(text, (size_t)length < sizeof text ? (size_t)length : sizeof text - 1);
+}
+
+void note_text(const char *text)
+{
+	for (; *text != 0; text++)
+		if ((unsigned char)*text < ' ' || *text == '%' || *text == 127)
+			note("%%%02X", (unsigned char)*text);
+		else
+			put(text, 1);
+}
+
+void flush_notes(void)
+{
+	for (size_t at = 0; at < notes.count;) {
+		ssize_t written = write(options.answers, notes.at + at, notes.count - at);
+		if (written <= 0)
+			leave_python();
+		at += written;
+	}
+	notes.count = 0;
+}
+
+/* ---- places */
+
+/* KIND, who, what it has asked, the address in the program, the program, what is said of it, the number of the next step. */
+void note_place(const char *kind, const struct lwp *l, const char *then, size_t step)
+{
+	char path[64], program[4096] = "";
+	if (l == NULL) {
+		note("%s\t\t\t0\t\ta process has ended; %s\t%zu\n", kind, then, step);
+		return;
+	}
+	snprintf(path, sizeof path, "/proc/%d/exe", l->process->real);
+	ssize_t length = readlink(path, program, sizeof program - 1);
+	program[length > 0 ? length : 0] = 0;
+	note(l->is_timer ? "%s\tthe timer of %d\t" : "%s\t%d/%d\t", kind, l->process->pid, l->tid);
+	note_text(l->asked);
+	note("\t%llu\t", l->where != 0 ? (unsigned long long)(l->where - l->process->base) : 0ull);
+	note_text(program);
+	note("\t%s\t%zu\n", then, step);
+}
+
+/* The run fails where this LWP is. */
+void blame(const struct lwp *l, const char *then)
+{
+	if (run.wants.places && !l->is_timer)
+		note_place("blame", l, then, 0);
+}
+
+/* The process fails: a debugger may look at it now. */
+void stand_by(const struct process *p)
+{
+	if (!run.wants.stands || p->real == 0)
+		return;
+	run.wants.stands = false;
+	note("stand %d\n", p->real);
+	flush_notes();
+	wait_for_python();
+}
+
+/* ---- ends of a run */
+
+void outcome_begin(void)
+{
+	failure[0] = 0;
+	how = PASSED;
+	gone_real = 0;
+}
+
+bool has_failed(void) { return how != PASSED; }
+
+static void describe(const char *format, va_list arguments)
+{
+	vsnprintf(failure, sizeof failure, format, arguments);
+}
+
+#define DESCRIBE(format) \
+	do { \
+		va_list arguments; \
+		va_start(arguments, format); \
+		describe(format, arguments); \
+		va_end(arguments); \
+	} while (0)
+
+void set_failure(const char *format, ...)
+{
+	DESCRIBE(format);
+	how = FAILED;
+}
+
+void failed(const char *format, ...)
+{
+	DESCRIBE(format);
+	how = FAILED;
+	leave_run();
+}
+
+void unable(const char *format, ...)
+{
+	DESCRIBE(format);
+	how = UNABLE;
+	leave_run();
+}
+
+void gone(const struct process *p)
+{
+	set_failure("gone %d", p->pid);
+	gone_real = p->real;
+	leave_run();
+}
+
+/* Nothing goes on after this: what the program has left is ended. */
+void broken(const char *format, ...)
+{
+	DESCRIBE(format);
+	note("broken ");
+	note_text(failure);
+	note("\n");
+	flush_notes();
+	program_end();
+	exit(0);
+}
+
+/* Who waits, and for whom. */
+static void note_waiting(const struct lwp *l)
+{
+	const struct process *p = l->process;
+	bool stopped = l->waits && l->n_topics == 1 && l->topics[0] == -p->pid;
+	long long owner = -1;
+	const struct lwp *holder = NULL;
+	sscanf(l->asked, "again mutex %lld", &owner);
+	for (size_t i = p->lists.lwps.count; i-- > 0;)
+		if (p->lists.lwps.at[i]->real == owner)
+			holder = p->lists.lwps.at[i];
+	note("waits\t%d\t%d\t%d\t%d\t%d\t%d\t", p->pid, l->tid, stopped, p->tracer, p->reporting != NULL, holder != NULL ? holder->tid : 0);
+	note_text(l->asked);
+	note("\n");
+}
+
+void verdict(void)
+{
+	if (run.first->live) {
+		stand_by(run.first);
+		for (size_t i = 0; i < table.lwps.count; i++)
+			blame(table.lwps.at[i], "");
+		for (size_t i = 0; i < table.lwps.count; i++)
+			if (!table.lwps.at[i]->is_timer)
+				note_waiting(table.lwps.at[i]);
+		set_failure("deadlock");
+	} else if (!run.has_status)
+		set_failure("killed");
+	else if (run.status != 0)
+		set_failure("status %d", run.status);
+}
+
+/* One that hasn't ended as it has told the model: its last handlers, a sanitizer's say, have failed. */
+static void look_at_ends(const struct ends *ends)
+{
+	for (int i = 0; i < ends->count; i++) {
+		const struct process *p = process_that_ended(ends->at[i].real);
+		if (p != NULL && p->told >= 0 && ends->at[i].status != p->told << 8) {
+			set_failure("late %d %d %d", p->pid, p->told, ends->at[i].status);
+			return;
+		}
+	}
+}
+
+void outcome_end(const struct ends *ends)
+{
+	size_t length = strlen(failure);
+	for (int i = 0; i < ends->count && gone_real != 0; i++)
+		if (ends->at[i].real == gone_real)
+			snprintf(failure + length, sizeof failure - length, " %d", ends->at[i].status);
+	if (how == PASSED)
+		look_at_ends(ends);
+}
+
+static void note_steps(void)
+{
+	for (size_t i = 0; i < run.kept.count; i++)
+		if (run.kept.at[i].text != NULL) {
+			put("step\t", 5);
+			put(run.kept.at[i].text, strlen(run.kept.at[i].text));
+			put("\n", 1);
+		}
+}
+
+/* The run's last line: how it has ended, figures, its switches, what has failed. */
+void note_outcome(void)
+{
+	static const char *const names[] = {"passed", "failed", "unable"};
+	note_steps();
+	size_t first = notes.count;
+	note("%s %ld %ld %ld %ld %ld %ld ", names[how], run.questions, run.steps, run.choices, run.passed, run.skipped, run.examined);
+	for (size_t i = 0; i < run.switches.count; i++) {
+		const struct switch_to *to = &run.switches.at[i];
+		note("%s%d.%ld:%d", i > 0 ? "," : "", to->tid, to->point, to->to);
+	}
+	note("%s", run.switches.count == 0 ? "- " : " ");
+	note_text(failure);
+	note("\n");
+	if (!run.wants.made)
+		return;
+	plain.count = 0;
+	for (size_t i = first; i < notes.count; i++)
+		APPEND(&plain, notes.at[i]);
+}
+
+/* The same line as of the last plain schedule. */
+void note_plain_outcome(void) { put(plain.at, plain.count); }
+
+void forget_notes(void) { notes.count = 0; }
+

@@ -1,0 +1,227 @@
+/* A program as a server of processes: it is started once, and forks a process for each run. program.py in C. */
+#include <errno.h>
+#include <fcntl.h>
+#include <signal.h>
+#include <spawn.h>
+#include <stdlib.h>
+#include <string.h>
+#include <sys/socket.h>
+#include <sys/stat.h>
+#include <sys/time.h>
+#include <sys/wait.h>
+#include <unistd.h>
+#include "run.h"
+
+extern char **environ;
+static int control = -1;
+static pid_t server;
+static bool has_printed;
+
+int socket_pair(int *given)
+{
+	int ends[2];
+	struct timeval look = {0, LOOK_MS * 1000};
+	if (socketpair(AF_UNIX, SOCK_SEQPACKET | SOCK_CLOEXEC, 0, ends) != 0)
+		broken("host socketpair: %s", strerror(errno));
+	setsockopt(ends[0], SOL_SOCKET, SO_RCVTIMEO, &look, sizeof look);
+	*given = ends[1];
+	return ends[0];
+}
+
+/* Sends a message with a descriptor, which is closed here. */
+bool send_with(int to, const char *text, int fd)
+{
+	union { char space[CMSG_SPACE(sizeof(int))]; struct cmsghdr align; } u = {{0}};
+	struct iovec part = {(void *)text, strlen(text)};
+	struct msghdr message = {.msg_iov = &part, .msg_iovlen = 1, .msg_control = u.space, .msg_controllen = sizeof u.space};
+	struct cmsghdr *header = CMSG_FIRSTHDR(&message);
+	ssize_t sent;
+	header->cmsg_level = SOL_SOCKET, header->cmsg_type = SCM_RIGHTS, header->cmsg_len = CMSG_LEN(sizeof fd);
+	memcpy(CMSG_DATA(header), &fd, sizeof fd);
+	do
+		sent = sendmsg(to, &message, MSG_NOSIGNAL);
+	while (sent < 0 && errno == EINTR);
+	close(fd);
+	return sent >= 0;
+}
+
+/* The server's message: its length. A server that the program has stopped goes on. */
+static ssize_t hear_server(char *line, size_t room)
+{
+	double patience = options.patience > ENDING_S ? options.patience : ENDING_S;
+	for (long looks = (long)(patience * 1000 / LOOK_MS) + 1; looks > 0; looks--) {
+		ssize_t got = recv(control, line, room, 0);
+		if (got >= 0 || (errno != EAGAIN && errno != EINTR))
+			return got;
+		end_if_python_is_gone();
+		kill(server, SIGCONT);
+	}
+	kill(server, SIGKILL);
+	broken("server %g", patience);
+}
+
+/* ---- its start */
+
+static posix_spawn_file_actions_t files_of_server(int given)
+{
+	posix_spawn_file_actions_t files;
+	posix_spawn_file_actions_init(&files);
+	posix_spawn_file_actions_adddup2(&files, given, given); /* it stays open */
+	if (options.output >= 0) {
+		posix_spawn_file_actions_addopen(&files, STDIN_FILENO, "/dev/null", O_RDONLY, 0);
+		posix_spawn_file_actions_adddup2(&files, options.output, STDOUT_FILENO);
+		posix_spawn_file_actions_adddup2(&files, options.output, STDERR_FILENO);
+	}
+	return files;
+}
+
+/* Signals that this process ignores have their default action there. */
+static posix_spawnattr_t signals_of_server(void)
+{
+	posix_spawnattr_t attributes;
+	sigset_t set;
+	sigemptyset(&set);
+	sigaddset(&set, SIGINT);
+	sigaddset(&set, SIGPIPE);
+	posix_spawnattr_init(&attributes);
+	posix_spawnattr_setsigdefault(&attributes, &set);
+	posix_spawnattr_setflags(&attributes, POSIX_SPAWN_SETSIGDEF);
+	return attributes;
+}
+
+static int spawn(char **argv, int given)
+{
+	char number[16];
+	posix_spawn_file_actions_t files = files_of_server(given);
+	posix_spawnattr_t attributes = signals_of_server();
+	snprintf(number, sizeof number, "%d", given);
+	setenv("TRACEHOST_CONTROL", number, 1);
+	unsetenv("TRACEHOST_LWP");
+	int error = posix_spawn(&server, argv[0], &files, &attributes, argv, environ);
+	posix_spawn_file_actions_destroy(&files);
+	posix_spawnattr_destroy(&attributes);
+	close(given);
+	return error;
+}
+
+static _Noreturn void refused(void)
+{
+	int status = 0;
+	close(control);
+	waitpid(server, &status, 0);
+	note("refused %d\n", WIFEXITED(status) ? WEXITSTATUS(status) : -WTERMSIG(status));
+	flush_notes();
+	exit(0);
+}
+
+void program_start(char **argv)
+{
+	char line[4097];
+	int given;
+	control = socket_pair(&given);
+	int error = spawn(argv, given);
+	if (error != 0) {
+		note("unstarted %d\n", error);
+		flush_notes();
+		exit(0);
+	}
+	ssize_t got = hear_server(line, sizeof line - 1);
+	line[got > 0 ? got : 0] = 0;
+	if (strncmp(line, "ready", 5) != 0)
+		refused();
+	for (char *at = strchr(line, '\n'); at != NULL;) {
+		char *next = strchr(at + 1, '\n');
+		if (next != NULL)
+			*next = 0;
+		note("note ");
+		note_text(at + 1);
+		note("\n");
+		at = next;
+	}
+	note("ready %d\n", server);
+	flush_notes();
+}
+
+/* ---- a run */
+
+int program_run(void)
+{
+	int given, own = socket_pair(&given);
+	if (!send_with(control, "run", given))
+		broken("server");
+	return own;
+}
+
+/* Ends all processes that are left. */
+void program_sweep(struct ends *ends)
+{
+	char line[4097];
+	ends->count = 0;
+	if (send(control, "sweep", 5, MSG_NOSIGNAL) < 0)
+		broken("server");
+	ssize_t got = hear_server(line, sizeof line - 1);
+	if (got <= 0)
+		broken("server");
+	line[got] = 0;
+	int room = sizeof ends->at / sizeof ends->at[0];
+	for (char *at = strchr(line, ' '); at != NULL && ends->count < room; at = strchr(at + 1, ' '))
+		if (sscanf(at, "%d:%d", &ends->at[ends->count].real, &ends->at[ends->count].status) == 2)
+			ends->count++;
+}
+
+/* How many bytes the run has printed, if they are kept. */
+long long program_printed(void)
+{
+	struct stat file;
+	if (options.output < 0 || fstat(options.output, &file) != 0)
+		return 0;
+	has_printed |= file.st_size > 0;
+	return file.st_size;
+}
+
+void program_forget_output(void)
+{
+	if (options.output >= 0 && (program_printed() > 0 || has_printed) && ftruncate(options.output, 0) != 0)
+		broken("host ftruncate: %s", strerror(errno));
+	has_printed = false;
+}
+
+/* What a server that was killed has left. */
+static void end_orphans(void)
+{
+	char path[64];
+	int pid;
+	snprintf(path, sizeof path, "/proc/self/task/%d/children", getpid());
+	for (;;) {
+		FILE *list = fopen(path, "r");
+		bool found = false;
+		while (list != NULL && fscanf(list, "%d", &pid) == 1)
+			found |= kill(pid, SIGKILL) == 0;
+		if (list != NULL)
+			fclose(list);
+		if (!found)
+			return;
+		waitpid(-1, NULL, 0); /* one: the children of those that end come here meanwhile */
+	}
+}
+
+static void end_server(void)
+{
+	close(control);
+	control = -1;
+	for (int looks = 0; looks < ENDING_S * 1000; looks++) {
+		if (waitpid(server, NULL, WNOHANG) != 0)
+			return;
+		usleep(looks < 20 ? 100 : 1000);
+	}
+	kill(server, SIGKILL);
+	waitpid(server, NULL, 0);
+}
+
+/* Ends the server, which ends all that it has. */
+void program_end(void)
+{
+	if (control >= 0)
+		end_server();
+	end_orphans();
+}

@@ -1,0 +1,343 @@
+/* Who goes on, until the first process has ended and all others wait, or all wait for each other.
+ *
+ * One thread at a time runs between its questions; every other thread stands in one. So a run is a matter of the choices
+ * that the schedule makes, and of nothing else. */
+#include <stdlib.h>
+#include <string.h>
+#include "run.h"
+
+struct options options;
+struct run run;
+static lwps can, asleep;
+
+/* ---- a leg: what an LWP does until others may go on */
+
+void give_way(struct lwp *l)
+{
+	switch_to(l, next_lwp());
+	l->before = run.kept.count;
+}
+
+void end_leg(struct lwp *l)
+{
+	if (!l->is_timer && (long)run.kept.count > l->before)
+		l->ran = run.steps; /* a step that was held is none */
+}
+
+void others(struct lwp *l)
+{
+	l->waits = false, l->until = NEVER;
+	end_leg(l);
+	give_way(l);
+}
+
+void await(struct lwp *l, int64_t until, int count, const int64_t *topics)
+{
+	memcpy(l->topics, topics, count * sizeof *topics);
+	l->waits = true, l->n_topics = count, l->until = until, l->seen = table.clock;
+	end_leg(l);
+	give_way(l);
+}
+
+_Noreturn void vanish(struct lwp *l)
+{
+	retire(l);
+	struct lwp *next = next_lwp();
+	if (next == NULL)
+		leave_run();
+	switch_to(l, next);
+	__builtin_unreachable();
+}
+
+/* ---- the choice */
+
+/* Without a look at the others. */
+static bool simply_goes_on(const struct lwp *current, long point)
+{
+	bool able = !run.wants.points && !current->yields && !current->waits && current->in_table;
+	if (!able || !schedule_stays(current, point))
+		return false;
+	if (run.wants.made)
+		APPEND(&run.made, STAYED);
+	return true;
+}
+
+/* Those whose sleep may end now. A sleeper may be slow to wake, but a timer isn't: none is passed over. */
+static void find_sleepers(void)
+{
+	bool rings = false;
+	int64_t first = INT64_MAX;
+	asleep.count = 0;
+	for (size_t i = 0; i < can.count; i++)
+		if (can.at[i]->is_timer)
+			return;
+	for (size_t i = 0, next = 0; i < table.lwps.count; i++) {
+		struct lwp *l = table.lwps.at[i];
+		if (next < can.count && can.at[next] == l)
+			next++;
+		else if (l->until != NEVER) {
+			APPEND(&asleep, l);
+			if (l->is_timer) {
+				rings = true;
+				first = l->until < first ? l->until : first;
+			}
+		}
+	}
+	for (size_t i = asleep.count; rings && i-- > 0;)
+		if (asleep.at[i]->until > first)
+			TAKE_OUT(&asleep, i);
+}
+
+static void note_made(const struct lwp *chosen)
+{
+	APPEND(&run.made, CHOSE);
+	APPEND(&run.made, (int)can.count);
+	for (size_t i = 0; i < can.count; i++)
+		APPEND(&run.made, can.at[i]->tid);
+	APPEND(&run.made, (int)asleep.count);
+	for (size_t i = 0; i < asleep.count; i++)
+		APPEND(&run.made, asleep.at[i]->tid);
+	APPEND(&run.made, chosen != NULL ? chosen->tid : 0);
+}
+
+static bool is_among(const lwps *list, const struct lwp *l)
+{
+	for (size_t i = 0; i < list->count; i++)
+		if (list->at[i] == l)
+			return true;
+	return false;
+}
+
+/* The others that could have gone on, and whether that preempts the running LWP. */
+static void note_point(const struct lwp *plain, long point)
+{
+	const struct lwp *current = run.current;
+	bool forced = current == NULL || !is_among(&can, current) || current->yields;
+	int tid = current != NULL ? current->tid : 0, count = 0;
+	for (size_t i = 0; i < can.count + asleep.count; i++)
+		count += (i < can.count ? can.at[i] : asleep.at[i - can.count]) != plain;
+	if (count == 0)
+		return;
+	note("point %d %ld %d %llu", tid, point, forced, (unsigned long long)state_of(tid));
+	for (size_t i = 0; i < can.count + asleep.count; i++) {
+		const struct lwp *l = i < can.count ? can.at[i] : asleep.at[i - can.count];
+		if (l != plain)
+			note(" %d", l->tid);
+	}
+	note("\n");
+}
+
+static void note_switch(const struct lwp *chosen, long point)
+{
+	const struct lwp *current = run.current;
+	char then[64];
+	APPEND(&run.switches, (struct switch_to){current != NULL ? current->tid : 0, point, chosen->tid});
+	if (!run.wants.places)
+		return;
+	if (chosen == current)
+		snprintf(then, sizeof then, "its sleep is over");
+	else
+		snprintf(then, sizeof then, chosen->is_timer ? "the timer of %d goes on" : "%d/%d goes on", chosen->process->pid, chosen->tid);
+	note_place("switch", current, then, run.kept.count + 1);
+}
+
+static struct lwp *chosen_one(struct lwp *chosen, bool was_asleep)
+{
+	if (was_asleep && chosen->until != NEVER) {
+		run.busy = 0;
+		table.now = chosen->until > table.now ? chosen->until : table.now;
+	}
+	if (run.current != NULL && run.current != chosen)
+		run.current->yields = false;
+	chosen->yields = false;
+	return run.current = chosen;
+}
+
+/* All that wait look once more, in case a change was missed: false if they have done so, and all wait again. */
+static bool look_again(void)
+{
+	if (run.last_look == table.clock || !run.first->live)
+		return false;
+	for (size_t i = 0; i < table.lwps.count; i++)
+		table.lwps.at[i]->seen = -1;
+	change(IO);
+	change(SYNC);
+	for (EACH_PROCESS(p))
+		change(table.processes.at[p_at]->pid);
+	for (EACH_PROCESS(p))
+		change(-table.processes.at[p_at]->pid);
+	run.last_look = table.clock;
+	return true;
+}
+
+static struct lwp *hosted(void)
+{
+	struct lwp *best = NULL;
+	for (size_t i = 0; i < table.lwps.count; i++) {
+		struct lwp *l = table.lwps.at[i];
+		if (l->hosted && (best == NULL || l->ran < best->ran || (l->ran == best->ran && l->tid < best->tid)))
+			best = l;
+	}
+	return best;
+}
+
+/* Nobody can go on: time does, or all look again. The LWP that goes on then, or NULL; `over`: all wait for each other. */
+static struct lwp *when_all_wait(bool *over)
+{
+	run.busy = 0;
+	*over = false;
+	if (asleep.count > 0 && run.first->live) {
+		int64_t first = INT64_MAX;
+		for (size_t i = 0; i < asleep.count; i++)
+			first = asleep.at[i]->until < first ? asleep.at[i]->until : first;
+		table.now = first;
+		return NULL;
+	}
+	struct lwp *l = hosted(); /* the host may be done */
+	if (l != NULL)
+		return chosen_one(l, false);
+	*over = !look_again();
+	return NULL;
+}
+
+static struct lwp *choose(long point)
+{
+	can.count = 0;
+	for (size_t i = 0; i < table.lwps.count; i++)
+		if (can_go(table.lwps.at[i]))
+			APPEND(&can, table.lwps.at[i]);
+	find_sleepers();
+	struct lwp *plain = plain_choice(&can, run.current);
+	struct lwp *chosen = schedule_choose(&can, &asleep, run.current, point, plain);
+	if (run.wants.made)
+		note_made(chosen);
+	if (run.wants.points)
+		note_point(plain, point);
+	if (chosen == NULL)
+		return NULL;
+	if (chosen != plain)
+		note_switch(chosen, point);
+	return chosen_one(chosen, is_among(&asleep, chosen));
+}
+
+/* The LWP with the next turn; NULL if all wait for each other, or nobody is left. */
+struct lwp *next_lwp(void)
+{
+	while (table.lwps.count > 0) {
+		struct lwp *current = run.current;
+		long point = current != NULL ? ++current->points : ++run.idle_points;
+		bool over;
+		run.choices++;
+		if (current != NULL && simply_goes_on(current, point))
+			return current;
+		struct lwp *chosen = choose(point);
+		if (chosen != NULL)
+			return chosen;
+		chosen = when_all_wait(&over);
+		if (chosen != NULL || over)
+			return chosen;
+	}
+	return NULL;
+}
+
+/* At how many of its next choices, up to `count`, the LWP that runs goes on for certain. */
+long stays_ahead(const struct lwp *l, long count)
+{
+	if (run.wants.points || l == NULL || l != run.current || l->yields)
+		return 0;
+	return schedule_ahead(l, l->points + 1, count);
+}
+
+/* ---- the steps that are kept */
+
+void keep_step(struct step s, const reply *r)
+{
+	struct kept kept = {s, *r, NULL};
+	if (run.wants.trace) {
+		char step[1024], words[16384], *text;
+		write_step(step, sizeof step, &s);
+		write_last_reply(words, sizeof words);
+		if (asprintf(&text, "%s\t%s", step, words) < 0)
+			broken("no memory is left for the record");
+		kept.text = text;
+	}
+	APPEND(&run.kept, kept);
+}
+
+/* The last step was a look after all. */
+void unkeep(void) { free(run.kept.at[--run.kept.count].text); }
+
+static uint64_t hashed(uint64_t hash, const void *bytes, size_t size)
+{
+	const unsigned char *at = bytes;
+	for (size_t i = 0; i < size; i++)
+		hash = (hash ^ at[i]) * 0x100000001b3;
+	return hash;
+}
+
+void hash_question(const struct lwp *l, const char *text)
+{
+	run.history = hashed(run.history, &l->tid, sizeof l->tid);
+	run.history = hashed(run.history, text, strlen(text) + 1);
+}
+
+/* A number of the questions and steps up to here, and of who runs. */
+uint64_t state_of(int tid)
+{
+	for (; run.hashed < run.kept.count; run.hashed++) {
+		run.history = hashed(run.history, &run.kept.at[run.hashed].step, sizeof(struct step));
+		run.history = hashed(run.history, &run.kept.at[run.hashed].reply, sizeof(reply));
+	}
+	uint64_t hash = hashed(run.history, &tid, sizeof tid);
+	for (size_t i = 0; i < table.lwps.count; i++) {
+		const struct lwp *l = table.lwps.at[i];
+		hash = hashed(hash, &l->tid, sizeof l->tid);
+		hash = hashed(hash, &l->level, sizeof l->level);
+		hash = hashed(hash, l->asked, strlen(l->asked) + 1);
+	}
+	return hash;
+}
+
+/* ---- a run */
+
+static void begin(void)
+{
+	for (size_t i = 0; i < run.kept.count; i++)
+		free(run.kept.at[i].text);
+	memset(&run, 0, offsetof(struct run, wants));
+	run.switches.count = run.made.count = run.kept.count = 0;
+	run.inside = !options.calls;
+	run.last_look = UINT64_MAX;
+	run.history = 0xcbf29ce484222325;
+	outcome_begin();
+	table_begin();
+	turns_begin();
+	schedule_begin();
+	program_forget_output();
+	model_begin(options.kill_on_debugger_exit != 0);
+}
+
+/* The first process, and its LWP. */
+static struct lwp *make_first(void)
+{
+	reply r = make((struct step){.op = SPAWN}, true);
+	number_process(NULL);
+	number_lwp();
+	run.first = new_process(r.pid, 1);
+	return new_lwp(run.first, r.lwp, 0);
+}
+
+void run_once(void)
+{
+	static struct ends ends;
+	begin();
+	start_with(make_first(), live);
+	if (!has_failed())
+		verdict();
+	for (size_t i = 0; i < table.n_lwps; i++)
+		close_socket(table.all_lwps.at[i]); /* its thread reads the end, and ends its process */
+	program_sweep(&ends);
+	outcome_end(&ends);
+	coroutines_end();
+	model_end();
+}

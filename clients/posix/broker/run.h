@@ -1,0 +1,153 @@
+/* A run: who goes on, what the threads ask, and how it ends. run.py, program.py and watch.py in C. */
+#ifndef RUN_H
+#define RUN_H
+#include <stdarg.h>
+#include <stdio.h>
+#include "turns.h"
+
+struct options { /* of all runs */
+	bool calls; /* others go on between calls only */
+	bool strict;
+	long limit; /* questions of a run */
+	double patience;
+	long long output_limit;
+	int kill_on_debugger_exit;
+	int requests, answers; /* the pipes */
+	int output; /* the file of what a run prints, or -1 */
+};
+extern struct options options;
+
+struct wants { bool trace, points, places, made, stands; }; /* what an answer has besides its line */
+
+/* Of processes that have ended otherwise than with status 0, or killed, how: the host's numbers. */
+struct ends { int count; struct { int real, status; } at[512]; };
+
+struct kept { struct step step; reply reply; char *text; }; /* text: of both, if the trace is wanted */
+struct run {
+	struct process *first;
+	struct lwp *current;
+	bool inside; /* others go on inside of calls */
+	bool has_status;
+	int status; /* of the first process */
+	long questions, choices, steps, passed, skipped, examined, idle_points, busy;
+	uint64_t last_look;
+	uint64_t history; /* of questions and steps, if points are wanted */
+	size_t hashed;
+	/* these stay from run to run */
+	struct wants wants;
+	switches switches; /* that were made */
+	choices made;
+	LIST(struct kept) kept;
+};
+extern struct run run;
+
+/* ---- run.c */
+
+void others(struct lwp *l); /* others may go on: returns when this LWP is chosen again */
+void give_way(struct lwp *l); /* the same, behind an answer */
+void end_leg(struct lwp *l);
+void await(struct lwp *l, int64_t until, int count, const int64_t *topics);
+#define AWAIT(l, until, ...) \
+	await(l, until, sizeof (int64_t[]){__VA_ARGS__} / sizeof(int64_t), (int64_t[]){__VA_ARGS__})
+_Noreturn void vanish(struct lwp *l); /* of the LWP at its turn, which has ended */
+struct lwp *next_lwp(void);
+long stays_ahead(const struct lwp *l, long count);
+void run_once(void);
+
+/* ---- coroutines.c */
+
+void switch_to(struct lwp *from, struct lwp *to); /* NULL is the loop of runs */
+void start_with(struct lwp *first, void (*life)(struct lwp *l));
+void retire(struct lwp *l); /* it never goes on again */
+void coroutines_end(void);
+bool stack_is_low(const struct lwp *l);
+_Noreturn void leave_run(void);
+
+/* ---- questions.c and hearing.c */
+
+struct call {
+	const char *name;
+	void (*body)(struct lwp *l, const struct call *call, const int64_t *arguments);
+	int code; /* FreeBSD's number of the call; 0 if there is none, or the question has it */
+	int least, most; /* arguments */
+	const char *steps; /* that it makes if it doesn't wait, and nothing comes between */
+	int waits, wakes; /* topics: for which it waits, besides its process's news; that it changes */
+	bool at_once; /* nobody goes on between the question and its first step */
+};
+void print_calls(void);
+
+enum kind { READ, WRITE, POLL, KEVENT, SEMAPHORE, OTHER }; /* of `again` */
+struct question {
+	uint64_t where; /* the address behind the program's call; 0 if there is none */
+	char *text, *words; /* words: behind the name */
+	const struct call *call; /* NULL for `handled` */
+	int64_t arguments[ARGUMENTS];
+};
+enum reading { ASKS, HANDLED, BROKEN, REFUSED, OUTSIDE, FOREIGN_TEXT, UNKNOWN };
+enum reading read_question(char *line, struct question *q);
+
+void live(struct lwp *l);
+void run_handler(struct lwp *l, struct info info);
+const char *aside(struct lwp *l, const char *line);
+void close_socket(struct lwp *l);
+
+/* ---- ends.c */
+
+_Noreturn void ended(struct lwp *l, int status);
+void reap(struct process *const *suspects, size_t count, int status);
+void release_parent(struct process *p);
+void forget_lwp(struct lwp *l);
+void replace_lwp(struct lwp *l);
+const struct process *process_that_ended(int real);
+
+/* ---- outcome.c: what is answered to Python */
+
+void note(const char *format, ...) __attribute__((format(printf, 1, 2)));
+void note_text(const char *text); /* tabs, line feeds and % as %XX */
+void note_place(const char *kind, const struct lwp *l, const char *then, size_t step);
+void blame(const struct lwp *l, const char *then);
+void stand_by(const struct process *p);
+void flush_notes(void);
+/* How a run ends: the program has failed; the broker, the runtime or the host has, and nothing is known of the program; or
+ * this broker can't do what Python's does. The words are those of outcome.py. */
+_Noreturn void failed(const char *format, ...) __attribute__((format(printf, 1, 2)));
+_Noreturn void broken(const char *format, ...) __attribute__((format(printf, 1, 2)));
+_Noreturn void unable(const char *format, ...) __attribute__((format(printf, 1, 2)));
+_Noreturn void gone(const struct process *p);
+void set_failure(const char *format, ...) __attribute__((format(printf, 1, 2)));
+bool has_failed(void);
+void outcome_begin(void);
+void outcome_end(const struct ends *ends); /* of a process that has ended outside of the model: how */
+void note_outcome(void);
+void note_plain_outcome(void);
+void forget_notes(void);
+void verdict(void);
+
+uint64_t state_of(int tid);
+void hash_question(const struct lwp *l, const char *text);
+void turns_begin(void);
+
+/* ---- program.c */
+
+enum { LOOK_MS = 50, ENDING_S = 20, MESSAGE = 4097 };
+void program_start(char **argv);
+void program_end(void);
+int program_run(void); /* the broker's end of the first thread's socket */
+void program_sweep(struct ends *ends);
+long long program_printed(void);
+void program_forget_output(void);
+int socket_pair(int *given);
+bool send_with(int to, const char *text, int fd);
+
+/* ---- main.c */
+
+void end_if_python_is_gone(void);
+_Noreturn void leave_python(void); /* nobody hears any more: all is ended */
+void wait_for_python(void);
+
+/* ---- watch.c */
+
+struct watch { double left; int asleep; char letter; long used; };
+void watch_begin(struct watch *w);
+bool watch_look(struct watch *w, const struct lwp *l); /* whether the thread hangs */
+#endif

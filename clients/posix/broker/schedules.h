@@ -1,0 +1,35 @@
+/* The choices: who goes on if several can. schedules.py in C, with the random numbers of Python: a seed is the same
+ * schedule in both. */
+#ifndef SCHEDULES_H
+#define SCHEDULES_H
+#include "table.h"
+
+/* A choice that isn't the plain schedule's: at this point of this LWP, another goes on. */
+struct switch_to { int tid; long point; int to; };
+typedef LIST(struct switch_to) switches;
+typedef LIST(struct lwp *) lwps;
+
+enum strategy { PLAIN, SWITCHED, SEEDED, PRIORITIES };
+struct schedule {
+	enum strategy strategy;
+	uint64_t seed;
+	bool early; /* a sleep ends at any time */
+	long depth, length; /* of priorities */
+	switches given;
+};
+extern struct schedule schedule;
+
+void schedule_begin(void);
+bool schedule_stays(const struct lwp *current, long point);
+long schedule_ahead(const struct lwp *current, long point, long count);
+struct lwp *schedule_choose(const lwps *can, const lwps *asleep, const struct lwp *current, long point, struct lwp *plain);
+struct lwp *plain_choice(const lwps *can, const struct lwp *current);
+/* Which of these children a wait for any reports; 0 for the lowest number. */
+int schedule_first_of(const int *children, int count, const struct lwp *l, long point);
+
+/* The choices of the plain schedule, as numbers: the list for schedule_is_plain. */
+typedef LIST(int) choices;
+enum { STAYED, CHOSE, REPORTED };
+/* Whether a seed makes these choices too. It draws: the schedule has to begin again after that. */
+bool schedule_is_plain(const choices *made);
+#endif

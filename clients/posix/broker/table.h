@@ -1,0 +1,163 @@
+/* The processes and LWPs of a run, and who waits for what: table.py in C. There is one run at a time. */
+#ifndef TABLE_H
+#define TABLE_H
+#include <setjmp.h>
+#include <stdbool.h>
+#include <stddef.h>
+#include <stdint.h>
+#include <tracehost.h>
+#include <ucontext.h>
+
+typedef tracehost_reply reply;
+typedef uint32_t signals; /* signal n is bit n; in the model's sets it is bit n - 1 */
+#define BIT(number) ((signals)1 << (number))
+#define EACH_SIGNAL(number) int number = 1; number < 32; number++
+
+enum { TRAP = 5, KILL = 9, SEGV = 11, STOP = 17, CONT = 19, CHLD = 20 };
+enum { USER = 1001, FIRST_PROCESS = 1000, PROCESSES = 1000, FIRST_LWP = 100000, LWPS = 4000 };
+
+/* Topics: a process's number (news for it), its negative (it may run again), an LWP's number (it has ended), and these. */
+enum { IO = 1, SYNC = 2 };
+enum { NEVER = -1 }; /* no time */
+
+/* A list that grows. One that belongs to a process keeps its memory for the next run. */
+#define LIST(type) struct { type *at; size_t count, room; }
+#define APPEND(list, ...) \
+	((list)->at = with_room((list)->at, (list)->count + 1, &(list)->room, sizeof *(list)->at), \
+	(list)->at[(list)->count++] = (__VA_ARGS__))
+#define TAKE_OUT(list, place) take_out((list)->at, &(list)->count, place, sizeof *(list)->at)
+void *with_room(void *at, size_t count, size_t *room, size_t size);
+void take_out(void *at, size_t *count, size_t place, size_t size);
+
+struct info { int64_t signal, code, sender, status, address; }; /* of a signal, what siginfo_t has */
+struct caught { bool restart, no_defer, reset; signals mask; };
+struct awaited { int signal, count; uint32_t action; }; /* caught while `count` LWPs wait for it in sigwait(2) */
+struct put_back { int signal; uint32_t action; };
+struct rung { int64_t number, at, every, overruns, topic; int signal; bool due; }; /* a timer while its signal is pending */
+struct watched { int64_t pid; bool tracks; };
+struct counted { int64_t signal, number; };
+struct happening { int64_t kind, number, first, second; };
+struct described { int pid; bool daemon; };
+struct news { int pid, to, heir; bool job; }; /* a status that no wait has reported */
+
+struct lwp;
+struct process {
+	int pid, parent, tracer; /* no tracer is 0 */
+	int real; /* the host's number */
+	uint64_t base; /* where the host has loaded its program */
+	bool live;
+	bool examines; /* a debugger that has asked for registers, or set a byte: its steps are instructions */
+	bool stops; /* it has been stopped, or sent a signal that stops */
+	bool vforked; /* its parent waits for its exec or end */
+	bool chld_due, chld_spurious; /* a SIGCHLD has come since the last one was caught; one of a stop that was passed over */
+	int told; /* the exit code that the model has, or -1 */
+	struct lwp *reporting; /* of its last stop */
+	signals catches, ignored, maybe, has_sent; /* maybe: those that may be pending, for a call that waits */
+	struct caught caught[32];
+	struct info sent[32];
+	int n_awaited, n_put_back;
+	struct awaited awaited[32];
+	struct put_back put_back[32]; /* of a fork's child: what a sigwait(2) of its parent has changed */
+	struct lists {
+		LIST(struct lwp *) lwps, replaced; /* replaced: taken away by an exec */
+		LIST(struct rung) rung;
+		LIST(struct watched) watched;
+		LIST(struct counted) counts;
+		LIST(struct happening) happened;
+		LIST(struct described) described;
+	} lists;
+};
+
+struct call;
+enum { ARGUMENTS = 6, ASKED = 520 };
+struct lwp {
+	struct process *process;
+	int tid, real, fd; /* fd: -1 for a timer, and before its socket is given out */
+	bool is_timer, alive; /* alive: one of its process's */
+	bool in_table; /* it has said hello */
+	signals mask, former, accepting; /* former: before ppoll(2); accepting: by its sigwait(2), in place of a handler */
+	/* what it waits for */
+	bool waits;
+	int n_topics;
+	int64_t topics[4], until;
+	int64_t seen; /* the clock then; -1 looks again */
+	long ran, points, before; /* before: steps that were kept when its leg began */
+	bool yields, stepping, leaves, foreign;
+	bool traps; /* it steps by an instruction */
+	bool to_step; /* by PT_SETSTEP */
+	bool lands; /* its call is over: it asks `user` where the call has returned to */
+	bool hosted; /* it waits in a call of the host's */
+	bool lost; /* a debugger has let it go on at address 0 */
+	bool cancelled, born; /* born: its next message is the hello of a new image */
+	bool clean; /* no signal was pending at its last turn, and none has come since */
+	int level, depth; /* questions it stands in; and when its debugger made it step */
+	signals has_sent;
+	struct info sent[32], info; /* info: of the signal that it has last stopped for */
+	int passed; /* a signal whose handler is due */
+	LIST(int) injected; /* that other threads have sent it */
+	int64_t polling; /* when its poll(2) is over */
+	int entered; /* the code of the call that it is in, or -1 */
+	int pokes;
+	/* its question */
+	uint64_t where;
+	char asked[ASKED];
+	const struct call *call;
+	int64_t arguments[ARGUMENTS];
+	struct lwp *bears; /* its next answer has the socket of this one with it */
+	/* a timer */
+	int64_t number, first, every;
+	int signal;
+	uint64_t changed;
+	/* its coroutine */
+	char *stack;
+	bool started;
+	ucontext_t context;
+	jmp_buf base; /* an exec comes back here */
+};
+
+struct table {
+	LIST(struct process *) processes; /* live ones, by age */
+	LIST(struct lwp *) lwps; /* that may be chosen: timers too */
+	LIST(struct news) news;
+	int statuses[PROCESSES]; /* of processes that have ended, by number */
+	int64_t now; /* virtual time, in nanoseconds */
+	int made; /* how many processes there have been */
+	uint64_t clock;
+	/* all of the run, for the next one to use again */
+	LIST(struct process *) all_processes;
+	LIST(struct lwp *) all_lwps;
+	size_t n_processes, n_lwps;
+};
+extern struct table table;
+
+#define EACH_PROCESS(p) size_t p##_at = 0; p##_at < table.processes.count; p##_at++
+
+void table_begin(void);
+void change(int64_t topic);
+bool can_go(const struct lwp *l);
+void end_first_sleep(void);
+int64_t later(int64_t time, int64_t by);
+
+struct process *new_process(int pid, int parent);
+struct lwp *new_lwp(struct process *p, int tid, signals mask);
+void into_table(struct lwp *l);
+void out_of_table(struct lwp *l);
+bool is_of(const struct process *p, const struct lwp *l);
+void happen(int64_t kind, int64_t number, int64_t status);
+void table_end(struct process *p, int status);
+
+struct process *live_process(int64_t pid);
+struct lwp *lwp_of(int64_t tid);
+struct process *process_of(int64_t number);
+
+int reportable(const struct process *p, bool stops, int pids[PROCESSES]);
+bool hides(const struct process *parent, int pid);
+struct news *news_of(int pid);
+void forget_news(int pid);
+struct process *reported(int pid);
+
+/* The numbers that come next. `in_use`: the user's, zombies too, once numbers have begun again. */
+int number_process(const bool in_use[PROCESSES]);
+bool numbers_have_wrapped(void);
+int number_lwp(void);
+#endif

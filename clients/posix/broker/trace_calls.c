@@ -1,0 +1,222 @@
+/* ptrace(2), and what its requests change for others. trace_calls.py in C. */
+#include <errno.h>
+#include "calls.h"
+
+static const uint32_t events = TRACEHOST_PTRACE_EXEC | TRACEHOST_PTRACE_SCE | TRACEHOST_PTRACE_SCX | TRACEHOST_PTRACE_FORK |
+	TRACEHOST_PTRACE_LWP | TRACEHOST_PTRACE_VFORK;
+
+static bool is_request(int64_t number)
+{
+	return number == TRACEHOST_PT_TRACE_ME || (number >= TRACEHOST_PT_CONTINUE && number <= TRACEHOST_PT_DETACH) ||
+		(number >= TRACEHOST_PT_LWPINFO && number <= TRACEHOST_PT_GETLWPLIST) ||
+		(number >= TRACEHOST_PT_SUSPEND && number <= TRACEHOST_PT_SET_EVENT_MASK);
+}
+
+static bool resumes(int64_t request)
+{
+	return request == TRACEHOST_PT_CONTINUE || request == TRACEHOST_PT_STEP || request == TRACEHOST_PT_DETACH ||
+		(request >= TRACEHOST_PT_TO_SCE && request <= TRACEHOST_PT_SYSCALL);
+}
+
+/* What PT_CONTINUE is after PT_SETSTEP. */
+static void set_to_step(const struct lwp *l, int64_t *request, int64_t *target)
+{
+	const struct process *p = process_of(*target);
+	if (p == NULL || p->tracer != l->process->pid)
+		return;
+	for (size_t i = 0; i < p->lists.lwps.count; i++)
+		if (p->lists.lwps.at[i]->to_step) {
+			*request = TRACEHOST_PT_STEP, *target = p->lists.lwps.at[i]->tid;
+			return;
+		}
+}
+
+static struct step step_of(const struct lwp *l, int64_t request, int64_t target, int64_t data)
+{
+	struct step s = {.op = PTRACE, .actor = l->process->pid, .a = request};
+	if (request == TRACEHOST_PT_TRACE_ME)
+		return s;
+	s.which = (uint32_t)target, s.b = (uint32_t)data;
+	if (request == TRACEHOST_PT_SET_EVENT_MASK && data & ~(int64_t)events) { /* bits without a name: see below */
+		s.a = TRACEHOST_PT_GET_EVENT_MASK;
+		s.b = 0, s.bare = true;
+	}
+	return s;
+}
+
+static void resumed(struct process *p, int64_t request, int64_t target, int64_t data, bool by_instruction)
+{
+	struct lwp *reporting = p->reporting;
+	forget_news(p->pid);
+	for (size_t i = 0; i < p->lists.lwps.count; i++) {
+		struct lwp *l = p->lists.lwps.at[i];
+		bool named = l->tid == target || (target == p->pid && l == reporting);
+		l->stepping = request == TRACEHOST_PT_STEP && named;
+		l->traps = l->stepping && by_instruction;
+		l->depth = l->level, l->to_step = false;
+		run.examined += l->traps;
+	}
+	bool is_caught = data > 0 && data < 32 && is_of(p, reporting) && (p->catches | reporting->accepting) & BIT(data);
+	if (is_caught && !options.strict)
+		reporting->passed = data; /* the model says no more of it; a kernel runs the handler */
+	if (request == TRACEHOST_PT_DETACH)
+		p->tracer = 0;
+	change(p->pid);
+}
+
+/* What a request that was done changes here. */
+static void changed_by(struct process *caller, int64_t request, int64_t target, int64_t data, bool lost)
+{
+	if (request == TRACEHOST_PT_TRACE_ME) {
+		caller->tracer = caller->parent;
+		return;
+	}
+	struct process *p = process_of(target);
+	if (p == NULL)
+		return;
+	change(-p->pid);
+	if (request == TRACEHOST_PT_ATTACH) {
+		p->tracer = caller->pid, p->reporting = p->lists.lwps.at[0];
+		child_news(p, BSD_CLD_TRAPPED, STOP);
+	} else if (resumes(request)) {
+		if (lost && p->reporting != NULL)
+			p->reporting->lost = true;
+		resumed(p, request, target, data, caller->examines);
+	}
+	if (request == TRACEHOST_PT_KILL)
+		reap(&p, 1, KILL);
+	else if (resumes(request) && data != 0)
+		reap(&p, 1, data);
+}
+
+static void expect_call(const struct lwp *l, struct step s)
+{
+	const struct step steps[] = {entry_of(l, TRACEHOST_OTHER, 26), s, act_of(l, TRACEHOST_LEAVE_CALL, 0), act_of(l, TRACEHOST_COMPUTE, 0)};
+	expect(l, steps, lands(l) ? 3 : 4);
+}
+
+/* A request that the model has. The last argument: the target is to go on at address 0. */
+BODY(ptrace_call)
+{
+	int64_t request = arguments[0], target = arguments[1], data = arguments[2];
+	struct numbers numbers = {0};
+	reply r = {.kind = TRACEHOST_ERROR, .error = EINVAL};
+	bool is_known = is_request(request);
+	if (request == TRACEHOST_PT_CONTINUE)
+		set_to_step(l, &request, &target);
+	struct step s = step_of(l, request, target, data);
+	if (request == TRACEHOST_PT_TRACE_ME)
+		expect_call(l, s);
+	else
+		expect_others();
+	enter(l, call->code, NULL);
+	if (is_known) {
+		r = step_of_call(l, s, true);
+		if (r.kind == TRACEHOST_LWPS)
+			numbers_of_last(&numbers);
+		if (r.kind == TRACEHOST_OK)
+			changed_by(l->process, request, target, data, arguments[3]);
+		else if (s.bare && r.kind == TRACEHOST_MASK)
+			r = (reply){.kind = TRACEHOST_ERROR, .error = EINVAL}; /* what the model refuses first comes first */
+	}
+	finish(l);
+	const struct lwp *other = r.kind == TRACEHOST_INFO && r.event == 1 && !options.strict ? lwp_of(r.lwp) : NULL;
+	say_requested(&r, other != NULL ? &other->info : &(struct info){0}, &numbers);
+}
+
+/* PT_READ_D and its kin: the host's number of a process whose LWPs the model would count for this debugger. */
+BODY(memory)
+{
+	struct step s = {.op = PTRACE, .actor = l->process->pid, .a = TRACEHOST_PT_GETNUMLWPS, .which = (uint32_t)arguments[0]};
+	(void)call;
+	reply r = step_of_call(l, s, false);
+	if (r.kind == TRACEHOST_ERROR) {
+		say_reply(&r);
+		return;
+	}
+	const struct process *p = process_of(arguments[0]);
+	l->process->examines |= arguments[1] != 0 && !options.strict;
+	if (p != NULL)
+		say("ok %d", p->real);
+	else
+		say_error(EINVAL);
+}
+
+/* ---- registers, which the model doesn't have. The model only answers who may ask, and about which LWP */
+
+/* The stopped LWP that a debugger means, and how the model describes it; else NULL, and the answer is said. */
+static struct lwp *stopped_lwp(struct lwp *l, int64_t target, reply *r)
+{
+	*r = step_of_call(l, (struct step){.op = PTRACE, .actor = l->process->pid, .a = TRACEHOST_PT_LWPINFO, .which = (uint32_t)target}, false);
+	if (r->kind == TRACEHOST_ERROR) {
+		say_reply(r);
+		return NULL;
+	}
+	struct lwp *other = lwp_of(r->lwp);
+	if (other != NULL && !(other->foreign || other->leaves || other->born))
+		return other;
+	say_error(EINVAL);
+	return NULL;
+}
+
+static struct lwp *examined_lwp(struct lwp *l, int64_t target, reply *r)
+{
+	if (!options.strict)
+		return stopped_lwp(l, target, r);
+	say_error(EINVAL);
+	return NULL;
+}
+
+/* PT_GETREGS and its kin: where the thread has them in its memory. */
+BODY(registers_call)
+{
+	reply r;
+	char line[32];
+	struct lwp *other = examined_lwp(l, arguments[0], &r);
+	(void)call;
+	if (other == NULL)
+		return;
+	l->process->examines = true;
+	run.examined++;
+	if (r.flags & TRACEHOST_PL_FLAG_SCE)
+		snprintf(line, sizeof line, "registers %u", r.code);
+	else
+		snprintf(line, sizeof line, "registers -1");
+	say("ok %d %s", other->process->real, aside(other, line));
+}
+
+/* PT_SETREGS and its kin: the thread takes over what is there now. */
+BODY(apply)
+{
+	reply r;
+	char line[32];
+	struct lwp *other = examined_lwp(l, arguments[0], &r);
+	(void)call;
+	if (other == NULL)
+		return;
+	snprintf(line, sizeof line, "apply %lld", (long long)arguments[1]);
+	aside(other, line);
+	say("ok");
+}
+
+/* PT_SETSTEP, PT_CLEARSTEP: whether the next PT_CONTINUE is a step. */
+BODY(setstep)
+{
+	reply r;
+	struct lwp *other = examined_lwp(l, arguments[0], &r);
+	(void)call;
+	if (other == NULL)
+		return;
+	other->to_step = arguments[1];
+	say("ok");
+}
+
+/* The host's numbers of the process and the thread of a stopped LWP. */
+BODY(thread)
+{
+	reply r;
+	const struct lwp *other = stopped_lwp(l, arguments[0], &r);
+	(void)call;
+	if (other != NULL)
+		say("ok %d %d", other->process->real, other->real);
+}

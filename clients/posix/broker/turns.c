@@ -1,0 +1,455 @@
+#include "turns.h"
+#include <string.h>
+#include "run.h"
+
+enum { ESRCH_ = 3 };
+static const signals traps = BIT(4) | BIT(TRAP) | BIT(8) | BIT(10) | BIT(SEGV);
+
+/* ---- a step */
+
+struct step act_of(const struct lwp *l, int act, uint32_t argument)
+{
+	return (struct step){.op = TURN, .act = act, .actor = l->tid, .a = argument};
+}
+
+struct step entry_of(const struct lwp *l, int call, uint32_t argument)
+{
+	return (struct step){.op = TURN, .act = TRACEHOST_ENTER, .call = call, .actor = l->tid, .a = argument};
+}
+
+/* Python's broker sends steps together if the schedule lets the LWP go on at each of them; and the call that has made its
+ * process a traced one doesn't land if its `compute` was among them. For a seed to be the same schedule here, it is
+ * counted which steps those would be: there is one plan, which each call that has one replaces. No step is made before its
+ * turn. */
+enum { EXPECTED = 4 };
+static struct { const struct lwp *of; int count; struct step at[EXPECTED]; } plan, ahead;
+
+static bool is_same(const struct step *a, const struct step *b)
+{
+	return a->op == b->op && a->act == b->act && a->call == b->call && a->actor == b->actor && a->a == b->a && a->b == b->b &&
+		a->which == b->which;
+}
+
+static void drop_first(struct step *at, int *count, int dropped)
+{
+	*count -= dropped;
+	memmove(at, at + dropped, *count * sizeof *at);
+}
+
+void expect(const struct lwp *l, const struct step *steps, int count)
+{
+	plan.of = l;
+	plan.count = l->clean && !(l->passed || l->injected.count || l->traps) ? count : 0;
+	memcpy(plan.at, steps, plan.count * sizeof *steps);
+}
+
+void expect_others(void) { plan.count = 0; }
+
+static void count_along(const struct step *s)
+{
+	int place = 0;
+	if (ahead.count > 0 && is_same(&ahead.at[0], s)) {
+		drop_first(ahead.at, &ahead.count, 1);
+		return;
+	}
+	ahead.count = 0;
+	while (place < plan.count && !is_same(&plan.at[place], s))
+		place++;
+	if (place == plan.count) {
+		plan.count = 0;
+		return;
+	}
+	drop_first(plan.at, &plan.count, place + 1);
+	ahead.count = plan.count > 0 && run.inside ? (int)stays_ahead(plan.of, plan.count) : plan.count;
+	memcpy(ahead.at, plan.at, ahead.count * sizeof ahead.at[0]);
+	drop_first(plan.at, &plan.count, ahead.count);
+}
+
+void turns_begin(void) { plan.count = ahead.count = 0; }
+
+/* Makes a step, and keeps it for the record unless it had no effect and was only a look. */
+reply make(struct step s, bool keep)
+{
+	count_along(&s);
+	reply r = look(s);
+	run.steps++;
+	if (keep && r.kind != TRACEHOST_HELD)
+		keep_step(s, &r);
+	return r;
+}
+
+reply step_of_call(struct lwp *l, struct step s, bool keep)
+{
+	for (;;) {
+		if (run.inside)
+			others(l);
+		reply r = make(s, keep);
+		if (r.kind != TRACEHOST_HELD)
+			return r;
+		AWAIT(l, NEVER, -l->process->pid);
+	}
+}
+
+/* ---- signals that FreeBSD discards as they are posted. A traced process of the model keeps them, and stops */
+
+bool is_discarded(const struct process *p, int signal)
+{
+	if (options.strict || signal == CONT || has(traps, signal))
+		return false;
+	return has(p->ignored, signal) || (has(DISCARDED, signal) && !has(p->catches, signal));
+}
+
+/* What is known of a signal that is met; if nobody has sent it, the kernel has. */
+struct info info_of(struct lwp *l, int signal, struct info otherwise)
+{
+	struct info known = otherwise;
+	if (has(l->has_sent, signal)) {
+		known = l->sent[signal];
+		l->has_sent &= ~BIT(signal);
+	} else if (has(l->process->has_sent, signal)) {
+		known = l->process->sent[signal];
+		l->process->has_sent &= ~BIT(signal);
+	}
+	return known.signal == signal ? known : (struct info){.signal = signal, .code = BSD_SI_KERNEL};
+}
+
+/* The tracer takes the stop and lets the process go on, before anybody else may look. */
+static void pass_over(struct lwp *l, int signal)
+{
+	struct process *p = l->process, *tracer = live_process(p->tracer);
+	int64_t stepping = 0;
+	info_of(l, signal, (struct info){0}); /* nobody gets it */
+	if (tracer == NULL)
+		return;
+	for (size_t i = p->lists.lwps.count; i-- > 0;)
+		if (p->lists.lwps.at[i]->stepping)
+			stepping = p->lists.lwps.at[i]->tid;
+	const struct step steps[] = {{.op = WAIT4, .actor = tracer->pid, .which = p->pid},
+		{.op = PTRACE, .actor = tracer->pid, .a = stepping ? TRACEHOST_PT_STEP : TRACEHOST_PT_CONTINUE, .which = stepping ? stepping : p->pid}};
+	for (size_t i = 0; i < sizeof steps / sizeof steps[0]; i++)
+		while (make(steps[i], true).kind == TRACEHOST_HELD) {
+			AWAIT(l, NEVER, -tracer->pid, -p->pid);
+			if (p->tracer != tracer->pid)
+				return;
+		}
+	run.skipped++;
+	tracer->chld_spurious = true;
+	for (size_t i = 0; i < tracer->lists.lwps.count; i++)
+		tracer->lists.lwps.at[i]->clean = false;
+}
+
+/* Whether a SIGCHLD that is caught came only of stops that were passed over. */
+static bool is_spurious(struct process *p, int signal)
+{
+	if (signal != CHLD)
+		return false;
+	bool spurious = p->chld_spurious && !p->chld_due;
+	p->chld_spurious = p->chld_due = false;
+	return spurious;
+}
+
+/* The signal isn't pending any more: what a timer has counted meanwhile are its overruns. */
+static void met_signal(struct process *p, int signal)
+{
+	for (size_t i = 0; i < p->lists.rung.count; i++) {
+		struct rung *rung = &p->lists.rung.at[i];
+		if (!rung->due || rung->signal != signal)
+			continue;
+		rung->due = false;
+		rung->overruns = (table.now - rung->at) / rung->every;
+		change(rung->topic);
+	}
+}
+
+void send_info(struct process *p, struct info info)
+{
+	if (info.signal < 1 || info.signal > 31)
+		return;
+	p->sent[info.signal] = info;
+	p->has_sent |= BIT(info.signal);
+}
+
+void send_info_to_lwp(struct lwp *l, struct info info)
+{
+	if (info.signal < 1 || info.signal > 31)
+		return;
+	l->sent[info.signal] = info;
+	l->has_sent |= BIT(info.signal);
+}
+
+static void stopped(struct lwp *l, const reply *r)
+{
+	struct process *p = l->process;
+	met_signal(p, r->signal);
+	l->info = r->flags == 0 ? info_of(l, r->signal, (struct info){0}) : (struct info){0};
+	p->reporting = l;
+	p->stops = true;
+	p->maybe &= ~BIT(r->signal);
+	child_news(p, p->tracer == 0 ? BSD_CLD_STOPPED : BSD_CLD_TRAPPED, r->signal);
+}
+
+/* ---- the program's handlers */
+
+reply dispose(struct lwp *l, int signal, uint32_t action, const struct caught *caught)
+{
+	struct process *p = l->process;
+	reply r = step_of_call(l, (struct step){.op = SIGACTION, .actor = p->pid, .a = signal, .b = action}, true);
+	if (r.kind != TRACEHOST_OK)
+		return r;
+	p->catches &= ~BIT(signal), p->ignored &= ~BIT(signal);
+	if (caught != NULL) {
+		p->caught[signal] = *caught;
+		p->catches |= BIT(signal);
+	} else if (action == TRACEHOST_IGNORE)
+		p->ignored |= BIT(signal);
+	return r;
+}
+
+void block(struct lwp *l, signals mask)
+{
+	mask &= ~UNBLOCKABLE;
+	if (mask == l->mask)
+		return;
+	turn(l, act_of(l, TRACEHOST_BLOCK, mask >> 1), (struct how){0});
+	if (l->mask & ~mask & BIT(CONT))
+		met_signal(l->process, CONT); /* which the model doesn't keep */
+	l->mask = mask;
+}
+
+/* The program's handler runs, with its mask. */
+static void caught_signal(struct lwp *l, int signal, struct met *met)
+{
+	struct process *p = l->process;
+	signals old = l->mask;
+	p->maybe &= ~BIT(signal);
+	if (met != NULL) {
+		met->all |= BIT(signal);
+		if (met->accepted == 0 && l->accepting & BIT(signal))
+			met->accepted = signal;
+	}
+	if (!(p->catches & BIT(signal)) || l->accepting & BIT(signal))
+		return;
+	struct caught action = p->caught[signal];
+	if (action.reset)
+		dispose(l, signal, TRACEHOST_DEFAULT, NULL);
+	block(l, old | action.mask | (action.no_defer ? 0 : BIT(signal)));
+	run_handler(l, info_of(l, signal, l->info));
+	block(l, old);
+}
+
+/* ---- turns */
+
+/* There is nothing at address 0; a fault's signal can't be ignored or blocked. */
+static void fault(struct lwp *l)
+{
+	if (l->process->ignored & BIT(SEGV))
+		dispose(l, SEGV, TRACEHOST_DEFAULT, NULL);
+	block(l, l->mask & ~BIT(SEGV));
+	turn(l, act_of(l, TRACEHOST_RAISE, SEGV), (struct how){0});
+}
+
+/* What other threads and the debugger have left for the LWP's next turn in user mode. */
+static void before_turn(struct lwp *l, const struct step *wanted, struct met *met)
+{
+	bool raises = wanted->act == TRACEHOST_RAISE;
+	if (l->passed) {
+		int signal = l->passed;
+		l->passed = 0;
+		run.passed++;
+		caught_signal(l, signal, met);
+	}
+	if (l->lost && (wanted->act == TRACEHOST_COMPUTE || (raises && wanted->a == 0)))
+		fault(l);
+	while (l->injected.count > 0 && !raises) {
+		int signal = l->injected.at[0];
+		TAKE_OUT(&l->injected, 0);
+		turn(l, act_of(l, TRACEHOST_RAISE, signal), (struct how){.met = met});
+	}
+}
+
+static bool is_clean(const struct lwp *l, const struct step *s, const reply *r)
+{
+	return r->kind == TRACEHOST_OK &&
+		(s->act == TRACEHOST_COMPUTE || s->act == TRACEHOST_LEAVE_CALL || (l->clean && s->act == TRACEHOST_ENTER));
+}
+
+/* Of a turn that hasn't done its act: whether it ends here. */
+static bool is_over(struct lwp *l, const reply *r, const struct how *how)
+{
+	switch (r->kind) {
+	case TRACEHOST_HELD:
+		AWAIT(l, NEVER, -l->process->pid);
+		return false;
+	case TRACEHOST_STOPPED:
+		if (r->flags == 0 && is_discarded(l->process, r->signal)) {
+			pass_over(l, r->signal);
+			return false;
+		}
+		stopped(l, r);
+		return how->done != NULL && how->done(l, r);
+	case TRACEHOST_CAUGHT:
+		met_signal(l->process, r->signal);
+		if (!is_spurious(l->process, r->signal))
+			caught_signal(l, r->signal, how->met);
+		return false;
+	case TRACEHOST_ENDED:
+		ended(l, r->status);
+	case TRACEHOST_ERROR:
+		if (r->error == ESRCH_)
+			broken("LWP %d has ended unseen", l->tid);
+		return true;
+	default:
+		return true;
+	}
+}
+
+/* A turn, until its act was done, or ended in a stop that `done` takes; `met` gets the signals met before. One that steps
+ * by an instruction only looks if it `defers`: the instruction comes first. */
+reply turn(struct lwp *l, struct step wanted, struct how how)
+{
+	bool leaves = wanted.act == TRACEHOST_LEAVE_CALL;
+	for (;;) {
+		if (!leaves)
+			before_turn(l, &wanted, how.met);
+		if (run.inside && !how.at_once)
+			others(l);
+		how.at_once = false;
+		if (l->passed && !leaves)
+			continue; /* a debugger has let it go on with a signal since */
+		struct step s = how.defers && l->traps ? act_of(l, TRACEHOST_RAISE, 0) : wanted;
+		bool probe = s.act == TRACEHOST_RAISE && s.a == 0;
+		reply r = make(s, !probe);
+		l->clean = is_clean(l, &s, &r);
+		if (probe && (r.kind == TRACEHOST_STOPPED || r.kind == TRACEHOST_CAUGHT || r.kind == TRACEHOST_ENDED))
+			keep_step(s, &r);
+		if (is_over(l, &r, &how))
+			return r;
+	}
+}
+
+static bool at_entry(struct lwp *l, const reply *r)
+{
+	(void)l;
+	return r->flags & TRACEHOST_PL_FLAG_SCE;
+}
+
+static bool always(struct lwp *l, const reply *r)
+{
+	(void)l, (void)r;
+	return true;
+}
+
+static bool by_call(struct lwp *l, const reply *r)
+{
+	bool over = l->stepping && !l->traps && r->signal == TRAP && r->flags == 0;
+	l->stepping = l->stepping && !over;
+	return over;
+}
+
+static bool by_instruction(struct lwp *l, const reply *r)
+{
+	bool over = l->stepping && r->signal == TRAP && r->flags == 0;
+	l->stepping = l->stepping && !over, l->traps = l->traps && !over;
+	return over;
+}
+
+/* Into a call; a stop with PL_FLAG_SCE is at its entry. */
+void enter_call(struct lwp *l, int call, uint32_t argument, struct met *met)
+{
+	turn(l, entry_of(l, call, argument), (struct how){.done = at_entry, .met = met});
+}
+
+/* Into a call that the model knows only by its number. */
+void enter(struct lwp *l, int code, struct met *met)
+{
+	enter_call(l, TRACEHOST_OTHER, code, met);
+	l->entered = code;
+}
+
+/* Out of the call; a stop there is at the call's exit. */
+reply leave(struct lwp *l)
+{
+	l->entered = -1;
+	return turn(l, act_of(l, TRACEHOST_LEAVE_CALL, 0), (struct how){.done = always});
+}
+
+/* Back in user mode, where signals are met. */
+void user_met(struct lwp *l, struct met *met)
+{
+	reply r = turn(l, act_of(l, TRACEHOST_COMPUTE, 0), (struct how){.done = by_call, .met = met, .defers = true});
+	if (r.kind == TRACEHOST_STOPPED)
+		turn(l, act_of(l, TRACEHOST_RAISE, 0), (struct how){.met = met}); /* no act: does it go on? */
+}
+
+signals user(struct lwp *l)
+{
+	struct met met = {0};
+	user_met(l, &met);
+	return met.all;
+}
+
+/* One that steps by an instruction has made it. */
+void stepped(struct lwp *l)
+{
+	turn(l, act_of(l, TRACEHOST_COMPUTE, 0), (struct how){.done = by_instruction, .at_once = true});
+}
+
+/* In user mode, and no call is made: the LWP stays here while its process is stopped. */
+void stay(struct lwp *l)
+{
+	if (l->process->tracer != 0 || l->process->stops)
+		turn(l, act_of(l, TRACEHOST_RAISE, 0), (struct how){0});
+}
+
+/* Out of the call, and back in user mode. */
+void finish(struct lwp *l)
+{
+	leave(l);
+	back(l);
+}
+
+/* A traced process meets signals, and stops, where its call has returned to: with its own registers and results. */
+bool lands(const struct lwp *l) { return l->process->tracer != 0 && !options.strict; }
+
+/* Back in user mode, from a call that is over. */
+void back(struct lwp *l)
+{
+	l->lands = lands(l) && ahead.count == 0;
+	if (!l->lands)
+		user(l);
+}
+
+/* ---- waiting in a call */
+
+bool linger(struct lwp *l, int64_t topic, bool restarts, int64_t until)
+{
+	struct process *p = l->process;
+	struct met met = {0};
+	int code = l->entered;
+	if (!is_due(l))
+		await(l, until, topic == 0 ? 1 : 2, (int64_t[]){p->pid, topic});
+	if (!is_due(l) || code < 0)
+		return false;
+	p->maybe &= l->mask;
+	leave(l);
+	signals caught = user(l);
+	if (l->cancelled || interrupts(p, caught, restarts))
+		return true;
+	enter(l, code, &met);
+	if (!interrupts(p, met.all, restarts))
+		return false;
+	finish(l);
+	return true;
+}
+
+/* Whether one of these handlers has ended a call that another one may restart. */
+bool interrupts(const struct process *p, signals met, bool restarts)
+{
+	for (EACH_SIGNAL(number))
+		if (met & BIT(number) && (!restarts || !(p->catches & BIT(number)) || !p->caught[number].restart))
+			return true;
+	return false;
+}
+
+/* Whether a signal may be for the LWP to meet. */
+bool is_due(const struct lwp *l) { return l->passed || l->injected.count || l->cancelled || l->process->maybe & ~l->mask; }

@@ -1,0 +1,197 @@
+"""What comes of a run, whichever broker has run it; and the compiled broker's lines, of which broker/outcome.c is the other end."""
+
+from __future__ import annotations
+
+from collections.abc import Sequence
+from typing import NamedTuple
+from urllib.parse import unquote
+
+from .blame import ended_by, gone, loops, unheard_of
+from .coverage import Met
+from .describe import Place, Waiting, signal_name, waiting
+from .schedules import Switch
+from .table import Options
+
+Kept = list[tuple[str, str]]
+"""The steps of a run, as JSON, and the words of their answers."""
+
+
+class Choice(NamedTuple):
+    """A choice that another schedule could make otherwise."""
+
+    switch: Switch
+    forced: bool
+    """The running LWP can't go on: another choice preempts nobody."""
+    others: tuple[int, ...]
+    state: int
+    """Two choices with the same number come after the same questions and steps."""
+
+
+class Result(NamedTuple):
+    """What a search needs of a run."""
+
+    why: str | None
+    """What failed, or None."""
+    questions: int
+    steps: int
+    choices: int
+    schedule: str
+    """Its switches, as `schedules.text_of` writes them: most are only compared."""
+    digest: str
+    passed: int
+    """Handlers that ran for a passed-on signal."""
+    skipped: int
+    """Stops that were passed over."""
+    examined: int = 0
+    """Registers that were read or set, and steps by an instruction."""
+    points: tuple[Choice, ...] = ()
+    covered: tuple[tuple[Met, bool], ...] = ()
+    """Calls at which others could go on, and whether one did."""
+
+    @property
+    def switches(self) -> tuple[Switch, ...]:
+        """The choices that weren't the plain schedule's."""
+        items = (item.replace(":", ".").split(".") for item in self.schedule.split(",") if item)
+        return tuple(Switch(*map(int, item)) for item in items)
+
+
+class Outcome(NamedTuple):
+    """A run with all that its record and its report have."""
+
+    result: Result
+    kept: Kept
+    output: bytes
+    """What it has printed, if that was kept."""
+    places: Sequence[Place] = ()
+    """Of its switches."""
+    blamed: Sequence[Place] = ()
+
+
+# ---- words: of the program's failures, and of faults of the broker, the runtime or the host
+
+
+def endless(limit: int) -> str:
+    return f"no end after {limit} questions"
+
+
+def printed_too_much(limit: int) -> str:
+    return f"it has printed more than {limit} bytes (--output-limit)"
+
+
+def hang(pid: int, tid: int, patience: float) -> str:
+    return f"hang: {pid}/{tid} has made no call for {patience:g} s"
+
+
+def late(pid: int, told: int, status: int) -> str:
+    return f"process {pid} has exited with status {told}, but was then {ended_by(status)}, by its last handlers"
+
+
+def deadlock(all_waiting: Sequence[Waiting]) -> str:
+    return f"deadlock: {'; '.join(map(waiting, all_waiting))}"
+
+
+KILLED = "the first process was killed"
+
+
+def status_of_first(status: int) -> str:
+    if status & 127:
+        return f"the first process was ended by {signal_name(status & 127)}"
+    return f"the first process exited with status {status >> 8}"
+
+
+def wrote(pid: int, line: str) -> str:
+    return f"process {pid} has written {line[:40]!r} on the runtime's socket"
+
+
+SERVER_ENDED = "the program's server has ended"
+
+
+def server_silent(patience: float) -> str:
+    return f"the program's server has said nothing for {patience:g} s"
+
+
+def failure(text: str, all_waiting: Sequence[Waiting], options: Options) -> str:
+    """The sentence of the compiled broker's words for a failure."""
+    name, *words = text.split(" ")
+    numbers = [int(word) for word in words] if name not in ("refused", "outside") else [int(word) for word in words[:2]]
+    if name == "endless":
+        return endless(options.limit)
+    if name == "printed":
+        return printed_too_much(options.output_limit)
+    if name == "hang":
+        return hang(numbers[0], numbers[1], options.patience)
+    if name == "gone":
+        return gone(numbers[0]) + (f": {ended_by(numbers[1])}" if len(numbers) > 1 else "")
+    if name == "late":
+        return late(*numbers)
+    if name == "deadlock":
+        return deadlock(all_waiting)
+    if name == "killed":
+        return KILLED
+    if name == "status":
+        return status_of_first(numbers[0])
+    return f"{numbers[0]}/{numbers[1]} {unheard_of(name, words[2:])}"
+
+
+def fault(text: str) -> str:
+    """The sentence of its words for a fault that isn't the program's."""
+    name, _, rest = text.partition(" ")
+    first, _, last = rest.partition(" ")
+    if name == "wrote":
+        return wrote(int(first), bytes.fromhex(last).decode("utf-8", "replace"))
+    if name == "told":
+        return f"process {first}: {last}"
+    if name == "begins":
+        return f"process {first} begins with {last!r}"
+    if name == "number":
+        return f"the model has made {first}, where {last} was due"
+    if name == "silent":
+        tid, _, line = last.partition(" ")
+        return f"{first}/{tid} doesn't answer {line!r}"
+    if name == "server":
+        return server_silent(float(rest)) if rest else SERVER_ENDED
+    return rest if name == "host" else text
+
+
+# ---- lines
+
+
+class Answer:
+    """The compiled broker's lines about one run."""
+
+    def __init__(self) -> None:
+        self.kept: Kept = []
+        self.points: list[Choice] = []
+        self.places: list[Place] = []
+        self.blamed: list[Place] = []
+        self.last: list[Place] = []
+        self.waiting: list[Waiting] = []
+
+    def take(self, line: str) -> None:
+        """A line before the last one."""
+        name, *fields = line.split("\t")
+        if name == "step":
+            self.kept.append((fields[0], fields[1]))
+        elif name.startswith("point "):
+            tid, point, forced, state, *others = map(int, name.split(" ")[1:])
+            self.points.append(Choice(Switch(tid, point, 0), bool(forced), tuple(others), state))
+        elif name == "waits":
+            pid, tid, stopped, tracer, reporting, holder = map(int, fields[:6])
+            self.waiting.append(Waiting(pid, tid, unquote(fields[6]), bool(stopped), tracer or None, bool(reporting), holder))
+        else:
+            {"switch": self.places, "blame": self.blamed, "last": self.last}[name].append(_place(fields))
+
+    def result(self, line: str, options: Options) -> Result:
+        """What the last line says: how it has ended, figures, switches, and what has failed."""
+        name, *figures, switches, text = line.split(" ", 8)
+        why = failure(unquote(text), self.waiting, options) if name == "failed" else None
+        if why == endless(options.limit):
+            self.blamed = loops(self.last)
+        questions, steps, choices, passed, skipped, examined = map(int, figures)
+        schedule = switches if switches != "-" else ""
+        return Result(why, questions, steps, choices, schedule, "", passed, skipped, examined, tuple(self.points))
+
+
+def _place(fields: Sequence[str]) -> Place:
+    who, asked, where, program, then, step = fields
+    return Place(who, unquote(asked), int(where), unquote(program), then, int(step))
