@@ -4,9 +4,8 @@ from __future__ import annotations
 
 import os
 import subprocess
-import tempfile
 from collections.abc import Callable
-from typing import NamedTuple
+from typing import IO, NamedTuple
 
 from . import record
 from .coverage import Met
@@ -153,12 +152,16 @@ class Runner:
 
 
 def verify(run: Run, setting: Setting) -> str | None:
-    """What `tracehost --expect` says against the record, or None."""
-    with tempfile.TemporaryDirectory(prefix="tracehost-") as folder:
-        path = os.path.join(folder, "record.json")
-        with open(path, "w") as file:
-            file.write(record.scenario(run.turns.kept, setting.kill_on_debugger_exit))
-        with open(path + ".lines", "w") as file:
-            file.write(record.lines(run.turns.kept))
-        done = subprocess.run([setting.model, "--expect", path + ".lines", path], capture_output=True, text=True)
+    """What `tracehost --expect` says against the record, or None. The record is in memory: no file is left, whatever ends this."""
+    with _in_memory(record.scenario(run.turns.kept, setting.kill_on_debugger_exit)) as scenario, _in_memory(record.lines(run.turns.kept)) as lines:
+        numbers = lines.fileno(), scenario.fileno()
+        words = [setting.model, "--expect", *(f"/proc/self/fd/{number}" for number in numbers)]
+        done = subprocess.run(words, capture_output=True, text=True, pass_fds=numbers)
     return None if done.returncode == 0 else f"the record is answered otherwise: {done.stderr.strip() or done.returncode}"
+
+
+def _in_memory(text: str) -> IO[str]:
+    file = os.fdopen(os.memfd_create("tracehost-record"), "w")
+    file.write(text)
+    file.flush()
+    return file
