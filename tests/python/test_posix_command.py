@@ -338,6 +338,21 @@ def test_no_more_workers_than_tasks(folder: pathlib.Path) -> None:
     assert done.returncode == 0, done.stderr
 
 
+@pytest.mark.parametrize("number", [signal.SIGKILL, signal.SIGTERM])
+def test_no_file_is_left_of_verified_runs(tmp_path: pathlib.Path, number: signal.Signals) -> None:
+    program = compiled(tmp_path, "calls", "#include <unistd.h>\nint main(void) { for (int i = 0; i < 20; i++) getppid(); return 0; }\n")
+    files = tmp_path / "files"
+    files.mkdir()
+    words = [str(word) for word in (RUN, "--verify", "--digest", "--schedules", 100000, program)]
+    for _ in range(3):
+        broker = subprocess.Popen(words, stdout=subprocess.PIPE, text=True, env=dict(os.environ, TMPDIR=str(files), PYTHONUNBUFFERED="1"))
+        assert broker.stdout is not None and broker.stdout.readline()
+        broker.send_signal(number)
+        broker.stdout.close()
+        broker.wait()
+        assert not list(files.iterdir())
+
+
 def test_a_worker_that_dies_is_replaced(folder: pathlib.Path) -> None:
     words = [RUN, "--jobs", "3", "--schedules", "1500", "--digest", folder / "odd", "loops", "x"]
     source = "#include <unistd.h>\nint main(void) { for (int i = 0; i < 20; i++) getppid(); return 0; }\n"

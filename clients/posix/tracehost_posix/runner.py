@@ -4,10 +4,9 @@ from __future__ import annotations
 
 import os
 import subprocess
-import tempfile
 from abc import ABC, abstractmethod
 from collections.abc import Callable, Iterator
-from typing import NamedTuple
+from typing import IO, NamedTuple
 
 from . import record
 from .outcome import Kept, Outcome, Result
@@ -92,12 +91,16 @@ def judged(setting: Setting, outcome: Outcome, digest: bool) -> Result:
 
 
 def verify(steps: Kept, setting: Setting) -> str | None:
-    """What `tracehost --expect` says against the record, or None."""
-    with tempfile.TemporaryDirectory(prefix="tracehost-") as folder:
-        path = os.path.join(folder, "record.json")
-        with open(path, "w") as file:
-            file.write(record.scenario(steps, setting.kill_on_debugger_exit))
-        with open(path + ".lines", "w") as file:
-            file.write(record.lines(steps))
-        done = subprocess.run([setting.model, "--expect", path + ".lines", path], capture_output=True, text=True)
+    """What `tracehost --expect` says against the record, or None. The record is in memory: no file is left, whatever ends this."""
+    with _in_memory(record.scenario(steps, setting.kill_on_debugger_exit)) as scenario, _in_memory(record.lines(steps)) as lines:
+        numbers = lines.fileno(), scenario.fileno()
+        words = [setting.model, "--expect", *(f"/proc/self/fd/{number}" for number in numbers)]
+        done = subprocess.run(words, capture_output=True, text=True, pass_fds=numbers)
     return None if done.returncode == 0 else f"the record is answered otherwise: {done.stderr.strip() or done.returncode}"
+
+
+def _in_memory(text: str) -> IO[str]:
+    file = os.fdopen(os.memfd_create("tracehost-record"), "w")
+    file.write(text)
+    file.flush()
+    return file
