@@ -18,26 +18,13 @@ use trace_stop::{Settings, StopInfo, detach, end, post, post_lwp, resume, settle
 use wait4::{Collected, Options, Status, StatusKind, collect};
 
 pub fn check(rt: &impl Print, alloc: Global) -> Result<(), TestError> {
-    a_stop_is_collected_once(alloc)?;
     statuses_have_kinds()?;
-    a_debugger_reads_an_lwp(alloc)?;
-    a_resumed_process_gets_signals(alloc)?;
-    a_process_stops_by_its_lwp(alloc)?;
-    a_detached_process_runs(alloc)?;
-    an_ended_process_is_collected(alloc)?;
-    println!(rt; "stops: 7 checks passed")?;
+    each_part_is_made(alloc)?;
+    println!(rt; "stops: 2 checks passed")?;
     Ok(())
 }
 
-/// Process 1000 has attached to process 1001, which has stopped.
-const ATTACHED: &str = "
-spawn -> new 1000 100000
-1002 spawn -> new 2000 104000
-spawn -> new 1001 100001
-ptrace 1000 PT_ATTACH 1001 -> ok
-";
-
-/// The same, and a wait has reported the stop.
+/// Process 1000 has attached to process 1001, and a wait has reported the stop.
 const REPORTED: &str = "
 spawn -> new 1000 100000
 1002 spawn -> new 2000 104000
@@ -47,7 +34,7 @@ wait4 1000 -1 -> status 1001 4479
 ";
 
 /// The debugger, its tracee, and the tracee's LWP.
-#[derive(Clone, Copy, Debug, Drop)]
+#[derive(Drop)]
 struct Traced {
     debugger: Pid,
     pid: Pid,
@@ -149,12 +136,6 @@ fn check_waits(
     check_wait(tables, traced.debugger, -1, next)
 }
 
-fn a_stop_is_collected_once(alloc: Global) -> Result<(), TestError> {
-    let traced = Traced::new()?;
-    let mut tables = tables_after(alloc, ATTACHED)?;
-    check_waits(&mut tables, &traced, 4479, Collected::Nothing)
-}
-
 fn statuses_have_kinds() -> Result<(), TestError> {
     for (word, kind) in [
         (768, StatusKind::Exited(3)),
@@ -168,29 +149,6 @@ fn statuses_have_kinds() -> Result<(), TestError> {
         }
     }
     Ok(())
-}
-
-fn a_debugger_reads_an_lwp(alloc: Global) -> Result<(), TestError> {
-    let Traced { pid, tid, .. } = Traced::new()?;
-    let tables = tables_after(alloc, REPORTED)?;
-    let shown = LwpInfo {
-        tid,
-        event: Event::Signal,
-        flags: StopFlags(0),
-        sigmask: SigSet::empty(),
-        siglist: SigSet::empty(),
-        child: 0,
-        code: 0,
-    };
-    let is_shown = info(&tables, pid, tid) == Some(shown);
-    expect(is_shown, "a debugger reads something else")?;
-    expect(lwp_count(&tables, pid) == 1, "a process has more LWPs")?;
-    let list = lwp_list(alloc, &tables, pid, 8)?;
-    let is_whole = list.as_slice() == &[tid.get()][..];
-    expect(is_whole, "a process has other LWPs")?;
-    expect(list.copy(alloc)? == list, "a copy is another list")?;
-    let list = lwp_list(alloc, &tables, pid, 0)?;
-    expect(list.as_slice().is_empty(), "a list is too long")
 }
 
 /// Resumes the process without a signal, if it is in a trace stop, and returns whether it was.
@@ -246,14 +204,6 @@ fn resume_and_post(tables: &mut Tables, traced: &Traced, signal: Signal) -> Resu
     post_twice(tables, traced.pid, traced.tid, signal)
 }
 
-fn a_resumed_process_gets_signals(alloc: Global) -> Result<(), TestError> {
-    let traced = Traced::new()?;
-    let signal = Signal::new(30)?;
-    let mut tables = tables_after(alloc, REPORTED)?;
-    resume_and_post(&mut tables, &traced, signal)?;
-    check_pending(&tables, &traced, signal)
-}
-
 /// Stops the process by this LWP of it.
 #[tactic(auto, using(crate::proofs::Found::found_rows))]
 fn stop_by(tables: &mut Tables, pid: Pid, tid: Tid, shown: &StopInfo) -> Result<(), TestError> {
@@ -276,20 +226,6 @@ fn check_stop(tables: &Tables, traced: &Traced, shown: &StopInfo) -> Result<(), 
         Some(read) if read.flags == shown.flags && read.code == shown.code => Ok(()),
         _ => Err(TestError::Wrong("a debugger reads something else")),
     }
-}
-
-fn a_process_stops_by_its_lwp(alloc: Global) -> Result<(), TestError> {
-    let traced = Traced::new()?;
-    let shown = StopInfo {
-        sig: Signal::new(5)?,
-        flags: StopFlags::PL_FLAG_SCE,
-        child: 0,
-        code: 20,
-    };
-    let mut tables = tables_after(alloc, REPORTED)?;
-    resume_stopped(&mut tables, traced.pid)?;
-    stop_by(&mut tables, traced.pid, traced.tid, &shown)?;
-    check_stop(&tables, &traced, &shown)
 }
 
 /// Detaches the process without a signal.
@@ -322,13 +258,6 @@ fn check_settled(tables: &mut Tables, pid: Pid) -> Result<(), TestError> {
     expect(is_same, "a process without pending signals isn't settled")
 }
 
-fn a_detached_process_runs(alloc: Global) -> Result<(), TestError> {
-    let pid = Traced::new()?.pid;
-    let mut tables = tables_after(alloc, REPORTED)?;
-    detach_stopped(&mut tables, pid)?;
-    check_settled(&mut tables, pid)
-}
-
 /// Ends the process as _exit(2) with 3 does.
 fn exit(tables: &mut Tables, pid: Pid) -> Result<(), TestError>
     requires sound { IsSound tables.old.rows }
@@ -348,13 +277,107 @@ fn check_exit(tables: &mut Tables, traced: &Traced) -> Result<(), TestError>
     exit(tables, traced.pid)?;
     let is_zombie = process(tables, traced.pid)?.state == State::Zombie { status: 768 };
     expect(is_zombie, "an ended process is no zombie")?;
-    check_waits(tables, &traced, 768, Collected::NoChild)
-}
-
-fn an_ended_process_is_collected(alloc: Global) -> Result<(), TestError> {
-    let traced = Traced::new()?;
-    let mut tables = tables_after(alloc, REPORTED)?;
-    check_exit(&mut tables, &traced)?;
+    check_waits(tables, traced, 768, Collected::NoChild)?;
     let is_gone = tables.process(traced.pid).is_none();
     expect(is_gone, "a collected zombie is there")
+}
+
+/// Checks what the debugger reads of the LWP that has stopped.
+fn check_reads(alloc: Global, tables: &Tables, traced: &Traced) -> Result<(), TestError> {
+    let shown = LwpInfo {
+        tid: traced.tid,
+        event: Event::Signal,
+        flags: StopFlags(0),
+        sigmask: SigSet::empty(),
+        siglist: SigSet::empty(),
+        child: 0,
+        code: 0,
+    };
+    let is_shown = info(tables, traced.pid, traced.tid) == Some(shown);
+    expect(is_shown, "a debugger reads something else")?;
+    let is_only = lwp_count(tables, traced.pid) == 1;
+    expect(is_only, "a process has more LWPs")?;
+    let list = lwp_list(alloc, tables, traced.pid, 8)?;
+    let is_whole = list.as_slice() == &[traced.tid.get()][..];
+    expect(is_whole, "a process has other LWPs")?;
+    let copy = list.copy(alloc)?;
+    expect(copy == list, "a copy is another list")
+}
+
+/// Checks that the process, resumed, stops by its LWP as shown.
+fn check_stops(tables: &mut Tables, traced: &Traced) -> Result<(), TestError>
+    requires sound { IsSound tables.old.rows }
+{
+    let shown = StopInfo {
+        sig: Signal::new(5)?,
+        flags: StopFlags::PL_FLAG_SCE,
+        child: 0,
+        code: 20,
+    };
+    resume_stopped(tables, traced.pid)?;
+    stop_by(tables, traced.pid, traced.tid, &shown)?;
+    check_stop(tables, traced, &shown)
+}
+
+/// Checks that the process, resumed, has the signal that is posted to it.
+fn check_signals(tables: &mut Tables, traced: &Traced) -> Result<(), TestError>
+    requires sound { IsSound tables.old.rows }
+{
+    let signal = Signal::new(30)?;
+    resume_and_post(tables, traced, signal)?;
+    check_pending(tables, traced, signal)
+}
+
+/// Checks that the process, detached, runs.
+fn check_detached(tables: &mut Tables, traced: &Traced) -> Result<(), TestError>
+    requires sound { IsSound tables.old.rows }
+{
+    detach_stopped(tables, traced.pid)?;
+    check_settled(tables, traced.pid)
+}
+
+/// What is made of the stop.
+#[derive(Clone, Copy, Drop)]
+enum Part {
+    Read,
+    Wait,
+    Signal,
+    Stop,
+    Detach,
+    Exit,
+}
+
+/// Makes this of the stop, and checks what comes of it.
+fn check_part(
+    alloc: Global,
+    tables: &mut Tables,
+    traced: &Traced,
+    part: Part,
+) -> Result<(), TestError>
+    requires sound { IsSound tables.old.rows }
+{
+    match part {
+        Part::Read => check_reads(alloc, tables, traced),
+        Part::Wait => check_wait(tables, traced.debugger, -1, Collected::Nothing),
+        Part::Signal => check_signals(tables, traced),
+        Part::Stop => check_stops(tables, traced),
+        Part::Detach => check_detached(tables, traced),
+        Part::Exit => check_exit(tables, traced),
+    }
+}
+
+fn each_part_is_made(alloc: Global) -> Result<(), TestError> {
+    let traced = Traced::new()?;
+    for part in [
+        Part::Read,
+        Part::Wait,
+        Part::Signal,
+        Part::Stop,
+        Part::Detach,
+        Part::Exit,
+    ] {
+        let mut tables = tables_after(alloc, REPORTED)?;
+        check_part(alloc, &mut tables, &traced, part)?;
+    }
+    Ok(())
 }
