@@ -1,17 +1,14 @@
-//! Uses the public calls, types, fields and variants that the library has for numbers, tables, steps, views, shared hosts
-//! and scenarios, and checks what they answer. It prints the name of each part, and ends with status 1 if a check
-//! fails. A name that is gone doesn't build.
+//! Uses the public calls, types, fields and variants that the library has for numbers, tables, steps, stops and views, and
+//! checks what they answer. It prints the name of each part, and ends with status 1 if a check fails. A name that is
+//! gone doesn't build.
 #![tactic(auto)]
 
-mod hosts;
 mod laws;
 mod numbers;
 mod refusals;
-mod session_runs;
-mod shared_host;
 mod steps;
+mod stops;
 mod tables;
-mod texts;
 mod views;
 
 use test_kit::TestError;
@@ -21,10 +18,8 @@ fn main(rt: HostRuntime) -> Result<(), TestError> {
     numbers::check(&rt, alloc)?;
     tables::check(&rt, alloc)?;
     steps::check(&rt, alloc)?;
+    stops::check(&rt, alloc)?;
     refusals::check(&rt, alloc)?;
     views::check(&rt, alloc)?;
-    laws::check(&rt, alloc)?;
-    shared_host::check(&rt, alloc)?;
-    session_runs::check(&rt, alloc)?;
-    texts::check(&rt, alloc)
+    laws::check(&rt, alloc)
 }

@@ -1,11 +1,11 @@
 //! A fork that memory is refused for. It changes nothing, and is made once there is memory.
 
-use crate::hosts::new_host;
 use pid_blocks::Uid;
 use requests::{Act, Host, Reply, Step};
 use std::alloc::Global;
 use stop_handlers::ByPolicy;
 use test_kit::{TestError, expect, follow};
+use trace_stop::Settings;
 use visibility::{View, user_view};
 
 /// The number of tries of a step while it is refused.
@@ -50,7 +50,7 @@ fn leave(
 
 fn a_refused_fork_changes_nothing(alloc: Global) -> Result<(), TestError> {
     let user = Uid::new(1001)?;
-    let mut host = new_host(alloc).ok_or(TestError::Memory)?;
+    let mut host = Host::<ByPolicy>::new(alloc, Settings::standard())?;
     follow(alloc, &mut host, IN_FORK)?;
     let before = user_view(alloc, &host, user)?;
     let reply = leave(alloc, &mut host, user, &before)?;

@@ -1,6 +1,5 @@
 //! Each kind of step, request, act and reply, of one user on one host.
 
-use crate::hosts::new_host;
 use event_masks::{Call, StopFlags};
 use pid_blocks::Uid;
 use requests::{Act, Host, PlainStep, Reply, Request, Step};
@@ -128,14 +127,14 @@ fn check_host(host: &Host<ByPolicy>) -> Result<(), TestError> {
 }
 
 fn every_step_is_answered(alloc: Global) -> Result<(), TestError> {
-    let mut host = new_host(alloc).ok_or(TestError::Memory)?;
+    let mut host = Host::<ByPolicy>::new(alloc, Settings::standard())?;
     ask(alloc, &mut host)?;
     debug(alloc, &mut host)?;
     check_host(&host)
 }
 
 fn every_act_is_made(alloc: Global) -> Result<(), TestError> {
-    let mut host = new_host(alloc).ok_or(TestError::Memory)?;
+    let mut host = Host::<ByPolicy>::new(alloc, Settings::standard())?;
     make(alloc, &mut host, &Step::Spawn, "new 1000 100000")?;
     let usr1 = SigSet::empty().with(Signal::new(30)?);
     for act in [
@@ -168,7 +167,7 @@ fn request_nobody(
 }
 
 fn every_request_needs_a_target(alloc: Global) -> Result<(), TestError> {
-    let mut host = new_host(alloc).ok_or(TestError::Memory)?;
+    let mut host = Host::<ByPolicy>::new(alloc, Settings::standard())?;
     make(alloc, &mut host, &Step::Spawn, "new 1000 100000")?;
     request_nobody(alloc, &mut host, Request::TraceMe, "error EPERM 1")?;
     for request in [
@@ -236,7 +235,7 @@ fn follow_line(
 
 fn every_reply_has_its_word(alloc: Global) -> Result<(), TestError> {
     let policy = policy()?;
-    let mut host = new_host(alloc).ok_or(TestError::Memory)?;
+    let mut host = Host::<ByPolicy>::new(alloc, Settings::standard())?;
     for line in rows_of(alloc, EACH_REPLY)?.iter() {
         follow_line(alloc, &mut host, line, &policy)?;
     }

@@ -1,5 +1,0 @@
-use Rattle.host_lock.specs.Sessions.{IsOf}
-use Rattle.test_surface.proofs.shared_host.pairs.work.Given as goal
-
-abbrev pub invariant-loop-step : goal.invariant-loop-step
-invariant-loop-step g l = IsOf l.host l.session
