@@ -30,13 +30,12 @@ STAND_IN = """\
 import sys
 from pathlib import Path
 
-assert sys.argv[1] == 'must-fail', sys.argv
+assert sys.argv[1:] == ['ci'] and Path('HANDLES').exists(), sys.argv
 kept = False
-for name in sys.argv[2:]:
-    for edit in sorted(Path('crates', name, 'must-fail').glob('*.edit')):
-        said = edit.read_text().rpartition('// ')[2].strip()
-        kept |= said.startswith('NOT')
-        print(f'rt: must-fail {name}/{edit.name}: {said}')
+for edit in sorted(Path('crates').glob('*/must-fail/*.edit')):
+    said = edit.read_text().rpartition('// ')[2].strip()
+    kept |= said.startswith('NOT')
+    print(f'rt: must-fail {edit.parts[1]}/{edit.name}: {said}')
 sys.exit(kept)
 """
 REFUSED = 'refused, as it must be: note: src/lib.rt:5:1'
