@@ -12,4 +12,4 @@ failed = sum(each['failures'] + each['errors'] for each in counts)
 skipped = sum(each['skipped'] for each in counts)
 passed = sum(each['tests'] for each in counts) - failed - skipped
 print(f'{passed} passed, {failed} failed, {skipped} skipped')
-sys.exit(1 if failed or not passed else 0)
+sys.exit(1 if failed or not passed + skipped else 0)
