@@ -93,7 +93,7 @@ struct lwp {
 	int level, depth; /* questions it stands in; and when its debugger made it step */
 	signals has_sent;
 	struct info sent[32], info; /* info: of the signal that it has last stopped for */
-	int passed; /* a signal whose handler is due */
+	signals passed; /* whose handlers are due: one at a call's entry, another at its exit */
 	LIST(int) injected; /* that other threads have sent it */
 	int64_t polling; /* when its poll(2) is over */
 	int entered; /* the code of the call that it is in, or -1 */

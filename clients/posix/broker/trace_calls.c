@@ -58,7 +58,7 @@ static void resumed(struct process *p, int64_t request, int64_t target, int64_t 
 	}
 	bool is_caught = data > 0 && data < 32 && is_of(p, reporting) && (p->catches | reporting->accepting) & BIT(data);
 	if (is_caught && !options.strict)
-		reporting->passed = data; /* the model says no more of it; a kernel runs the handler */
+		reporting->passed |= BIT(data); /* the model says no more of it; a kernel runs the handler */
 	if (request == TRACEHOST_PT_DETACH)
 		p->tracer = 0;
 	change(p->pid);

@@ -252,9 +252,9 @@ static void fault(struct lwp *l)
 static void before_turn(struct lwp *l, const struct step *wanted, struct met *met)
 {
 	bool raises = wanted->act == TRACEHOST_RAISE;
-	if (l->passed) {
-		int signal = l->passed;
-		l->passed = 0;
+	while (l->passed) {
+		int signal = __builtin_ctz(l->passed);
+		l->passed &= ~BIT(signal);
 		run.passed++;
 		caught_signal(l, signal, met);
 	}

@@ -141,7 +141,7 @@ def exec_image(turns: Turns, lwp: Lwp) -> Leg:
     turns.table.happen(Happening(EXECED, process.pid))
     for bell in [bell for bell in turns.table.lwps if bell.process is process and bell.socket is None and bell.tid != -process.pid]:
         turns.table.lwps.remove(bell)  # of timer_create(2)
-    lwp.passed, lwp.injected, lwp.lost = 0, [], False
+    lwp.passed, lwp.injected, lwp.lost = set(), [], False
     turns.run.release_parent(process)
     lwp.born = True
     return "ok"

@@ -218,8 +218,8 @@ class Lwp:
         """Its mask before ppoll(2)."""
         self.accepting: frozenset[int] = frozenset()
         """Signals that its sigwait(2) takes in place of a handler."""
-        self.passed = 0
-        """A signal that its debugger passes on, whose handler is due."""
+        self.passed: set[int] = set()
+        """Signals that its debugger passes on, whose handlers are due: one at a call's entry, another at its exit."""
         self.injected: list[int] = []
         """Signals that other threads have sent it: the model posts to an LWP at its own turn alone."""
         self.polling: int | None = None

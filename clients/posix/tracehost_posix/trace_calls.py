@@ -91,7 +91,7 @@ def _resumed(turns: Turns, process: Process, request: Request, target: int, data
         turns.examined += lwp.traps
     if data and reporting in process.lwps and reporting is not None and (data in process.caught or data in reporting.accepting):
         if not turns.run.options.strict:
-            reporting.passed = data  # the model says no more of it; a kernel runs the handler
+            reporting.passed.add(data)  # the model says no more of it; a kernel runs the handler
     if request is Request.PT_DETACH:
         process.tracer = None
     turns.table.change(process.pid)

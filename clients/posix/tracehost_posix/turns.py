@@ -163,8 +163,9 @@ class Turns:
 
     def _before(self, lwp: Lwp, keys: str, caught: list[int] | None) -> Part:
         """What other threads and the debugger have left for the LWP's next turn in user mode."""
-        if lwp.passed:
-            signal, lwp.passed = lwp.passed, 0
+        while lwp.passed:
+            signal = min(lwp.passed)
+            lwp.passed.remove(signal)
             self.passed += 1
             yield from self._caught(lwp, signal, caught)
         if lwp.lost and keys in (COMPUTE, PROBE):
