@@ -29,7 +29,7 @@ LOADS = {
     'all kinds, 64 users': scenarios.mixed,
     'lists of 64 users': scenarios.spawns_and_lists,
     'rules and sets': scenarios.of_one(scenarios.installs),
-    'parsing alone': scenarios.refusals,
+    'only parsing': scenarios.refusals,
 }
 
 # The functions of each part, as regular expressions of their whole names. Where the first one isn't there, since it was

@@ -239,7 +239,7 @@ SOURCES: dict[str, Source] = {
     'new and ended threads': threads,
     'chains of ten debuggers that end': chains_that_end,
 }
-KINDS: dict[str, Load] = {'spawns, lists and refusals of 64 users': spawns_and_lists, 'refusals alone': refusals}
+KINDS: dict[str, Load] = {'spawns, lists and refusals of 64 users': spawns_and_lists, 'only refusals': refusals}
 for name, make in SOURCES.items():
     KINDS[name] = of_one(make)
     KINDS[name + ', 64 users'] = side_by_side(make)

@@ -187,8 +187,8 @@ class Walk:
                 raise LookupError(f'{module}.{name} leads to no definition of {crate}')
 
     def add_type(self, crate: str, name: str) -> bool:
-        """Adds a type and the types of its fields, and returns whether there is one. A type with a model is seen by its
-        value alone."""
+        """Adds a type and the types of its fields, and returns whether there is one. Of a type with a model only its
+        value is seen."""
         for place in used_by(crate):
             parts = read_types(place).get(name, ())
             if parts and parts[0] not in self.types:

@@ -2,7 +2,7 @@
 """Runs the kit's gate, `rt ci`, in the current folder, for crates without must-fail edits.
 
 `rt ci` divides the idle processors among all that could begin, and counts the tests and edits of a crate that has none.
-Here such tasks are left out of its schedule, so that a crate which is alone is proved by more processes. What is proved,
+Here such tasks are left out of its schedule, so that a crate which has no other beside it is proved by more processes. What is proved,
 and how, is the kit's own.
 
 Some kits keep a record of what has passed; the help of their `rt` names the flag --anew. For the others each library

@@ -41,7 +41,7 @@ static int event_mask(th_host *h, th_caller caller, int *mask)
     return 0;
 }
 
-/* What the kernel answers about `addr` and `data` alone, before the model is asked; an errno or 0. */
+/* What the kernel answers by looking only at `addr` and `data`, before the model is asked; an errno or 0. */
 static int bad_arguments(int request, const void *addr, int data)
 {
     switch (request) {

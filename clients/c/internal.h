@@ -1,4 +1,4 @@
-/* What the files of the client share. Programs include tracehost_client.h alone. */
+/* What the files of the client share. Programs include only tracehost_client.h. */
 #ifndef TRACEHOST_INTERNAL_H
 #define TRACEHOST_INTERNAL_H
 

@@ -7,7 +7,7 @@
 #include <stdio.h>
 #include <string.h>
 
-/* ---------------------------------------------------------------- writing a step: names and numbers alone, nothing to escape */
+/* ---------------------------------------------------------------- writing a step: only names and numbers, nothing to escape */
 
 void thp_add_text(struct thp_text *text, const char *more)
 {

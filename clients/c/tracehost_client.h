@@ -214,7 +214,7 @@ th_host *th_start(const char *program, const struct th_settings *settings);
 th_host *th_open(const struct th_settings *settings);
 
 /*
- * Ends the session, frees it, and returns the program's status as waitpid(2) of the host system gives it. NULL is left alone.
+ * Ends the session, frees it, and returns the program's status as waitpid(2) of the host system gives it. For NULL it does nothing.
  * What the program has written on standard error by then, but for reasons, is written there. 0 after th_open.
  */
 int th_close(th_host *h);
@@ -297,7 +297,7 @@ ssize_t th_list(th_host *h, th_caller caller, th_pid *pids, size_t size);
 
 enum th_decision { TH_DECLINE, TH_LEAVE, TH_CONTINUE, TH_DETACH, TH_KILL };
 
-/* fits a stop with this signal (0: any) that shows all these flags; a signal is passed on by TH_CONTINUE and TH_DETACH alone */
+/* fits a stop with this signal (0: any) that shows all these flags; only TH_CONTINUE and TH_DETACH pass a signal on */
 struct th_rule {
     int signal;
     int flags;
@@ -310,7 +310,7 @@ int th_install(th_host *h, th_caller caller, const struct th_rule *rules, size_t
 
 /* What a trace stop shows, and what the caller's handlers decided. */
 struct th_handled {
-    int stopped; /* 1: a trace stop, and all that follows holds; 0: a status alone */
+    int stopped; /* 1: a trace stop, and all that follows holds; 0: only a status */
     int status;
     th_lwpid lwp;
     int signal;

@@ -1,4 +1,4 @@
-"""Sessions that make lists and tables of each size, and the answers to their lines, by counting alone.
+"""Sessions that make lists and tables of each size, and the answers to their lines, only by counting.
 
 No row of these sessions ends, so the numbers of a user's processes and LWPs rise one by one. A step that memory was
 refused for is answered ENOMEM, and changes nothing.
@@ -75,7 +75,7 @@ def numbers(word: str, first: int, count: int) -> str:
 
 @dataclasses.dataclass(frozen=True)
 class Sized:
-    """A session by its steps. Of its allocations those of fewer bytes than `least` are left alone, and those of its
+    """A session by its steps. Of its allocations those of fewer bytes than `least` are ignored, and those of its
     first steps, which only prepare the others."""
 
     sizes: str

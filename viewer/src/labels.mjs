@@ -13,8 +13,8 @@ import { firstFrom } from "./sorted.mjs";
  */
 
 /**
- * The labels that have room in the rows. Those of the least rank get room first. Names of tracers (rank 0) are in the
- * last row alone.
+ * The labels that have room in the rows. Those of the least rank get room first. Names of tracers (rank 0) are only in
+ * the last row.
  *
  * @param {Wanted[]} wanted
  * @param {{rows: number, letter: number, limit: number}} how  the width of a letter, and where the picture ends

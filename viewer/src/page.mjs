@@ -79,7 +79,7 @@ export class Page {
     return new URLSearchParams(location.hash.slice(1));
   }
 
-  /** The user that is shown alone, or null. */
+  /** The only user that is shown, or null. */
   get user() {
     const user = Number(this.address().get("user"));
     return this.session?.users.has(user) ? user : null;

@@ -127,7 +127,7 @@ export class Picture {
       return row;
     }
     const alone = this.plan.user === lane.user;
-    const button = tag("button", { type: "button", title: alone ? "all users again" : "this user alone" }, ...words);
+    const button = tag("button", { type: "button", title: alone ? "all users again" : "only this user" }, ...words);
     button.addEventListener("click", () => this.onUser(alone ? null : lane.user));
     row.append(button);
     return row;

@@ -15,7 +15,7 @@ const WIDTH_OF_FULL_SIGNS = 13;
  * What is shown, and how.
  *
  * @typedef {object} View
- * @property {number | null} [user]  this user alone
+ * @property {number | null} [user]  only this user
  * @property {number} step  the width of a step
  * @property {Set<string>} [hidden]  the replies whose steps are left out: `held`, `error`
  * @property {number} [room]  the width of the window

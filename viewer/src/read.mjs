@@ -73,7 +73,7 @@ const stepIn = (reply) => ({ user: reply.user, ...reply.asked });
 const answers = (step, reply) => step.user === reply.user
   && ["error", "held", ...ANSWERS.get(step.op)].includes(reply.reply);
 
-/** What is wrong with the step in a line of a trace, or undefined; a line of replies alone has none. */
+/** What is wrong with the step in a line of a trace, or undefined; a line with only replies has none. */
 function faultInTrace(reply) {
   if (reply.asked === undefined && reply.index === undefined) return undefined;
   if (!isWhole(reply.index) || reply.index < 1) return "no index of a step";
@@ -182,7 +182,7 @@ export function pair(replies, scenario, faults) {
     const asked = scenario.steps[place];
     if (!reply.refused && !(asked && answers(asked, reply))) {
       faults.push(`${scenario.name} isn't the scenario of these lines: its step ${reply.step} of user ${reply.user} `
-        + `can't be answered by "${reply.reply}". The lines are drawn alone.`);
+        + `can't be answered by "${reply.reply}". The lines are drawn without it.`);
       return alone();
     }
   }

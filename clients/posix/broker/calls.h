@@ -1,5 +1,5 @@
-/* What a call means in steps: the bodies of the table in questions.c. Each stands in the file of the module that has it in
- * Python, under the same name but where C has that one already. */
+/* What a call means in steps: the bodies of the table in questions.c. Each is in the file that is named as its module in
+ * Python, and has the same name there, unless C has that name already. */
 #ifndef CALLS_H
 #define CALLS_H
 #include "run.h"

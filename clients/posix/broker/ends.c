@@ -116,7 +116,7 @@ _Noreturn void ended(struct lwp *l, int status)
 	if (p == run.first) {
 		run.status = status, run.has_status = true;
 		if (status != 0) {
-			stand_by(p);
+			halt(p);
 			blame(l, "");
 		}
 	}

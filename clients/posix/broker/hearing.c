@@ -39,18 +39,18 @@ void close_socket(struct lwp *l)
 static void limits(const struct lwp *l)
 {
 	if (run.questions > options.limit) {
-		stand_by(l->process);
+		halt(l->process);
 		failed("endless");
 	}
 	if (program_printed() > options.output_limit) {
-		stand_by(l->process);
+		halt(l->process);
 		failed("printed");
 	}
 }
 
 static _Noreturn void hangs(const struct lwp *l)
 {
-	stand_by(l->process);
+	halt(l->process);
 	blame(l, "that was its last call");
 	failed("hang %d %d", l->process->pid, l->tid);
 }
@@ -270,7 +270,7 @@ void live(struct lwp *l)
 	}
 }
 
-/* What the thread answers to this, which stands in a question: its last word. */
+/* What the thread answers to this, while it waits for the answer to its question: its last word. */
 const char *aside(struct lwp *l, const char *line)
 {
 	static char text[MESSAGE];

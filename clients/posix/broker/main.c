@@ -2,11 +2,11 @@
  *
  *   tracehost-broker REQUESTS ANSWERS OUTPUT CALLS STRICT LIMIT PATIENCE OUTPUT_LIMIT KILL_ON_DEBUGGER_EXIT PROGRAM [ARGUMENT..]
  *
- * REQUESTS and ANSWERS are descriptors of pipes, OUTPUT that of a file for what a run prints, or -1. A request is a line:
- * what the answer has besides its last line (t: the steps, p: the points of choice, l: places, s: it stands by if it fails;
- * or -), and a schedule: `plain`, `seed N EARLY`, `pct N DEPTH LENGTH`, `switches LIST`. Each is answered as soon as it was
- * run. After a failure all requests up to the line `on` are passed over. The answers are in outcome.c. `--calls` prints the
- * table of calls. */
+ * REQUESTS and ANSWERS are descriptors of pipes. OUTPUT is that of a file for what a run prints, or -1. A request is a line
+ * of two parts. The first asks for more than the last line of the answer, or is `-`: t asks for the steps, p for the points
+ * of choice, l for places, and with h the run halts if it fails. The second is a schedule: `plain`, `seed N EARLY`,
+ * `pct N DEPTH LENGTH` or `switches LIST`. The broker answers a request as soon as it has run it. After a failure it ignores
+ * all requests up to the line `on`. The answers are in outcome.c. `--calls` prints the table of calls. */
 #include <errno.h>
 #include <fcntl.h>
 #include <poll.h>
@@ -65,7 +65,7 @@ static char *read_line(void)
 	}
 }
 
-/* The run stands still until Python says that it may go on. */
+/* The run waits until Python says that it may go on. */
 void wait_for_python(void)
 {
 	char *line = read_line();
@@ -93,7 +93,7 @@ static void read_request(char *line)
 	char *wants = strsep(&line, " "), *name = strsep(&line, " ");
 	int early = 1;
 	run.wants = (struct wants){.trace = strchr(wants, 't') != NULL, .points = strchr(wants, 'p') != NULL,
-		.places = strchr(wants, 'l') != NULL, .stands = strchr(wants, 's') != NULL};
+		.places = strchr(wants, 'l') != NULL, .halts = strchr(wants, 'h') != NULL};
 	schedule.strategy = PLAIN;
 	if (name == NULL)
 		broken("request %s", wants);
@@ -142,7 +142,7 @@ static void run_plain(void)
 static bool goes_plain(void)
 {
 	const struct wants *w = &run.wants;
-	if (schedule.strategy != SEEDED || w->trace || w->points || w->places || w->stands)
+	if (schedule.strategy != SEEDED || w->trace || w->points || w->places || w->halts)
 		return false;
 	if (!plain_is_known)
 		run_plain();

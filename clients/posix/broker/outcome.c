@@ -76,12 +76,12 @@ void blame(const struct lwp *l, const char *then)
 }
 
 /* The process fails: a debugger may look at it now. */
-void stand_by(const struct process *p)
+void halt(const struct process *p)
 {
-	if (!run.wants.stands || p->real == 0)
+	if (!run.wants.halts || p->real == 0)
 		return;
-	run.wants.stands = false;
-	note("stand %d\n", p->real);
+	run.wants.halts = false;
+	note("halt %d\n", p->real);
 	flush_notes();
 	wait_for_python();
 }
@@ -168,7 +168,7 @@ static void note_waiting(const struct lwp *l)
 void verdict(void)
 {
 	if (run.first->live) {
-		stand_by(run.first);
+		halt(run.first);
 		for (size_t i = 0; i < table.lwps.count; i++)
 			blame(table.lwps.at[i], "");
 		for (size_t i = 0; i < table.lwps.count; i++)

@@ -1,7 +1,7 @@
 /* Who goes on, until the first process has ended and all others wait, or all wait for each other.
  *
- * One thread at a time runs between its questions; every other thread stands in one. So a run is a matter of the choices
- * that the schedule makes, and of nothing else. */
+ * Only one thread runs at a time. Every other thread waits for the answer to its question. So a run depends on the choices of
+ * the schedule, and on nothing else. */
 #include <stdlib.h>
 #include <string.h>
 #include "run.h"

@@ -17,7 +17,7 @@ struct options { /* of all runs */
 };
 extern struct options options;
 
-struct wants { bool trace, points, places, made, stands; }; /* what an answer has besides its line */
+struct wants { bool trace, points, places, made, halts; }; /* what an answer has besides its line */
 
 /* Of processes that have ended otherwise than with status 0, or killed, how: the host's numbers. */
 struct ends { int count; struct { int real, status; } at[512]; };
@@ -106,7 +106,7 @@ void note(const char *format, ...) __attribute__((format(printf, 1, 2)));
 void note_text(const char *text); /* tabs, line feeds and % as %XX */
 void note_place(const char *kind, const struct lwp *l, const char *then, size_t step);
 void blame(const struct lwp *l, const char *then);
-void stand_by(const struct process *p);
+void halt(const struct process *p);
 void flush_notes(void);
 /* How a run ends: the program has failed; the broker, the runtime or the host has, and nothing is known of the program; or
  * this broker can't do what Python's does. The words are those of outcome.py. */

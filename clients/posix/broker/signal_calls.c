@@ -65,7 +65,7 @@ static int send_to_lwp(struct lwp *l, int64_t tid, int64_t signal)
 		return ESRCH;
 	send_info_to_lwp(other, info);
 	if (other != l || lands(l))
-		APPEND(&other->injected, signal); /* an LWP that lands meets it where the call has returned to */
+		APPEND(&other->injected, signal); /* an LWP that lands meets it after its call has returned */
 	else
 		turn(l, act_of(l, TRACEHOST_RAISE, signal), (struct how){0});
 	if (other != l)

@@ -85,12 +85,12 @@ struct lwp {
 	bool yields, stepping, leaves, foreign;
 	bool traps; /* it steps by an instruction */
 	bool to_step; /* by PT_SETSTEP */
-	bool lands; /* its call is over: it asks `user` where the call has returned to */
+	bool lands; /* its call is over: it asks `user` after the call has returned */
 	bool hosted; /* it waits in a call of the host's */
 	bool lost; /* a debugger has let it go on at address 0 */
 	bool cancelled, born; /* born: its next message is the hello of a new image */
 	bool clean; /* no signal was pending at its last turn, and none has come since */
-	int level, depth; /* questions it stands in; and when its debugger made it step */
+	int level, depth; /* how many questions wait for an answer; and how many did when its debugger made it step */
 	signals has_sent;
 	struct info sent[32], info; /* info: of the signal that it has last stopped for */
 	signals passed; /* whose handlers are due: one at a call's entry, another at its exit */

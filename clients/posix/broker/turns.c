@@ -408,7 +408,7 @@ void finish(struct lwp *l)
 	back(l);
 }
 
-/* A traced process meets signals, and stops, where its call has returned to: with its own registers and results. */
+/* A traced process meets signals, and stops, after its call has returned: with its own registers and results. */
 bool lands(const struct lwp *l) { return l->process->tracer != 0 && !options.strict; }
 
 /* Back in user mode, from a call that is over. */

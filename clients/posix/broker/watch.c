@@ -1,6 +1,6 @@
 /* A thread that has been asked to run, and hasn't asked anything yet: it is looked at each LOOK_MS. watch.py in C.
  *
- * Patience is counted in looks, so that a host that stands still takes none of it; a look at a thread that has no
+ * Patience is counted in looks, so that a host that is suspended takes none of it; a look at a thread that has no
  * processor, on a busy host, counts a tenth. */
 #include <fcntl.h>
 #include <signal.h>

@@ -298,7 +298,7 @@ start(char **argv)
 	return (pid);
 }
 
-/* SIGINT and SIGCHLD come in sigsuspend(2) alone, so that none is missed. */
+/* SIGINT and SIGCHLD come only in sigsuspend(2), so that none is missed. */
 static void
 trace(void)
 {

@@ -2,7 +2,7 @@
  *
  * Each call of <tracehost/names.h> begins here. Its registers are kept (struct frame of runtime.h), and its function runs
  * on the thread's own stack for calls: what is below the program's stack pointer is the program's, and its debugger's.
- * Where something is due as the call returns it meets an int3 with the program's stack as it was: a landing. */
+ * If something is due as the call returns, the thread meets an int3 with the program's stack as it was: a landing. */
 
 #define AT_FRAME 0
 #define AT_TOP 8

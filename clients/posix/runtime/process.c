@@ -278,7 +278,7 @@ static pid_t wait_for(const void *where, pid_t which, int *status, int options, 
 	if (usage != NULL)
 		memset(usage, 0, sizeof *usage);
 	if (options & ~(BSD_WNOHANG | BSD_WUNTRACED | BSD_WCONTINUED | BSD_WEXITED | BSD_WTRAPPED)) {
-		tracehost_say("wait4: the model has WNOHANG, WUNTRACED and WCONTINUED alone (EINVAL)");
+		tracehost_say("wait4: the model has only WNOHANG, WUNTRACED and WCONTINUED (EINVAL)");
 		errno = EINVAL;
 		return -1;
 	}
@@ -305,7 +305,7 @@ static pid_t wait_six(const void *where, idtype_t kind, id_t id, int *status, in
 	int word = 0;
 	pid_t pid;
 	if ((kind != P_PID && kind != P_ALL) || !(options & BSD_WEXITED)) {
-		tracehost_say("wait6, waitid: the model has P_PID and P_ALL, with WEXITED, alone (EINVAL)");
+		tracehost_say("wait6, waitid: the model has only P_PID and P_ALL, with WEXITED (EINVAL)");
 		errno = EINVAL;
 		return -1;
 	}

@@ -58,7 +58,7 @@ struct record {
 	struct dbreg debug;
 	long arguments[6]; /* of its last call */
 	int error; /* of its last call, as it lands */
-	int refused; /* the host's errno, where it makes no hardware breakpoint */
+	int refused; /* the host's errno, if it makes no hardware breakpoint */
 };
 enum { GENERAL, FLOATS, BASES, DEBUG };
 

@@ -222,7 +222,7 @@ int tracehost_thr_kill2(pid_t pid, long tid, int number)
 {
 	if (pid == own_pid)
 		return ask("thr_kill %ld %d", tid, number);
-	tracehost_say("thr_kill2: the model has threads of the caller alone (ESRCH)");
+	tracehost_say("thr_kill2: the model has only threads of the caller (ESRCH)");
 	errno = ESRCH;
 	return -1;
 }

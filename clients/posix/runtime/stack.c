@@ -1,6 +1,6 @@
 /* Stacks. The runtime has two stacks for each thread. The program's calls run on one (entry.S), and the host's signals on
- * the other. So nothing of the runtime is on the program's stack, where a debugger may write below a stopped thread's stack pointer.
- * The program's handlers run on the program's stack, as a kernel calls them, or on that of sigaltstack(2). */
+ * the other. So nothing of the runtime is on the program's stack, and a debugger may write below the stack pointer of a
+ * stopped thread. The program's handlers run on the program's stack, as a kernel calls them, or on that of sigaltstack(2). */
 #define _GNU_SOURCE
 #include <string.h>
 #include <sys/mman.h>

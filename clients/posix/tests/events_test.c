@@ -117,7 +117,7 @@ ATF_TC_BODY(exec_stop, tc)
 	ATF_REQUIRE(wait_exit(pid, 0));
 }
 
-/* PT_TRACE_ME alone is enough: the first stop is that of the exec. */
+/* Only PT_TRACE_ME is needed: the first stop is that of the exec. */
 ATF_TC_WITHOUT_HEAD(exec_stop_is_the_first);
 ATF_TC_BODY(exec_stop_is_the_first, tc)
 {

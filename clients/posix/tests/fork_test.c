@@ -116,7 +116,7 @@ ATF_TC_BODY(new_child_pl_syscall_code_fork, tc) { new_child_code(fork, 2); }
 ATF_TC_WITHOUT_HEAD(new_child_pl_syscall_code_vfork);
 ATF_TC_BODY(new_child_pl_syscall_code_vfork, tc) { new_child_code(vfork, 66); }
 
-/* A child that is followed has the mask PTRACE_EXEC alone: its own fork isn't followed. */
+/* A child that is followed has only PTRACE_EXEC in its mask: its own fork isn't followed. */
 ATF_TC_WITHOUT_HEAD(event_mask_is_not_inherited);
 ATF_TC_BODY(event_mask_is_not_inherited, tc)
 {

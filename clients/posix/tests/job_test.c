@@ -250,7 +250,7 @@ ATF_TC_BODY(sigchld_of_trace_stop, tc)
 	ATF_REQUIRE(wait_signaled(pid, SIGKILL));
 }
 
-/* Under SA_NOCLDSTOP for exits alone. */
+/* Under SA_NOCLDSTOP only for exits. */
 ATF_TC_WITHOUT_HEAD(sigchld_of_exit_alone);
 ATF_TC_BODY(sigchld_of_exit_alone, tc)
 {

@@ -79,7 +79,7 @@ ATF_TC_BODY(io, tc)
 	ATF_REQUIRE(wait_exit(pid, 8));
 }
 
-/* Memory is for the debugger alone, and for a process that is stopped. */
+/* Only the debugger reads and writes memory, and only of a stopped process. */
 ATF_TC_WITHOUT_HEAD(memory_refused);
 ATF_TC_BODY(memory_refused, tc)
 {

@@ -281,7 +281,7 @@ ATF_TC_BODY(looking_without_collecting, tc)
 	ATF_REQUIRE(no_child_left());
 }
 
-/* WEXITED alone: no stops. */
+/* Only WEXITED: no stops. */
 ATF_TC_WITHOUT_HEAD(exits_alone);
 ATF_TC_BODY(exits_alone, tc)
 {

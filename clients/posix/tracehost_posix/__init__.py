@@ -2,9 +2,9 @@
 
 Each module has one thought:
 
-- `limits`: the numbers of a user; `model`: the pipe to ``tracehost --lines``, of which each run has a user;
+- `limits`: the numbers of a user; `model`: the pipe to ``tracehost --lines``, and a user of it for each run;
 - `table`: the processes and LWPs of a run, and who waits for what;
-- `turns`: how an LWP makes a step, and waits where it can't;
+- `turns`: how an LWP makes a step, and waits if it can't;
 - `answers`: a reply of the model, for the runtime;
 - `process_calls`, `signal_calls`, `trace_calls`, `waiting_calls`: what a call means in steps;
 - `program`: the program's server, its processes and their sockets;

@@ -81,12 +81,12 @@ def parser() -> Parser:
     which("--depth", type=_count, default=3, metavar="D", help="of a bug, for pct: D - 1 changes of priority (3)")
     which("--length", type=_count, metavar="K", help="choices of a run, for pct; else those of the plain schedule")
     which("--sleeps", choices=["any", "last"], default="any", help="under a seed a sleep ends at any time, or when nobody else can go on")
-    which("--calls", action="store_true", help="others go on between calls alone, not inside of them")
+    which("--calls", action="store_true", help="others go on only between calls, not inside of them")
     add("--jobs", type=_count, default=1, metavar="N", help="so many runs at a time (1)")
     add("--record", metavar="FILE", help="the run, or the one that fails: FILE (scenario), FILE.lines, FILE.schedule, FILE.html")
     add("--gdb", action="store_true", help="starts gdb on the process that fails, before it ends")
     add("--with", dest="tool", metavar="COMMAND", help="starts COMMAND with that process's number")
-    add("--strict", action="store_true", help="the model alone: no handler for a signal that a debugger passes on, stops for "
+    add("--strict", action="store_true", help="only the model: no handler for a signal that a debugger passes on, stops for "
         "discarded signals too, and no registers")
     add("--kill-on-debugger-exit", choices=["0", "1"], help="the sysctl of this name (1)")
     add("--limit", type=_count, default=20000, metavar="N", help="a run of more questions has no end (20000)")

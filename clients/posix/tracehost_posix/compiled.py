@@ -172,7 +172,7 @@ class Compiled(Runner):
         while True:
             line = self._line()
             name, _, rest = line.partition(" ")
-            if name == "stand":
+            if name == "halt":
                 if self._on_failure is not None:
                     self._on_failure(int(rest))
                 self._write(b"go\n")
@@ -209,7 +209,7 @@ class Compiled(Runner):
 
     def run(self, task: Task, on_failure: Callable[[int], None] | None = None, places: bool = False) -> Outcome:
         self._dropped, self._on_failure = [], on_failure
-        self._write(self._line_of(task, "t" + "l" * places + "p" * task.points + "s" * (on_failure is not None)))
+        self._write(self._line_of(task, "t" + "l" * places + "p" * task.points + "h" * (on_failure is not None)))
         result = self._answered()
         return Outcome(result, self._answer.kept, self._printed(), self._answer.places, self._answer.blamed)
 

@@ -8,10 +8,10 @@ from typing import NamedTuple
 from .table import Lwp
 
 class Place(NamedTuple):
-    """Where an LWP is, and what is said of it."""
+    """The place of an LWP, and what is said of it."""
 
     who: str
-    """`PID/LWP`; empty where its process has ended."""
+    """`PID/LWP`; empty if its process has ended."""
     asked: str
     where: int
     """The address behind the program's call; 0 if it isn't known."""

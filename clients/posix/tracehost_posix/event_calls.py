@@ -60,7 +60,7 @@ def news(turns: Turns, lwp: Lwp) -> Leg:
 
 
 def kevent(turns: Turns, lwp: Lwp, until: int) -> Leg:
-    """In kevent(2), where nothing is active: no signal restarts it."""
+    """In kevent(2), while nothing is active: no signal restarts it."""
     end = until if until >= 0 else None
     interrupted = yield from turns.linger(lwp, (IO,), False, end)
     return EINTR if interrupted else "ok 0"

@@ -47,7 +47,7 @@ class Step(NamedTuple):
 
 
 def exchanged(number: int, offset: int) -> int:
-    """The number that stands for this one: user 1001's block and the other user's change places."""
+    """The number to use for this one: user 1001's block and the other user's change places."""
     if offset == 0 or number < FIRST_PROCESS:
         return number
     if number < FIRST_LWP:

@@ -90,7 +90,7 @@ def page(model: str, path: str, title: str) -> str | None:
 
 
 def beside(name: str) -> str | None:
-    """A command of this name beside this one, where both are installed."""
+    """A command of this name beside this one, if both are installed."""
     return shutil.which(name, path=os.path.dirname(os.path.abspath(sys.argv[0])))
 
 

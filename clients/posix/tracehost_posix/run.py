@@ -1,7 +1,7 @@
 """One run: who may go on, until the first process has ended and all others wait, or all wait for each other.
 
-One thread at a time runs between its questions; every other thread stands in one. So a run is a matter of the choices
-that the schedule makes, and of nothing else.
+Only one thread runs at a time. Every other thread waits for the answer to its question. So a run depends on the choices of
+the schedule, and on nothing else.
 """
 
 from __future__ import annotations
@@ -43,7 +43,7 @@ class Run:
         self.choice_points: list[tuple[Switch, bool, tuple[int, ...], int]] | None = None
         """For a search through all schedules: the choices, whether they are forced, who else, and after what."""
         self.choices_made: list[Made] | None = None
-        """All choices, where they are wanted."""
+        """All choices, if they are wanted."""
         self.places: list[Place] | None = [] if places else None
         self.blame = Blame(places)
         self.coverage = Coverage(self.table) if options.coverage else None
@@ -61,7 +61,7 @@ class Run:
     # ---- the run
 
     def run(self) -> str | None:
-        """Runs the program: what failed, or None. Raises `Broken` where the fault isn't the program's."""
+        """Runs the program: what failed, or None. Raises `Broken` if the fault isn't the program's."""
         ends: dict[int, int] = {}
         try:
             why, gone = self._rounds(), 0
@@ -113,7 +113,7 @@ class Run:
     def _verdict(self) -> str | None:
         assert self.first is not None
         if self.first.pid in self.table.processes:
-            self._stand_by(self.first)
+            self._halt(self.first)
             for lwp in self.table.lwps:
                 self.blame.at(lwp)
             return outcome.deadlock([waiting_of(lwp) for lwp in self.table.lwps if lwp.socket is not None])
@@ -121,7 +121,7 @@ class Run:
             return outcome.KILLED
         return outcome.status_of_first(self.status) if self.status else None
 
-    def _stand_by(self, process: Process) -> None:
+    def _halt(self, process: Process) -> None:
         """The process fails: a debugger may look at it now."""
         if self.on_failure is not None and process.real:
             self.on_failure(process.real)
@@ -304,7 +304,7 @@ class Run:
             raise Gone(lwp.process) from why
 
     def aside(self, lwp: Lwp, line: str) -> str:
-        """What the thread answers to this, which stands in a question."""
+        """What the thread answers to this, while it waits for the answer to its question."""
         assert lwp.socket is not None
         self._say(lwp, line)
         for _ in range(int(ENDING / LOOK)):
@@ -361,11 +361,11 @@ class Run:
     def _limits(self, lwp: Lwp) -> None:
         options = self.options
         if self.questions > options.limit:
-            self._stand_by(lwp.process)
+            self._halt(lwp.process)
             self.blame.places = loops(self.blame.last)
             raise Failed(outcome.endless(options.limit))
         if self.program.printed() > options.output_limit:
-            self._stand_by(lwp.process)
+            self._halt(lwp.process)
             raise Failed(outcome.printed_too_much(options.output_limit))
 
     def _line(self, lwp: Lwp, amid: bool = False) -> Question:
@@ -391,7 +391,7 @@ class Run:
             self._say(lwp, "ok")
 
     def _hangs(self, lwp: Lwp) -> NoReturn:
-        self._stand_by(lwp.process)
+        self._halt(lwp.process)
         self.blame.at(lwp, "that was its last call")
         raise Failed(outcome.hang(lwp.process.pid, lwp.tid, self.options.patience))
 
@@ -481,7 +481,7 @@ class Run:
         if process is self.first:
             self.status = status
             if status:
-                self._stand_by(process)
+                self._halt(process)
                 self.blame.at(lwp)
         if process.told is not None and status != process.told << 8:
             process.told = None  # a signal has come before

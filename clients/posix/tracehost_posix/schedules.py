@@ -28,7 +28,7 @@ def text_of(switches: Iterable[Switch]) -> str:
 
 
 class Choosing(NamedTuple):
-    """A choice of the plain schedule where the running LWP didn't simply go on."""
+    """A choice of the plain schedule at which the running LWP didn't simply go on."""
 
     can: tuple[int, ...]
     asleep: tuple[int, ...]
@@ -36,7 +36,7 @@ class Choosing(NamedTuple):
 
 
 Made = Union[Choosing, tuple[int, ...], None]
-"""None where the running LWP went on; for a wait the children that it could report, the plain schedule's first."""
+"""None if the running LWP went on; for a wait the children that it could report, the plain schedule's first."""
 
 
 def plain_choice(can: Sequence[Lwp], current: Lwp | None) -> Lwp | None:

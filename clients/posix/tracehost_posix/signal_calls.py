@@ -64,7 +64,7 @@ def thr_kill(turns: Turns, lwp: Lwp, tid: int, signal: int) -> Leg:
     elif signal and tid == lwp.tid:
         lwp.sent[signal] = Info(signal, SI_LWP, lwp.process.pid)
         if turns.lands(lwp):
-            lwp.injected.append(signal)  # it is met where the call has returned to
+            lwp.injected.append(signal)  # it is met after the call has returned
         else:
             yield from turns.turn(lwp, f'"act":"raise","signal":{signal}')
     elif signal:

@@ -78,7 +78,7 @@ class Options(NamedTuple):
     """What a run may do."""
 
     calls: bool = False
-    """Others go on between calls alone, not inside of them."""
+    """Others go on only between calls, not inside of them."""
     strict: bool = False
     """No handler runs for a signal that a debugger passes on, and a traced process stops for signals that are discarded."""
     limit: int = 20000
@@ -221,7 +221,7 @@ class Lwp:
         self.passed: set[int] = set()
         """Signals that its debugger passes on, whose handlers are due: one at a call's entry, another at its exit."""
         self.injected: list[int] = []
-        """Signals that other threads have sent it: the model posts to an LWP at its own turn alone."""
+        """Signals that other threads have sent it: the model posts to an LWP only at its own turn."""
         self.polling: int | None = None
         """When its poll(2) is over."""
         self.entered: int | None = None

@@ -63,9 +63,9 @@ class Turns:
     def plan(self, lwp: Lwp, *steps: Step) -> None:
         """The steps that come next if nothing comes between.
 
-        They are sent together where the schedule lets the LWP go on at each of them, and where a step that turns out not
+        They are sent together if the schedule lets the LWP go on at each of them, and if a step that turns out not
         to be next can't have an effect: it is answered `held`, or by an errno. A signal's handler would come between: so
-        they are sent alone where one may be due.
+        each is sent by itself if one may be due.
         """
         if self.lands(lwp) and steps[-1].keys is COMPUTE:
             steps = steps[:-1]
@@ -120,7 +120,7 @@ class Turns:
         defers: bool = False,
     ) -> Replied:
         """A turn, until its act was done, or ended in a stop that `done` takes; `caught` gets the signals met before. One
-        that steps by an instruction only looks where it `defers`: the instruction comes first."""
+        that steps by an instruction only looks if it `defers`: the instruction comes first."""
         wanted = keys
         while True:
             if keys is not LEAVE:
@@ -209,7 +209,7 @@ class Turns:
 
     @staticmethod
     def _is_spurious(process: Process, signal: int) -> bool:
-        """Whether a SIGCHLD that is caught came of stops alone that were passed over."""
+        """Whether a SIGCHLD that is caught came only of stops that were passed over."""
         if signal != CHLD:
             return False
         spurious = process.chld_spurious and not process.chld_due
@@ -234,7 +234,7 @@ class Turns:
 
     @staticmethod
     def info_of(lwp: Lwp, signal: int, else_from: Info = Info()) -> Info:
-        """What is known of a signal that is met; where nobody has sent it, the kernel has."""
+        """What is known of a signal that is met; if nobody has sent it, the kernel has."""
         sent = lwp.sent if signal in lwp.sent else lwp.process.sent
         known = sent.pop(signal, else_from)
         return known if known.signal == signal else Info(signal, SI_KERNEL)
@@ -293,7 +293,7 @@ class Turns:
 
     @staticmethod
     def entry(lwp: Lwp, code: int) -> Step:
-        """Into a call that the model knows by its number alone."""
+        """Into a call that the model knows only by its number."""
         return Turns.entry_of(lwp, f'"other","code":{code}')
 
     @staticmethod
@@ -302,7 +302,7 @@ class Turns:
         return Step("turn", lwp.tid, f"{ENTER},\"call\":{call}")
 
     def enter(self, lwp: Lwp, code: int, caught: list[int] | None = None) -> Part:
-        """Into a call that the model knows by its number alone."""
+        """Into a call that the model knows only by its number."""
         yield from self.enter_call(lwp, f'"other","code":{code}', caught)
         lwp.entered = code
 
@@ -349,7 +349,7 @@ class Turns:
         return f"step {answer}" if steps else answer
 
     def stay(self, lwp: Lwp) -> Part:
-        """In user mode, where no call is made: the LWP stays here while its process is stopped."""
+        """In user mode, outside of calls: the LWP stays here while its process is stopped."""
         if lwp.process.tracer is not None or lwp.process.stops:
             yield from self.turn(lwp, PROBE)
 
@@ -362,7 +362,7 @@ class Turns:
         yield from self.back(lwp)
 
     def lands(self, lwp: Lwp) -> bool:
-        """A traced process meets signals, and stops, where its call has returned to: with its own registers and results."""
+        """A traced process meets signals, and stops, after its call has returned: with its own registers and results."""
         return lwp.process.tracer is not None and not self.run.options.strict
 
     def back(self, lwp: Lwp) -> Part:

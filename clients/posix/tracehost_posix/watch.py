@@ -29,7 +29,7 @@ class _State(NamedTuple):
 class Watch:
     """The looks at one thread between two of its questions.
 
-    Patience is counted in looks, so that a host that stands still takes none of it; a look at a thread that has no
+    Patience is counted in looks, so that a host that is suspended takes none of it; a look at a thread that has no
     processor, on a busy host, counts a tenth.
     """
 

@@ -206,7 +206,7 @@ class WithoutADebugger(Sessions):
 
 class WithADebugger(Sessions):
     def test_attach_and_look(self) -> None:
-        """ptrace(2): PT_ATTACH stops with SIGSTOP; the default mask has PTRACE_EXEC alone."""
+        """ptrace(2): PT_ATTACH stops with SIGSTOP; the default mask has only PTRACE_EXEC."""
         self.assertIsNone(self.debugger.ptrace(R.PT_ATTACH, 1001))
         self.assertEqual(self.debugger.wait4(), Waited(1001, 17 * 256 + 0o177))
         self.assertEqual(

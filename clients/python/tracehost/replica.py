@@ -16,7 +16,7 @@ _NO_MEMORY = "error ENOMEM 12"
 class Replica:
     """A session of the library with the rows of another session.
 
-    Rows depend on the setting and the steps alone, and a step that was refused or answered ENOMEM has changed nothing.
+    Rows depend only on the setting and the steps, and a step that was refused or answered ENOMEM has changed nothing.
     The steps are made again when rows are asked for, and each has to have the reply that it had first. A session that
     never asks only keeps its first steps. Once it has asked, steps are also made again when many wait.
     """

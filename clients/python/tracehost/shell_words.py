@@ -120,7 +120,7 @@ def _rule(words: Sequence[str]) -> Step:
     return {**rule, **({"flags": flags} if flags else {}), **({"signal": signals[0]} if signals else {})}
 
 
-# an op that is missing here has its caller alone
+# an op that is missing here has only its caller
 _READERS = {
     "ptrace": _ptrace,
     "wait4": _wait4,

@@ -71,7 +71,7 @@ class Rule(NamedTuple):
     signal: int | None = None
     flags: StopFlag = StopFlag(0)
     pass_signal: int | None = None
-    """The signal that the process goes on with, for `Decision.CONTINUE` and `Decision.DETACH` alone."""
+    """The signal that the process goes on with, only for `Decision.CONTINUE` and `Decision.DETACH`."""
 
     def _object(self) -> str:
         decision = of_kind("decision", Decision, self.decision).value

@@ -1,6 +1,6 @@
 //! The model of FreeBSD's ptrace(2), wait(2), sigaction(2) and kill(2), in the process.
 //!
-//! A [`Session`] is a host of its own, shared by 64 users, each of whom sees their own processes alone. Calls have the
+//! A [`Session`] is a host of its own, shared by 64 users, each of whom sees only their own processes. Calls have the
 //! arguments of their manual pages, and return a [`Reply`] or an [`Error`]. What they answer is proved to be what the
 //! model says; this crate, which calls the proved library, is tested.
 //!

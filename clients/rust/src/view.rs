@@ -2,7 +2,7 @@
 
 use crate::{sys, Call, EventMask, Signal, SignalSet, StopFlags, WaitStatus};
 
-/// What a user sees: their own rows alone.
+/// What a user sees: only their own rows.
 #[derive(Clone, Debug, PartialEq, Eq)]
 pub struct View {
     /// The processes by rising number, zombies too.
@@ -86,7 +86,7 @@ pub enum Mode {
 pub enum Due {
     /// The first stop of a new LWP under PTRACE_LWP.
     Born,
-    /// The first stop of a new LWP under PTRACE_SCX alone.
+    /// The first stop of a new LWP if the mask has only PTRACE_SCX.
     Begun,
     /// The wait for a vfork's child is over.
     VforkDone,
@@ -107,7 +107,7 @@ pub struct Lwp {
     pub stepping: bool,
     /// The signals that it blocks.
     pub blocked: SignalSet,
-    /// The signals that are pending for it alone.
+    /// The signals that are pending only for it.
     pub pending: SignalSet,
     /// The stop that is due.
     pub due: Option<Due>,

@@ -124,7 +124,7 @@ impl Draft {
 
     fn space(&mut self, dice: &mut Dice) -> Result<(), AllocError> {
         if dice.below(8) == 0 {
-            // the last of them is no space of JSON
+            // JSON refuses the last one as a space
             let kinds = if dice.below(40) == 0 { 5 } else { 4 };
             let space = SPACES[dice.below(kinds) as usize];
             self.push(space)?;

@@ -31,7 +31,7 @@ fn view_after(alloc: Global, count: usize, policy: &Policy, user: u32) -> Result
     Ok(user_view(alloc, &host, Uid::new(user)?)?)
 }
 
-/// Checks the numbers of the processes and the LWPs that a view shows, and from where the next ones are sought.
+/// Checks which processes and LWPs a view shows, and at which numbers the search for the next ones begins.
 fn check_numbers(
     view: &View,
     pids: &[u32],
