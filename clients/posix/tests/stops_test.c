@@ -186,15 +186,21 @@ kills_itself(void)
 	_exit(called_with == 6 ? 13 : 14);
 }
 
+static void
+function_called_at(void (*child)(void), int sig)
+{
+	pid_t pid = start_traced(child);
+
+	ATF_REQUIRE(go_on(pid) && wait_stop(pid, sig));
+	call_times(pid);
+	ATF_REQUIRE(go_on(pid) && wait_exit(pid, 13));
+}
+
 /* From a stop behind a call. */
 ATF_TC_WITHOUT_HEAD(function_called_behind_a_call);
 ATF_TC_BODY(function_called_behind_a_call, tc)
 {
-	pid_t pid = start_traced(kills_itself);
-
-	ATF_REQUIRE(go_on(pid) && wait_stop(pid, SIGUSR1));
-	call_times(pid);
-	ATF_REQUIRE(go_on(pid) && wait_exit(pid, 13));
+	function_called_at(kills_itself, SIGUSR1);
 }
 
 static void
@@ -208,11 +214,7 @@ traps(void)
 ATF_TC_WITHOUT_HEAD(function_called_at_a_breakpoint);
 ATF_TC_BODY(function_called_at_a_breakpoint, tc)
 {
-	pid_t pid = start_traced(traps);
-
-	ATF_REQUIRE(go_on(pid) && wait_stop(pid, SIGTRAP));
-	call_times(pid);
-	ATF_REQUIRE(go_on(pid) && wait_exit(pid, 13));
+	function_called_at(traps, SIGTRAP);
 }
 
 /* ---- threads, children and images at their beginning */
