@@ -34,7 +34,7 @@ SONAME = libtracehost.so.1
 
 PAGES = tracehost.1 tracehost-view.1 tracehost-perfetto.1
 DATA = schema/scenario.schema.json viewer/src/* viewer/*.py
-DOCUMENTS = LICENSE README.md CHANGELOG.md SECURITY.md docs/* examples/*
+DOCUMENTS = LICENSE README.md CHANGELOG.md SECURITY.md docs/*.* docs/internals/* examples/*
 # the client in C: tracehost_client.c includes the others
 CLIENT = tracehost_client.c internal.h calls.c in_process.c names.c pipe.c record.c session.c steps.c threads.c
 # C programs on the model: its Makefile, and where it installs. Relative names are those of this folder.
@@ -55,7 +55,7 @@ install:
 	@umask 022 && $(MAKE) --no-print-directory install-files
 
 install-files:
-	for folder in "$(bindir)" "$(includedir)" "$(man1dir)" "$(docdir)/docs" "$(docdir)/examples" "$(pkgdatadir)/schema" \
+	for folder in "$(bindir)" "$(includedir)" "$(man1dir)" "$(docdir)/docs/internals" "$(docdir)/examples" "$(pkgdatadir)/schema" \
 	  "$(pkgdatadir)/viewer/src" "$(pkgconfigdir)" "$(cmakedir)" "$(bashcompletiondir)" "$(zshcompletiondir)"; do \
 	  $(INSTALL) -d "$(DESTDIR)$$folder" || exit; done
 	$(INSTALL_PROGRAM) "$$(tools/program)" "$(DESTDIR)$(bindir)/tracehost"
@@ -120,15 +120,16 @@ uninstall:
 	test ! -d "$(DESTDIR)$(pkgdatadir)/c" || rmdir "$(DESTDIR)$(pkgdatadir)/c"
 	for file in $(DATA); do rm -f "$(DESTDIR)$(pkgdatadir)/$$file"; done
 	for file in $(DOCUMENTS); do rm -f "$(DESTDIR)$(docdir)/$$file"; done
-	for folder in "$(cmakedir)" "$(docdir)/docs" "$(docdir)/examples" "$(docdir)" \
+	for folder in "$(cmakedir)" "$(docdir)/docs/internals" "$(docdir)/docs" "$(docdir)/examples" "$(docdir)" \
 	  "$(pkgdatadir)/schema" "$(pkgdatadir)/viewer/src" "$(pkgdatadir)/viewer" "$(pkgdatadir)"; do \
 	  test ! -d "$(DESTDIR)$$folder" || rmdir "$(DESTDIR)$$folder"; done
 
 deb:
 	tools/deb "$(OUT)"
 
-# twice the same bits: no time but the release's, and no mode but the umask's
+# twice the same bits: no time but the release's, and no mode but the umask's; without a program it is the client alone
 wheel:
+	@tools/program >/dev/null || echo "the wheel contains the client, without the program" >&2
 	umask 022 && SOURCE_DATE_EPOCH=$${SOURCE_DATE_EPOCH:-$$(tools/version --time)} \
 	  $(PYTHON) -m pip wheel --quiet --no-deps $(PIPFLAGS) --wheel-dir "$(OUT)" ./clients/python
 

@@ -11,80 +11,87 @@ that program. With --peak also the resident memory at most, in times the scenari
 that cost most by themselves follow, for each load and program.
 """
 
+from __future__ import annotations
+
 import argparse
 import os
 import re
 import subprocess
 import tempfile
+from collections.abc import Iterable, Sequence
+from typing import NamedTuple, Optional
 
 import scenarios
 
 LOADS = {
-    'churn of processes': scenarios.of_one(scenarios.forks_and_exits),
-    'attach, wait, detach': scenarios.of_one(scenarios.attach_cycles),
-    'the same beside 248 tracees': scenarios.of_one(scenarios.attach_among_tracees),
-    'chains of debuggers that end': scenarios.of_one(scenarios.chains_that_end),
-    'forks that are followed': scenarios.of_one(scenarios.fork_events),
-    'threads': scenarios.of_one(scenarios.threads),
-    'all kinds, 64 users': scenarios.mixed,
-    'lists of 64 users': scenarios.spawns_and_lists,
-    'rules and sets': scenarios.of_one(scenarios.installs),
-    'only parsing': scenarios.refusals,
+    "churn of processes": scenarios.of_one(scenarios.forks_and_exits),
+    "attach, wait, detach": scenarios.of_one(scenarios.attach_cycles),
+    "the same beside 248 tracees": scenarios.of_one(scenarios.attach_among_tracees),
+    "chains of debuggers that end": scenarios.of_one(scenarios.chains_that_end),
+    "forks that are followed": scenarios.of_one(scenarios.fork_events),
+    "threads": scenarios.of_one(scenarios.threads),
+    "all kinds, 64 users": scenarios.mixed,
+    "lists of 64 users": scenarios.spawns_and_lists,
+    "rules and sets": scenarios.of_one(scenarios.installs),
+    "only parsing": scenarios.refusals,
 }
 
-# The functions of each part, as regular expressions of their whole names. Where the first one isn't there, since it was
+# The functions of each part, as regular expressions of their whole names. If the first one isn't there, since it was
 # inlined or has moved, the next one counts.
 PARTS = {
-    'parse': (
-        r'scenario_text::reading::read\b.*',
-        r'scenario_text::parsing::parse\b.*',
-        r'scenario_text::streaming::(stream|read_scenario)\b.*',
-        r'scenario_runs::reading::read\b.*',
-        r'scenario_runs::parsing::parse\b.*',
+    "parse": (
+        r"scenario_text::reading::read\b.*",
+        r"scenario_text::parsing::parse\b.*",
+        r"scenario_text::streaming::(stream|read_scenario)\b.*",
+        r"scenario_runs::reading::read\b.*",
+        r"scenario_runs::parsing::parse\b.*",
     ),
-    'bind': (r'scenario_runs::binding::bind\b.*', r'scenario_runs::binding::bound\b.*'),
-    'steps': (
-        r'requests::host::Host::(step|make)\b.*',
-        r'visibility::runs::run_list\b.*',
+    "bind": (r"scenario_runs::binding::bind\b.*", r"scenario_runs::binding::bound\b.*"),
+    "steps": (
+        r"requests::host::Host::(step|make)\b.*",
+        r"visibility::runs::run_list\b.*",
         # the steps and what is around them, if they are inlined: in `text_of` the text too
-        r'scenario_runs::running::(text_of|replies_of)\b.*',
+        r"scenario_runs::running::(text_of|replies_of)\b.*",
     ),
-    'text': (
-        r'scenario_runs::lines::push_(shown|line|words)\b.*',
-        r'scenario_runs::lines::render\b.*',
-        r'scenario_runs::running::write_lines\b.*',
+    "text": (
+        r"scenario_runs::lines::push_(shown|line|words)\b.*",
+        r"scenario_runs::lines::render\b.*",
+        r"scenario_runs::running::write_lines\b.*",
     ),
 }
 
 # A line of callgrind_annotate: the cost, its share, and the function as FILE:NAME [OBJECT]
-COST = re.compile(r'\s*([\d,]+) \(\s*[\d.]+%\)\s+(.*)')
-FUNCTION = re.compile(r'[^:]*:(.*?)(?: \[[^\]]*\])?$')
+COST = re.compile(r"\s*([\d,]+) \(\s*[\d.]+%\)\s+(.*)")
+FUNCTION = re.compile(r"[^:]*:(.*?)(?: \[[^\]]*\])?$")
+
+Functions = list[tuple[str, int]]  # names and instructions, most first
 
 HERE = os.path.dirname(os.path.abspath(__file__))
 
 
-def profile(program, scenario, file):
+def profile(program: str, scenario: str, file: str) -> None:
     """Writes callgrind's profile of a run to the file."""
-    words = ['valgrind', '--tool=callgrind', '--quiet', f'--callgrind-out-file={file}', program, scenario]
+    words = ["valgrind", "--tool=callgrind", "--quiet", f"--callgrind-out-file={file}", program, scenario]
     subprocess.run(words, stdout=subprocess.DEVNULL, check=True)
 
 
-def costs(file, inclusive):
-    """The instructions of the whole run, and each function's with that of all it calls, or alone; most first."""
-    words = ['callgrind_annotate', f'--inclusive={"yes" if inclusive else "no"}', '--threshold=100', '--auto=no', file]
+def costs(file: str, inclusive: bool) -> tuple[int, Functions]:
+    """The instructions of the whole run, and each function's with or without what it calls; most first."""
+    words = ["callgrind_annotate", f'--inclusive={"yes" if inclusive else "no"}', "--threshold=100", "--auto=no", file]
     text = subprocess.run(words, capture_output=True, text=True, check=True).stdout
-    whole, functions = 0, []
+    whole = 0
+    functions: Functions = []
     for cost, rest in (row.groups() for row in map(COST.match, text.splitlines()) if row):
-        number = int(cost.replace(',', ''))
-        if rest.startswith('PROGRAM TOTALS'):
+        number = int(cost.replace(",", ""))
+        if rest.startswith("PROGRAM TOTALS"):
             whole = number
         else:
-            functions.append((FUNCTION.sub(r'\1', rest), number))
+            functions.append((FUNCTION.sub(r"\1", rest), number))
     return whole, functions
 
 
-def part(functions, patterns):
-    """The instructions of the first pattern's function, or None. Where it has several, the outermost has the most."""
+def part(functions: Functions, patterns: Iterable[str]) -> Optional[int]:
+    """The instructions of the first pattern's function, or None. If it has several, the outermost has the most."""
     for pattern in patterns:
         found = [cost for name, cost in functions if re.fullmatch(pattern, name)]
         if found:
@@ -92,67 +99,76 @@ def part(functions, patterns):
     return None
 
 
-def millions(count):
-    return '-' if count is None else f'{count / 1e6:.1f}'
+def millions(count: Optional[int]) -> str:
+    return "-" if count is None else f"{count / 1e6:.1f}"
 
 
-def peak(program, scenario, room):
+def peak(program: str, scenario: str, room: str) -> float:
     """The resident memory at most, in times the scenario's bytes."""
-    small = os.path.join(room, 'peak')
+    small = os.path.join(room, "peak")
     if not os.path.exists(small):
-        subprocess.run(['cc', '-O1', '-o', small, os.path.join(HERE, 'peak.c')], check=True)
+        subprocess.run(["cc", "-O1", "-o", small, os.path.join(HERE, "peak.c")], check=True)
     ran = subprocess.run([small, program, scenario], stdout=subprocess.DEVNULL, stderr=subprocess.PIPE, check=True)
     return int(ran.stderr) * 1024 / os.path.getsize(scenario)
 
 
-def print_row(cells):
-    print('| ' + ' | '.join(map(str, cells)) + ' |', flush=True)
+def print_row(cells: Iterable[object]) -> None:
+    print("| " + " | ".join(map(str, cells)) + " |", flush=True)
 
 
-def print_load(load, programs, options, room):
+class Alone(NamedTuple):
+    """The functions of a run by their own cost."""
+
+    load: str
+    number: int
+    whole: int
+    functions: Functions
+
+
+def print_load(load: str, programs: Sequence[str], options: argparse.Namespace, room: str) -> list[Alone]:
     """A row for each program. Answers the functions of each by their own cost."""
-    scenario = os.path.join(room, 'scenario.json')
+    scenario = os.path.join(room, "scenario.json")
     scenarios.write(LOADS[load](options.steps), scenario)
-    alone = []
+    alone: list[Alone] = []
     for number, program in enumerate(programs, 1):
-        file = os.path.join(room, 'callgrind.out')
+        file = os.path.join(room, "callgrind.out")
         profile(program, scenario, file)
         whole, functions = costs(file, inclusive=True)
-        cells = [load, number, millions(whole), *(millions(part(functions, names)) for names in PARTS.values())]
+        cells: list[object] = [load, number, millions(whole), *(millions(part(functions, names)) for names in PARTS.values())]
         if options.peak:
-            cells.append(f'{peak(program, scenario, room):.1f}')
+            cells.append(f"{peak(program, scenario, room):.1f}")
         print_row(cells)
         if options.top:
-            alone.append((load, number, *costs(file, inclusive=False)))
+            alone.append(Alone(load, number, *costs(file, inclusive=False)))
     return alone
 
 
-def print_top(load, number, whole, functions, count):
-    print(f'\n{load}, program {number}: the functions that cost most by themselves\n')
-    print_row(['millions', 'share', 'function'])
-    print('|---|---|---|')
-    for name, cost in functions[:count]:
-        print_row([millions(cost), f'{cost / whole:.1%}', f'`{name}`'])
+def print_top(run: Alone, count: int) -> None:
+    print(f"\n{run.load}, program {run.number}: the functions that cost most by themselves\n")
+    print_row(["millions", "share", "function"])
+    print("|---|---|---|")
+    for name, cost in run.functions[:count]:
+        print_row([millions(cost), f"{cost / run.whole:.1%}", f"`{name}`"])
 
 
-def main():
+def main() -> None:
     parser = argparse.ArgumentParser()
-    top = os.path.join(HERE, '..')
-    parser.add_argument('programs', nargs='*', default=[os.path.join(top, 'crates/tracehost/out/tracehost')])
-    parser.add_argument('--steps', type=int, default=40000)
-    parser.add_argument('--peak', action='store_true')
-    parser.add_argument('--top', type=int, default=0)
+    top = os.path.join(HERE, "..")
+    parser.add_argument("programs", nargs="*", default=[os.path.join(top, "crates/tracehost/out/tracehost")])
+    parser.add_argument("--steps", type=int, default=40000)
+    parser.add_argument("--peak", action="store_true")
+    parser.add_argument("--top", type=int, default=0)
     options = parser.parse_args()
-    heads = ['load', 'program', 'whole', *PARTS] + ['peak'] * options.peak
+    heads = ["load", "program", "whole", *PARTS] + ["peak"] * options.peak
     print_row(heads)
-    print('|' + '---|' * len(heads))
-    alone = []
+    print("|" + "---|" * len(heads))
+    alone: list[Alone] = []
     with tempfile.TemporaryDirectory() as room:
         for load in LOADS:
             alone += print_load(load, options.programs, options, room)
-    for load, number, whole, functions in alone:
-        print_top(load, number, whole, functions, options.top)
+    for run in alone:
+        print_top(run, options.top)
 
 
-if __name__ == '__main__':
+if __name__ == "__main__":
     main()

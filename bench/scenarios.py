@@ -26,11 +26,11 @@ def spawns_and_lists(length: int) -> list[Step]:
         for user in USERS:
             kind = turn % 8
             if kind == 6:
-                steps.append({'user': user, 'op': 'list', 'caller': first_pid(user)})
+                steps.append({"user": user, "op": "list", "caller": first_pid(user)})
             elif kind == 7:
-                steps.append({'user': user, 'op': 'list', 'caller': first_pid(1001 + (user - 1000) % 64)})
+                steps.append({"user": user, "op": "list", "caller": first_pid(1001 + (user - 1000) % 64)})
             else:
-                steps.append({'user': user, 'op': 'spawn'})
+                steps.append({"user": user, "op": "spawn"})
         turn += 1
     return steps[:length]
 
@@ -40,12 +40,12 @@ def refusals(length: int) -> list[Step]:
     steps = [spawn(user) for user in USERS]
     while len(steps) < length:
         user = 1001 + len(steps) % 64
-        steps.append({'user': user, 'op': 'list', 'caller': first_pid(user) + 500})
+        steps.append({"user": user, "op": "list", "caller": first_pid(user) + 500})
     return steps[:length]
 
 
 class Block:
-    """A block of numbers, of which the first free one after the last is taken, round the block."""
+    """A block of numbers: the first free one after the last is taken, round the block."""
 
     def __init__(self, first: int, size: int) -> None:
         self.first, self.size, self.cursor = first, size, 0
@@ -82,21 +82,21 @@ class Numbers:
 
 
 def spawn(user: int) -> Step:
-    return {'user': user, 'op': 'spawn'}
+    return {"user": user, "op": "spawn"}
 
 
 def ptrace(user: int, caller: int, request: str, target: int) -> Step:
-    return {'user': user, 'op': 'ptrace', 'caller': caller, 'request': request, 'target': target}
+    return {"user": user, "op": "ptrace", "caller": caller, "request": request, "target": target}
 
 
 def wait(user: int, caller: int) -> Step:
-    return {'user': user, 'op': 'wait4', 'caller': caller, 'which': -1}
+    return {"user": user, "op": "wait4", "caller": caller, "which": -1}
 
 
 def call(user: int, lwp: int, name: str, **more: object) -> Iterator[Step]:
     """The two turns of a system call."""
-    yield {'user': user, 'op': 'turn', 'lwp': lwp, 'act': 'enter', 'call': name, **more}
-    yield {'user': user, 'op': 'turn', 'lwp': lwp, 'act': 'leave'}
+    yield {"user": user, "op": "turn", "lwp": lwp, "act": "enter", "call": name, **more}
+    yield {"user": user, "op": "turn", "lwp": lwp, "act": "leave"}
 
 
 def attach_cycles(user: int) -> Iterator[Step]:
@@ -111,9 +111,9 @@ def attach_cycles(user: int) -> Iterator[Step]:
 def attaches(user: int, debugger: int, tracee: int) -> Iterator[Step]:
     """The debugger attaches to the tracee, waits for it and detaches, again and again."""
     while True:
-        yield ptrace(user, debugger, 'PT_ATTACH', tracee)
+        yield ptrace(user, debugger, "PT_ATTACH", tracee)
         yield wait(user, debugger)
-        yield ptrace(user, debugger, 'PT_DETACH', tracee)
+        yield ptrace(user, debugger, "PT_DETACH", tracee)
 
 
 def forks_and_exits(user: int) -> Iterator[Step]:
@@ -122,8 +122,8 @@ def forks_and_exits(user: int) -> Iterator[Step]:
     yield spawn(user)
     while True:
         pid, tid = numbers.process()
-        yield from call(user, lwp, 'fork')
-        yield from call(user, tid, 'exit', code=0)
+        yield from call(user, lwp, "fork")
+        yield from call(user, tid, "exit", code=0)
         # SIGCHLD is discarded, so that the parent's next turn meets no signal
         yield wait(user, parent)
         numbers.gone(pid, tid)
@@ -135,23 +135,23 @@ def threads(user: int) -> Iterator[Step]:
     yield spawn(user)
     while True:
         tid = numbers.lwp()
-        yield from call(user, lwp, 'thr_new')
-        yield from call(user, tid, 'thr_exit')
+        yield from call(user, lwp, "thr_new")
+        yield from call(user, tid, "thr_exit")
         numbers.lwp_gone(tid)
 
 
 def chains_that_end(user: int, links: int = 10) -> Iterator[Step]:
-    """A chain of debuggers, each of which traces the next; the first one's end kills them all."""
+    """A chain of debuggers, each tracing the next; the first one's end kills them all."""
     numbers = Numbers(user)
     while True:
         made = [numbers.process() for _ in range(links)]
         for _ in made:
             yield spawn(user)
         for (debugger, _), (tracee, _) in zip(made, made[1:]):
-            yield ptrace(user, debugger, 'PT_ATTACH', tracee)
+            yield ptrace(user, debugger, "PT_ATTACH", tracee)
             yield wait(user, debugger)
-            yield ptrace(user, debugger, 'PT_CONTINUE', tracee)
-        yield from call(user, made[0][1], 'exit', code=0)
+            yield ptrace(user, debugger, "PT_CONTINUE", tracee)
+        yield from call(user, made[0][1], "exit", code=0)
         for pid, tid in made:
             numbers.gone(pid, tid)
 
@@ -165,9 +165,9 @@ def attach_among_tracees(user: int, tracees: int = 248) -> Iterator[Step]:
     for _ in range(tracees + 2):
         yield spawn(user)
     for other in others:
-        yield ptrace(user, debugger, 'PT_ATTACH', other)
+        yield ptrace(user, debugger, "PT_ATTACH", other)
         yield wait(user, debugger)
-        yield ptrace(user, debugger, 'PT_CONTINUE', other)
+        yield ptrace(user, debugger, "PT_CONTINUE", other)
     yield from attaches(user, debugger, tracee)
 
 
@@ -178,26 +178,26 @@ def fork_events(user: int) -> Iterator[Step]:
     tracee, lwp = numbers.process()
     yield spawn(user)
     yield spawn(user)
-    yield ptrace(user, debugger, 'PT_ATTACH', tracee)
+    yield ptrace(user, debugger, "PT_ATTACH", tracee)
     yield wait(user, debugger)
-    mask = {'mask': ['PTRACE_FORK', 'PTRACE_SCX']}
-    yield {**ptrace(user, debugger, 'PT_SET_EVENT_MASK', tracee), **mask}
-    yield ptrace(user, debugger, 'PT_CONTINUE', tracee)
+    mask = {"mask": ["PTRACE_FORK", "PTRACE_SCX"]}
+    yield {**ptrace(user, debugger, "PT_SET_EVENT_MASK", tracee), **mask}
+    yield ptrace(user, debugger, "PT_CONTINUE", tracee)
     while True:
         child, tid = numbers.process()
-        yield from call(user, lwp, 'fork')
+        yield from call(user, lwp, "fork")
         for stopped in (tracee, child):
             yield wait(user, debugger)
-            yield ptrace(user, debugger, 'PT_LWPINFO', stopped)
-        yield ptrace(user, debugger, 'PT_DETACH', child)
-        yield from call(user, tid, 'exit', code=3)
-        yield ptrace(user, debugger, 'PT_CONTINUE', tracee)
+            yield ptrace(user, debugger, "PT_LWPINFO", stopped)
+        yield ptrace(user, debugger, "PT_DETACH", child)
+        yield from call(user, tid, "exit", code=3)
+        yield ptrace(user, debugger, "PT_CONTINUE", tracee)
         yield wait(user, tracee)
         numbers.gone(child, tid)
         # SIGCHLD stops the tracee
-        yield {'user': user, 'op': 'turn', 'lwp': lwp, 'act': 'compute'}
+        yield {"user": user, "op": "turn", "lwp": lwp, "act": "compute"}
         yield wait(user, debugger)
-        yield ptrace(user, debugger, 'PT_CONTINUE', tracee)
+        yield ptrace(user, debugger, "PT_CONTINUE", tracee)
 
 
 def installs(user: int) -> Iterator[Step]:
@@ -205,10 +205,10 @@ def installs(user: int) -> Iterator[Step]:
     numbers = Numbers(user)
     debugger, lwp = numbers.process()
     yield spawn(user)
-    rule = {'signal': 5, 'flags': ['PL_FLAG_SCX', 'PL_FLAG_FORKED'], 'decision': 'continue', 'pass': 0}
+    rule = {"signal": 5, "flags": ["PL_FLAG_SCX", "PL_FLAG_FORKED"], "decision": "continue", "pass": 0}
     while True:
-        yield {'user': user, 'op': 'install', 'caller': debugger, 'rules': [rule] * 16}
-        yield {'user': user, 'op': 'turn', 'lwp': lwp, 'act': 'block', 'set': [30, 31]}
+        yield {"user": user, "op": "install", "caller": debugger, "rules": [rule] * 16}
+        yield {"user": user, "op": "turn", "lwp": lwp, "act": "block", "set": [30, 31]}
 
 
 def of_one(make: Source) -> Load:
@@ -234,16 +234,16 @@ def mixed(length: int) -> list[Step]:
 
 
 SOURCES: dict[str, Source] = {
-    'attach, wait and detach': attach_cycles,
-    'fork, exit and wait': forks_and_exits,
-    'new and ended threads': threads,
-    'chains of ten debuggers that end': chains_that_end,
+    "attach, wait and detach": attach_cycles,
+    "fork, exit and wait": forks_and_exits,
+    "new and ended threads": threads,
+    "chains of ten debuggers that end": chains_that_end,
 }
-KINDS: dict[str, Load] = {'spawns, lists and refusals of 64 users': spawns_and_lists, 'only refusals': refusals}
+KINDS: dict[str, Load] = {"spawns, lists and refusals of 64 users": spawns_and_lists, "only refusals": refusals}
 for name, make in SOURCES.items():
     KINDS[name] = of_one(make)
-    KINDS[name + ', 64 users'] = side_by_side(make)
-KINDS['all of these, 64 users'] = mixed
+    KINDS[name + ", 64 users"] = side_by_side(make)
+KINDS["all of these, 64 users"] = mixed
 
 
 def write(steps: Iterable[Step], file: str) -> int:
@@ -251,11 +251,11 @@ def write(steps: Iterable[Step], file: str) -> int:
     room = 4194304 - len('{"steps":[]}')
     texts: list[str] = []
     for step in steps:
-        texts.append(json.dumps(step, separators=(',', ':')))
+        texts.append(json.dumps(step, separators=(",", ":")))
         room -= len(texts[-1]) + 1
         if room < 0:
             texts.pop()
             break
-    with open(file, 'w') as out:
-        out.write('{"steps":[' + ','.join(texts) + ']}')
+    with open(file, "w") as out:
+        out.write('{"steps":[' + ",".join(texts) + "]}")
     return len(texts)

@@ -5,9 +5,11 @@
 
 PROGRAM is the built program (default: crates/tracehost/out/tracehost, which ./tracehost builds). Each scenario is made
 by a fixed rule. For each kind and length the best time of N runs (default 5) and the time per step are printed: it must
-not grow with the length, nor from one user to 64 side by side. Where a scenario of 60,000 steps is longer than the
+not grow with the length, nor from one user to 64 side by side. If a scenario of 60,000 steps is longer than the
 program reads, it has as many of them as fit.
 """
+
+from __future__ import annotations
 
 import argparse
 import os
@@ -20,7 +22,8 @@ from scenarios import KINDS, write
 LENGTHS = (10000, 30000, 60000)
 
 
-def best(program, file, runs):
+def best(program: str, file: str, runs: int) -> float:
+    """Seconds of the fastest run."""
     times = []
     for _ in range(runs):
         began = time.perf_counter()
@@ -29,21 +32,21 @@ def best(program, file, runs):
     return min(times)
 
 
-def main():
+def main() -> None:
     parser = argparse.ArgumentParser()
-    top = os.path.join(os.path.dirname(os.path.abspath(__file__)), '..')
-    parser.add_argument('program', nargs='?', default=os.path.join(top, 'crates/tracehost/out/tracehost'))
-    parser.add_argument('--runs', type=int, default=5)
+    top = os.path.join(os.path.dirname(os.path.abspath(__file__)), "..")
+    parser.add_argument("program", nargs="?", default=os.path.join(top, "crates/tracehost/out/tracehost"))
+    parser.add_argument("--runs", type=int, default=5)
     options = parser.parse_args()
     print(f'{"scenario":45} {"steps":>7} {"seconds":>9} {"us a step":>10}')
     with tempfile.TemporaryDirectory() as room:
         for kind, make in KINDS.items():
             for length in LENGTHS:
-                file = os.path.join(room, 'scenario.json')
+                file = os.path.join(room, "scenario.json")
                 count = write(make(length), file)
                 seconds = best(options.program, file, options.runs)
-                print(f'{kind:45} {count:7} {seconds:9.3f} {seconds / count * 1e6:10.2f}')
+                print(f"{kind:45} {count:7} {seconds:9.3f} {seconds / count * 1e6:10.2f}")
 
 
-if __name__ == '__main__':
+if __name__ == "__main__":
     main()

@@ -6,18 +6,24 @@
 PROGRAM is the built program (default: crates/tracehost/out/tracehost, which ./tracehost builds). Each case is made by a
 fixed rule, with many processes and with the fewest that it can have: a preparation, and then the steps of a round again
 and again, N in all (default 20,000). Printed are, for one step, nanoseconds by the best of N runs (default 5), the
-instructions from bytes to text, and those of the host's steps alone (valgrind's callgrind). What the preparation costs
+instructions from bytes to text, and those of only the host's steps (valgrind's callgrind). What the preparation costs
 is measured by itself and taken off.
 """
+
+from __future__ import annotations
 
 import argparse
 import itertools
 import os
 import tempfile
+from collections.abc import Callable, Iterator
 
 import instructions
 import scenarios
+from scenarios import Step
 from steps import best
+
+Case = tuple[list[Step], Iterator[Step]]  # a preparation, and steps without end
 
 USER = 1001
 DEBUGGER = scenarios.first_pid(USER)
@@ -26,121 +32,121 @@ MOST_LWPS = 1000
 SIGURG, SIGTSTP, SIGCONT = 16, 18, 19
 
 
-def spawns(count):
+def spawns(count: int) -> list[Step]:
     return [scenarios.spawn(USER) for _ in range(count)]
 
 
-def kill_all(signal):
-    return {'user': USER, 'op': 'kill', 'caller': DEBUGGER, 'which': -1, 'signal': signal}
+def kill_all(signal: int) -> Step:
+    return {"user": USER, "op": "kill", "caller": DEBUGGER, "which": -1, "signal": signal}
 
 
-def threaded(processes, lwps):
+def threaded(processes: int, lwps: int) -> list[Step]:
     """Processes of so many LWPs each."""
     numbers = scenarios.Numbers(USER)
     oldest = [numbers.process()[1] for _ in range(processes)]
-    births = (scenarios.call(USER, lwp, 'thr_new') for lwp in oldest for _ in range(lwps - 1))
+    births = (scenarios.call(USER, lwp, "thr_new") for lwp in oldest for _ in range(lwps - 1))
     return spawns(processes) + list(itertools.chain.from_iterable(births))
 
 
-def attach(tracee):
+def attach(tracee: int) -> Iterator[Step]:
     """The attach, and the wait that is told of the stop."""
-    yield scenarios.ptrace(USER, DEBUGGER, 'PT_ATTACH', tracee)
-    yield {'user': USER, 'op': 'wait4', 'caller': DEBUGGER, 'which': tracee}
+    yield scenarios.ptrace(USER, DEBUGGER, "PT_ATTACH", tracee)
+    yield {"user": USER, "op": "wait4", "caller": DEBUGGER, "which": tracee}
 
 
-def attached(tracees):
+def attached(tracees: int) -> list[Step]:
     """A debugger that was told of the stop of each of its tracees."""
     numbers = range(DEBUGGER + 1, DEBUGGER + 1 + tracees)
     return spawns(1 + tracees) + list(itertools.chain.from_iterable(map(attach, numbers)))
 
 
-def waits(tracees):
+def waits(tracees: int) -> Case:
     """The debugger waits, and no tracee has anything to tell."""
     return attached(tracees), itertools.repeat(scenarios.wait(USER, DEBUGGER))
 
 
-def attaches(tracees):
+def attaches(tracees: int) -> Case:
     """The debugger detaches from the tracee that was attached last, and attaches to it again."""
     last = DEBUGGER + tracees
-    round_of_steps = [scenarios.ptrace(USER, DEBUGGER, 'PT_DETACH', last), *attach(last)]
+    round_of_steps = [scenarios.ptrace(USER, DEBUGGER, "PT_DETACH", last), *attach(last)]
     return attached(tracees), itertools.cycle(round_of_steps)
 
 
-def lists(processes):
-    return spawns(processes), itertools.repeat({'user': USER, 'op': 'list', 'caller': DEBUGGER})
+def lists(processes: int) -> Case:
+    return spawns(processes), itertools.repeat({"user": USER, "op": "list", "caller": DEBUGGER})
 
 
-def checks(processes):
+def checks(processes: int) -> Case:
     """Signal 0 for all others: only whether there are any is looked at."""
     return spawns(processes), itertools.repeat(kill_all(0))
 
 
-def discarded_signals(processes):
+def discarded_signals(processes: int) -> Case:
     """SIGURG for all others, which each of them discards."""
     return spawns(processes), itertools.repeat(kill_all(SIGURG))
 
 
-def discarded_beside_lwps(processes):
+def discarded_beside_lwps(processes: int) -> Case:
     """SIGURG for all others, of four LWPs each."""
     return threaded(processes, 4), itertools.repeat(kill_all(SIGURG))
 
 
-def stops_and_continues(processes):
+def stops_and_continues(processes: int) -> Case:
     """SIGTSTP and SIGCONT for all others, of four LWPs each: each takes the other out of what is pending."""
     return threaded(processes, 4), itertools.cycle([kill_all(SIGTSTP), kill_all(SIGCONT)])
 
 
-def dispositions(lwps):
+def dispositions(lwps: int) -> Case:
     """A process of so many LWPs ignores SIGURG, and then catches it."""
-    step = {'user': USER, 'op': 'sigaction', 'caller': DEBUGGER, 'signal': SIGURG}
-    return threaded(1, lwps), itertools.cycle([{**step, 'action': 'ignore'}, {**step, 'action': 'catch'}])
+    step = {"user": USER, "op": "sigaction", "caller": DEBUGGER, "signal": SIGURG}
+    return threaded(1, lwps), itertools.cycle([{**step, "action": "ignore"}, {**step, "action": "catch"}])
 
 
-def spawns_and_exits(processes):
+def spawns_and_exits(processes: int) -> Case:
     """A process more, which exits at once, beside so many others."""
     numbers = scenarios.Numbers(USER)
     for _ in range(processes):
         numbers.process()
 
-    def rounds():
+    def rounds() -> Iterator[Step]:
         while True:
             pid, tid = numbers.process()
             yield scenarios.spawn(USER)
-            yield from scenarios.call(USER, tid, 'exit', code=0)
+            yield from scenarios.call(USER, tid, "exit", code=0)
             numbers.gone(pid, tid)
 
     return spawns(processes), rounds()
 
 
 # The case, what makes it, and how many tracees, processes or LWPs there are at most and at least
-CASES = (
-    ('wait, nothing to report', waits, MOST_PROCESSES - 2, 1),
-    ('detach, attach, wait for the last tracee', attaches, MOST_PROCESSES - 2, 1),
-    ('list', lists, MOST_PROCESSES, 1),
-    ('kill -1 with signal 0', checks, MOST_PROCESSES, 2),
-    ('kill -1 with SIGURG', discarded_signals, MOST_PROCESSES, 2),
-    ('kill -1 with SIGURG, four LWPs each', discarded_beside_lwps, MOST_PROCESSES, 2),
-    ('kill -1 with SIGTSTP, SIGCONT, four LWPs each', stops_and_continues, MOST_PROCESSES, 2),
-    ('sigaction', dispositions, MOST_LWPS, 1),
-    ('spawn and exit', spawns_and_exits, MOST_PROCESSES - 1, 1),
-)
+CASES: list[tuple[str, Callable[[int], Case], int, int]] = [
+    ("wait, nothing to report", waits, MOST_PROCESSES - 2, 1),
+    ("detach, attach, wait for the last tracee", attaches, MOST_PROCESSES - 2, 1),
+    ("list", lists, MOST_PROCESSES, 1),
+    ("kill -1 with signal 0", checks, MOST_PROCESSES, 2),
+    ("kill -1 with SIGURG", discarded_signals, MOST_PROCESSES, 2),
+    ("kill -1 with SIGURG, four LWPs each", discarded_beside_lwps, MOST_PROCESSES, 2),
+    ("kill -1 with SIGTSTP, SIGCONT, four LWPs each", stops_and_continues, MOST_PROCESSES, 2),
+    ("sigaction", dispositions, MOST_LWPS, 1),
+    ("spawn and exit", spawns_and_exits, MOST_PROCESSES - 1, 1),
+]
 
 
-def measured(program, made, runs, room):
+def measured(program: str, made: list[Step], runs: int, room: str) -> tuple[float, int, int]:
     """Seconds of a run, its instructions, and those of the host's steps."""
-    scenario = os.path.join(room, 'scenario.json')
+    scenario = os.path.join(room, "scenario.json")
     if scenarios.write(made, scenario) < len(made):
-        raise SystemExit('bench/worst.py: the program reads no scenario of so many steps')
-    file = os.path.join(room, 'callgrind.out')
+        raise SystemExit("bench/worst.py: the program reads no scenario of so many steps")
+    file = os.path.join(room, "callgrind.out")
     instructions.profile(program, scenario, file)
     whole, functions = instructions.costs(file, inclusive=True)
-    hosts = instructions.part(functions, instructions.PARTS['steps'])
+    hosts = instructions.part(functions, instructions.PARTS["steps"])
     if hosts is None:
-        raise SystemExit('bench/worst.py: no function of the program is the part steps of bench/instructions.py')
+        raise SystemExit("bench/worst.py: no function of the program is the part steps of bench/instructions.py")
     return best(program, scenario, runs), whole, hosts
 
 
-def cost_of_a_step(make, size, options, room):
+def cost_of_a_step(make: Callable[[int], Case], size: int, options: argparse.Namespace, room: str) -> tuple[float, float, float]:
     """Nanoseconds, instructions, and those of the host's steps."""
     prepared, rounds = make(size)
     before = measured(options.program, prepared, options.runs, room)
@@ -149,22 +155,22 @@ def cost_of_a_step(make, size, options, room):
     return seconds * 1e9, whole, hosts
 
 
-def main():
+def main() -> None:
     parser = argparse.ArgumentParser()
-    top = os.path.join(os.path.dirname(os.path.abspath(__file__)), '..')
-    parser.add_argument('program', nargs='?', default=os.path.join(top, 'crates/tracehost/out/tracehost'))
-    parser.add_argument('--steps', type=int, default=20000)
-    parser.add_argument('--runs', type=int, default=5)
+    top = os.path.join(os.path.dirname(os.path.abspath(__file__)), "..")
+    parser.add_argument("program", nargs="?", default=os.path.join(top, "crates/tracehost/out/tracehost"))
+    parser.add_argument("--steps", type=int, default=20000)
+    parser.add_argument("--runs", type=int, default=5)
     options = parser.parse_args()
-    heads = ['steps', 'tracees, processes or LWPs', 'nanoseconds', 'instructions', "instructions of the host's steps"]
+    heads = ["steps", "tracees, processes or LWPs", "nanoseconds", "instructions", "instructions of the host's steps"]
     instructions.print_row(heads)
-    print('|' + '---|' * len(heads))
+    print("|" + "---|" * len(heads))
     with tempfile.TemporaryDirectory() as room:
         for case, make, *sizes in CASES:
             for size in sizes:
                 costs = cost_of_a_step(make, size, options, room)
-                instructions.print_row([case, size, *(f'{cost:.0f}' for cost in costs)])
+                instructions.print_row([case, size, *(f"{cost:.0f}" for cost in costs)])
 
 
-if __name__ == '__main__':
+if __name__ == "__main__":
     main()

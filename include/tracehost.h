@@ -42,7 +42,7 @@ typedef struct tracehost { void *session; uint64_t tag; } tracehost;
 #define TRACEHOST_CLOSED {NULL, 0}
 
 /* tools/format version */
-#define TRACEHOST_VERSION "0.11.0"
+#define TRACEHOST_VERSION "0.12.0"
 /* end */
 
 /* What a call returns. After 1, 2, 3 and 5 the session, and all that the call's pointers lead to, are as before. */
@@ -142,7 +142,7 @@ uint32_t tracehost_close(tracehost *h);
 uint32_t tracehost_copy(tracehost *from, tracehost *to);
 
 /*
- * Makes the step that the line is (docs/LINES.md), and stores the line of its answer, in words or as a JSON object:
+ * Makes the step that the line is (docs/FORMAT.md, section 11), and stores the line of its answer, in words or as a JSON object:
  * the front that fits into `out`, and in `length` the length of the whole line, with its line feed and without a NUL.
  * A line that is no step is answered by a refusal. tracehost_last_line stores the line of the session's last answer
  * again, also after TRACEHOST_NO_TEXT and after the calls below, and makes no step. Its length is 0 before any answer.

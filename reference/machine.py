@@ -2,12 +2,45 @@
 
 from . import names, requests, rules, turns
 from .rows import (
-    Handler, JobStop, Lwp, Process, Rule, Run, Stop, TraceStop, View, Zombie, add_process, find_process,
-    put_process, the_lwp, the_process
+    Handler,
+    JobStop,
+    Lwp,
+    Process,
+    Rule,
+    Run,
+    Stop,
+    TraceStop,
+    View,
+    Zombie,
+    add_process,
+    find_process,
+    put_process,
+    the_lwp,
+    the_process,
 )
 from .steps import (
-    Called, Error, Handle, Handled, Held, Install, Kill, List, New, Nothing, Ok, Processes, Ptrace, Refusal, Reply,
-    Sigaction, Spawn, Status, Step, Turn, Wait, refuse_if
+    Called,
+    Error,
+    Handle,
+    Handled,
+    Held,
+    Install,
+    Kill,
+    List,
+    New,
+    Nothing,
+    Ok,
+    Processes,
+    Ptrace,
+    Refusal,
+    Reply,
+    Sigaction,
+    Spawn,
+    Status,
+    Step,
+    Turn,
+    Wait,
+    refuse_if,
 )
 
 CONTINUED_WORD = 19
@@ -110,11 +143,7 @@ def reportable(process: Process, asked: Wait) -> bool:
 
 def collect(view: View, asked: Wait) -> tuple[View, Process | None]:
     """The view after a wait, and the process that it reports, as it was before."""
-    fitting = [
-        row
-        for row in view.processes
-        if asked.caller in (row.tracer, row.parent) and asked.which in (-1, row.number)
-    ]
+    fitting = [row for row in view.processes if asked.caller in (row.tracer, row.parent) and asked.which in (-1, row.number)]
     refuse_if(not fitting, "ECHILD")
     found = next((row for row in fitting if reportable(row, asked)), None)
     return (view if found is None else collected(view, found, asked.caller)), found

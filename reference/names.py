@@ -17,9 +17,7 @@ LAST_SIGNAL = 31
 
 ERRORS: Final = {"EPERM": 1, "ESRCH": 3, "ECHILD": 10, "EBUSY": 16, "EINVAL": 22, "EAGAIN": 35}
 
-FLAGS: Final = tuple(
-    "PL_FLAG_" + name for name in "SCE SCX EXEC FORKED CHILD BORN EXITED VFORKED VFORK_DONE".split()
-)
+FLAGS: Final = tuple("PL_FLAG_" + name for name in "SCE SCX EXEC FORKED CHILD BORN EXITED VFORKED VFORK_DONE".split())
 SCE, SCX, EXECED, FORKED, CHILD, BORN, EXITED, VFORKED, VFORK_DONE = FLAGS
 
 EVENTS: Final = tuple("PTRACE_" + name for name in "EXEC SCE SCX FORK LWP VFORK".split())

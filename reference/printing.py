@@ -5,8 +5,22 @@ from collections.abc import Iterable
 
 from . import names
 from .steps import (
-    Caught, Ended, Error, Handled, Held, Info, Lwps, Mask, New, Nothing, Number, Ok, Processes, Reply, Status,
-    Stopped
+    Caught,
+    Ended,
+    Error,
+    Handled,
+    Held,
+    Info,
+    Lwps,
+    Mask,
+    New,
+    Nothing,
+    Number,
+    Ok,
+    Processes,
+    Reply,
+    Status,
+    Stopped,
 )
 
 

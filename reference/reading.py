@@ -20,16 +20,14 @@ REQUESTS = ("PT_TRACE_ME", "PT_SET_EVENT_MASK", *WITH_DATA)
 CALLS = ("exit", "fork", "vfork", "exec", "thr_new", "thr_exit", "other")
 ACTS = ("compute", "raise", "block", "enter", "leave")
 OPTIONS = ("WNOHANG", "WUNTRACED", "WCONTINUED")
-MASKS = {name: frozenset({name}) for name in names.EVENTS} | {
-    "PTRACE_SYSCALL": frozenset({names.ON_ENTRY, names.ON_EXIT})
-}
+MASKS = {name: frozenset({name}) for name in names.EVENTS} | {"PTRACE_SYSCALL": frozenset({names.ON_ENTRY, names.ON_EXIT})}
 
 Json: TypeAlias = object
 Item = TypeVar("Item")
 
 
 class Fault(Exception):
-    """Why a text is refused: the fault's name, and the step's number where it has one."""
+    """Why a text is refused: the fault's name, and the step's number if it has one."""
 
     def __init__(self, name: str, step: int | None = None) -> None:
         super().__init__(name if step is None else f"{name} at step {step}")

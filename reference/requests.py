@@ -34,7 +34,7 @@ def ptrace(view: View, caller: Process, asked: Ptrace) -> tuple[View, Reply]:
 
 
 def find_target(view: View, number: int) -> tuple[Process, Lwp | None]:
-    """The live process that a number means, and its LWP where the number names one."""
+    """The live process that a number means, and its LWP if the number names one."""
     lwp = find_lwp(view, number) if number > names.LAST_PROCESS else None
     process = find_process(view, number if lwp is None else lwp.process)
     if process is None or not process.live:

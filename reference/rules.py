@@ -5,8 +5,23 @@ from enum import Enum
 
 from . import names
 from .rows import (
-    NO_NAMES, JobStop, Lwp, Process, Run, Signals, Stop, TraceStop, User, View, VforkWait, Zombie, find_process,
-    put_lwp, put_process, the_lwp, the_process
+    NO_NAMES,
+    JobStop,
+    Lwp,
+    Process,
+    Run,
+    Signals,
+    Stop,
+    TraceStop,
+    User,
+    View,
+    VforkWait,
+    Zombie,
+    find_process,
+    put_lwp,
+    put_process,
+    the_lwp,
+    the_process,
 )
 
 
@@ -44,13 +59,9 @@ def settle(view: View, number: int) -> View:
 def map_pending(view: View, number: int, change: Callable[[Signals], Signals]) -> View:
     """Changes the pending sets of a process and of its LWPs."""
     processes = [
-        row._replace(pending=change(row.pending)) if row.number == number and row.pending else row
-        for row in view.processes
+        row._replace(pending=change(row.pending)) if row.number == number and row.pending else row for row in view.processes
     ]
-    lwps = [
-        row._replace(pending=change(row.pending)) if row.process == number and row.pending else row
-        for row in view.lwps
-    ]
+    lwps = [row._replace(pending=change(row.pending)) if row.process == number and row.pending else row for row in view.lwps]
     return view._replace(processes=tuple(processes), lwps=tuple(lwps))
 
 
@@ -141,14 +152,12 @@ def detach(view: View, number: int, signal: int) -> View:
     if process is None or not process.live:
         return view
     view = put_process(view, process._replace(tracer=None, mask=NO_NAMES))
-    lwps = [
-        row._replace(stepping=False, suspended=False, due=None) if row.process == number else row for row in view.lwps
-    ]
+    lwps = [row._replace(stepping=False, suspended=False, due=None) if row.process == number else row for row in view.lwps]
     return settle(view._replace(lwps=tuple(lwps)), number)
 
 
 def set_free(view: View, debugger: int) -> View:
-    """Detaches all live tracees of a debugger that ends, where debuggers don't kill them."""
+    """Detaches all live tracees of a debugger that ends, if debuggers don't kill them."""
     for process in view.processes:
         if process.tracer == debugger and process.live:
             if isinstance(process.state, TraceStop):
@@ -172,9 +181,7 @@ def end(view: View, number: int, word: int) -> View:
     if not view.kills_tracees:
         view = set_free(view, number)
     doomed = doomed_with(view, number)
-    fates = [
-        (row, after_end(row, doomed, word if row.number == number else names.KILL)) for row in view.processes
-    ]
+    fates = [(row, after_end(row, doomed, word if row.number == number else names.KILL)) for row in view.processes]
     ended = view._replace(
         processes=tuple([row for _, row in fates if row is not None]),
         lwps=tuple([released(view, row, doomed) for row in view.lwps if row.process not in doomed]),

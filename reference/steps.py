@@ -140,8 +140,7 @@ class Error(NamedTuple):
 
 
 Reply: TypeAlias = (
-    Ok | New | Number | Status | Nothing | Info | Lwps | Processes | Mask | Handled | Stopped | Caught | Ended |
-    Held | Error
+    Ok | New | Number | Status | Nothing | Info | Lwps | Processes | Mask | Handled | Stopped | Caught | Ended | Held | Error
 )
 
 

@@ -2,8 +2,24 @@
 
 from . import names, rules
 from .rows import (
-    NO_NAMES, InCall, Lwp, Names, Process, Run, Stop, User, VforkWait, View, add_lwp, add_process, find_lwp,
-    lwps_of, put_lwp, put_process, the_lwp, the_process
+    NO_NAMES,
+    InCall,
+    Lwp,
+    Names,
+    Process,
+    Run,
+    Stop,
+    User,
+    VforkWait,
+    View,
+    add_lwp,
+    add_process,
+    find_lwp,
+    lwps_of,
+    put_lwp,
+    put_process,
+    the_lwp,
+    the_process,
 )
 from .steps import Caught, Ended, Error, Held, New, Ok, Refusal, Reply, Stopped, Turn, refuse_if
 
@@ -151,11 +167,7 @@ def leave_fork(view: View, process: Process, lwp: Lwp, mode: InCall) -> tuple[Vi
 def execute(view: View, process: Process, lwp: Lwp) -> View:
     """The LWP's process does an exec: a vfork of its maker is over."""
     number = frozenset({process.number})
-    lwps = [
-        rules.released(view, row, number)
-        for row in view.lwps
-        if row.process != process.number or row.number == lwp.number
-    ]
+    lwps = [rules.released(view, row, number) for row in view.lwps if row.process != process.number or row.number == lwp.number]
     view = put_process(view._replace(lwps=tuple(lwps)), process._replace(caught=frozenset()))
     view = put_lwp(view, lwp._replace(mode=User()))
     return rules.settle(view, process.number)

@@ -22,13 +22,13 @@ import shutil
 import subprocess
 import sys
 import tempfile
-import types
+from pathlib import Path
 
-from kit import load_rt
+import kit
+from crates import TOP
 
-TOP = os.path.dirname(os.path.dirname(os.path.realpath(__file__)))
 CRATE = "tracehost_c"
-OUT = f"{TOP}/crates/{CRATE}/out"
+OUT = TOP / "crates" / CRATE / "out"
 NAMES = ("libtracehost.a", "libtracehost.so")
 SONAME = "libtracehost.so.1"  # its number changes with a call or struct of include/tracehost.h that older programs don't fit
 C_FLAGS = (
@@ -38,19 +38,9 @@ C_FLAGS = (
 HEADERS = ("-isystem", f"{TOP}/library/freestanding", "-I", f"{TOP}/include")
 
 
-def refuse(why: str) -> None:
-    sys.exit(f"build_library: {why}")
-
-
-def digest_of_sources() -> str:
-    """Returns the digest of all that the library is built from."""
-    command = [f"{TOP}/tools/sources", CRATE]
-    return subprocess.run(command, stdout=subprocess.PIPE, text=True, check=True).stdout.strip()
-
-
-def unwinding(kit: types.ModuleType, folder: str) -> str:
-    """Makes a toolchain in the folder: the kit's, but that its clang adds unwind tables. Returns the folder."""
-    tools = f"{kit.KIT}/toolchain"
+def unwinding(folder: str) -> str:
+    """Makes a toolchain in the folder: the kit's, except that its clang adds unwind tables. Returns the folder."""
+    tools = kit.folder() / "toolchain"
     os.mkdir(f"{folder}/bin")
     os.symlink(f"{tools}/lib", f"{folder}/lib")
     for name in ("ld.lld", "llvm-ar", "kit-clang"):
@@ -59,47 +49,38 @@ def unwinding(kit: types.ModuleType, folder: str) -> str:
     return folder
 
 
-def build_archive(kit: types.ModuleType) -> str:
+def build_archive() -> str:
     """Proves the crate and builds its archive. Returns the archive's path."""
     archive = f"out/lib{CRATE}.a"
-    kit.Crate.allowed = kit.handles_of(TOP)
-    kit.rtlib.guarded()
-    crate = kit.Crate(f"{TOP}/crates/{CRATE}", TOP, {})
-    held = kit.rtlib.lock([*crate.below(), crate])
-    missing = [below.name for below in crate.below() if not os.path.isdir(below.rlib)]
-    if missing:
-        refuse(f"run `rt ci` first: there is no library of {', '.join(missing)}")
-    os.makedirs(OUT, exist_ok=True)
-    words = [*crate.words(["--jobs", "1"], keeps=False), "--backend", "llvm"]
-    with open(f"{OUT}/build.log", "w+", encoding="utf-8") as crate.out, tempfile.TemporaryDirectory() as room:
-        status = crate.prove(["build", *words, "--toolchain", unwinding(kit, room), "-o", archive])
-        crate.out.seek(0)
-        lines = crate.out.read().splitlines()
-    del held
+    with kit.over_the_gate(CRATE) as crate, tempfile.TemporaryDirectory() as room:
+        OUT.mkdir(exist_ok=True)
+        words = [*crate.words(["--jobs", "1"], keeps=False), "--backend", "llvm"]
+        with open(f"{OUT}/build.log", "w+", encoding="utf-8") as crate.out:
+            status = crate.prove(["build", *words, "--toolchain", unwinding(room), "-o", archive])
+            crate.out.seek(0)
+            lines = crate.out.read().splitlines()
     if status:
         print(*lines[-20:], sep="\n", file=sys.stderr)
-        refuse(f"{CRATE} is not proved (status {status}): the whole log is {OUT}/build.log")
+        raise kit.Unavailable(f"{CRATE} is not proved (status {status}): the whole log is {OUT}/build.log")
     print(*(line for line in lines if line.startswith(("logic=proved", "axioms"))), sep="\n")
     return f"{TOP}/crates/{CRATE}/{archive}"
 
 
-def link(kit: types.ModuleType, archive: str, folder: str) -> None:
+def link(archive: str, to: Path) -> None:
     """Makes libtracehost.a and libtracehost.so of the archive and the kit's functions for memory."""
-    tools = f"{kit.KIT}/toolchain"
-    archive, folder = os.path.abspath(archive), os.path.abspath(folder)
+    tools, archive = kit.folder() / "toolchain", os.path.abspath(archive)
 
     def run(tool: str, *words: str) -> str:
-        command = subprocess.run(
-            [tool, *words], executable=f"{tools}/bin/clang", cwd=room, stdout=subprocess.PIPE, text=True
-        )
+        """Runs one of the tools, which are all one program, in the room."""
+        command = subprocess.run([tool, *words], executable=f"{tools}/bin/clang", cwd=room, stdout=subprocess.PIPE, text=True)
         if command.returncode:
-            refuse(f"{tool} failed with status {command.returncode}")
+            raise kit.Unavailable(f"{tool} failed with status {command.returncode}")
         return command.stdout
 
     with tempfile.TemporaryDirectory() as room:
         members = run("llvm-ar", "t", archive).split()
         run("llvm-ar", "x", archive)
-        run("llvm-ar", "x", f"{kit.KIT}/c/liblibc_c.a", "heap.pic.o")
+        run("llvm-ar", "x", f"{kit.folder()}/c/liblibc_c.a", "heap.pic.o")
         run("clang", *C_FLAGS, *HEADERS, "-c", f"{TOP}/library/words.c", "-o", "words.o")
         members += ["words.o", "heap.pic.o"]
         run("ld.lld", "-m", "elf_x86_64", "-r", "--threads=1", "-o", "tracehost.o", *members)
@@ -110,26 +91,26 @@ def link(kit: types.ModuleType, archive: str, folder: str) -> None:
         exported = ["--version-script", f"{TOP}/library/tracehost.map"]
         run("ld.lld", *words.split(), *exported, "-o", NAMES[1], "tracehost.o", f"{tools}/lib/libc.so.6")
         os.chmod(f"{room}/{NAMES[1]}", 0o755)
-        os.makedirs(folder, exist_ok=True)
+        to.mkdir(parents=True, exist_ok=True)
         for name in NAMES:
-            shutil.copy(f"{room}/{name}", f"{folder}/{name}.new")
-            os.replace(f"{folder}/{name}.new", f"{folder}/{name}")
-
-
-def prove() -> None:
-    digest, kit = digest_of_sources(), load_rt()
-    link(kit, build_archive(kit), OUT)
-    subprocess.run([f"{TOP}/tools/library", "--built", digest], check=True)
+            shutil.copy(f"{room}/{name}", to / f"{name}.new")
+            os.replace(to / f"{name}.new", to / name)
 
 
 def main(words: list[str]) -> None:
-    if not words:
-        prove()
-    elif len(words) == 2:
-        link(load_rt(), *words)
-    else:
-        refuse("usage: tools/build_library.py [ARCHIVE FOLDER]")
+    if words:
+        archive, folder = words
+        link(archive, Path(folder).resolve())
+        return
+    sources = subprocess.run([TOP / "tools/sources", CRATE], stdout=subprocess.PIPE, text=True, check=True).stdout.strip()
+    link(build_archive(), OUT)
+    subprocess.run([TOP / "tools/library", "--built", sources], check=True)
 
 
 if __name__ == "__main__":
-    main(sys.argv[1:])
+    if len(sys.argv) not in (1, 3):
+        sys.exit("usage: tools/build_library.py [ARCHIVE FOLDER]")
+    try:
+        main(sys.argv[1:])
+    except kit.Unavailable as why:
+        sys.exit(f"build_library: {why}")

@@ -15,21 +15,22 @@ from dataclasses import dataclass, field
 from functools import cache
 from pathlib import Path
 
-TOP = Path(__file__).resolve().parent.parent
-CRATES = TOP / 'crates'
+from crates import TOP, listed
 
-IMPORT = re.compile(r'^ *(?:pub |ghost )?use (Rattle\..*?)(?: as (\w+))?;?$', re.MULTILINE)
-GROUP = re.compile(r'([^\s{},]*)\{([^{}]*)\}')
-OTHER = re.compile(r'^ *((pub )?(use|mod) .*|--.*)$', re.MULTILINE)
-DECLARED = re.compile(r'\s*(?:abbrev |unfoldable )?(?:pub )?(record |data )?(\S+)')
-CONSTRUCTOR = re.compile(r'^  (?:pub )?(\S+) :', re.MULTILINE)
+CRATES = TOP / "crates"
+
+IMPORT = re.compile(r"^ *(?:pub |ghost )?use (Rattle\..*?)(?: as (\w+))?;?$", re.MULTILINE)
+GROUP = re.compile(r"([^\s{},]*)\{([^{}]*)\}")
+OTHER = re.compile(r"^ *((pub )?(use|mod) .*|--.*)$", re.MULTILINE)
+DECLARED = re.compile(r"\s*(?:abbrev |unfoldable )?(?:pub )?(record |data )?(\S+)")
+CONSTRUCTOR = re.compile(r"^  (?:pub )?(\S+) :", re.MULTILINE)
 FUNCTION = re.compile(r'^( *)pub (?:extern "C" )?fn (\w+)\b(.*?)^\1\{\}?$', re.DOTALL | re.MULTILINE)
 CITED = re.compile(r"(?<![\w'])(?<!\w\.)([A-Za-z_][\w'-]*)")
-TYPE = re.compile(r'^((?:(?:///|#\[).*\n)*)(?:pub(?:\([^)]*\))? )?(?:enum|struct|trait) (\w+)', re.MULTILINE)
+TYPE = re.compile(r"^((?:(?:///|#\[).*\n)*)(?:pub(?:\([^)]*\))? )?(?:enum|struct|trait) (\w+)", re.MULTILINE)
 # the constants of a type, and the value by which contracts see it
-FURTHER = r'^bitflag_items! \{{\n    impl {0}:|^impl.* Model for {0}\b'
+FURTHER = r"^bitflag_items! \{{\n    impl {0}:|^impl.* Model for {0}\b"
 # what leads from a type to its parts, in the path of a name
-PARTS = ('TheVariants', 'TheInside', 'TheConstants')
+PARTS = ("TheVariants", "TheInside", "TheConstants")
 
 
 @dataclass(frozen=True)
@@ -46,7 +47,7 @@ class Definition:
         return len(self.text.splitlines())
 
     def cited(self) -> Iterator[str]:
-        yield from CITED.findall(re.sub(r'(--|//)[^\n]*', '', self.text))
+        yield from CITED.findall(re.sub(r"(--|//)[^\n]*", "", self.text))
 
 
 @dataclass
@@ -67,35 +68,35 @@ class Source:
 
 def imported(path: str) -> Iterator[tuple[str, str]]:
     """The names that an import brings, each after its module: `a.{b.{c, d}, e}` brings c and d of a.b, and e of a."""
-    while '{' in path:
-        path = GROUP.sub(lambda group: ', '.join(group[1] + name.strip() for name in group[2].split(',')), path)
-    for name in path.split(', '):
-        module, _, last = name.rpartition('.')
+    while "{" in path:
+        path = GROUP.sub(lambda group: ", ".join(group[1] + name.strip() for name in group[2].split(",")), path)
+    for name in path.split(", "):
+        module, _, last = name.rpartition(".")
         yield module, last
 
 
 @cache
 def read_specs(path: Path) -> Source:
     source, at = Source(), 1
-    text = path.read_text(encoding='utf-8')
+    text = path.read_text(encoding="utf-8")
     source.add_imports(text)
-    for paragraph in re.split(r'(\n\n+)', text):
-        declared = DECLARED.match(OTHER.sub('', paragraph).strip('\n'))
+    for paragraph in re.split(r"(\n\n+)", text):
+        declared = DECLARED.match(OTHER.sub("", paragraph).strip("\n"))
         if declared:
-            made = Definition(path, declared[2], at, paragraph.strip('\n'))
-            constructors = CONSTRUCTOR.findall(paragraph) if declared[1] == 'data ' else []
+            made = Definition(path, declared[2], at, paragraph.strip("\n"))
+            constructors = CONSTRUCTOR.findall(paragraph) if declared[1] == "data " else []
             source.definitions.update((name, made) for name in (declared[2], *constructors))
-        at += paragraph.count('\n')
+        at += paragraph.count("\n")
     return source
 
 
 @cache
 def read_contracts(path: Path) -> Source:
     """The public functions of a file of src/, each with its header: the types of its parameters, and its clauses."""
-    source, text = Source(), path.read_text(encoding='utf-8')
+    source, text = Source(), path.read_text(encoding="utf-8")
     source.add_imports(text)
     for found in FUNCTION.finditer(text):
-        first = text.count('\n', 0, found.start()) + 1
+        first = text.count("\n", 0, found.start()) + 1
         source.definitions[found[2]] = Definition(path, found[2], first, found[3])
     return source
 
@@ -103,40 +104,39 @@ def read_contracts(path: Path) -> Source:
 @cache
 def used_by(crate: str) -> tuple[str, ...]:
     """The crate itself, and those of this repository that its line in crates.txt names."""
-    for line in (TOP / 'crates.txt').read_text(encoding='utf-8').splitlines():
-        name, colon, uses = line.partition('#')[0].partition(':')
-        if colon and name.split()[0] == crate:
-            return (crate, *(use for use in uses.split() if (CRATES / use).is_dir()))
-    raise LookupError(f'crates.txt has no line of {crate}')
+    crates = listed()
+    return (crate, *(use for use in crates[crate].uses if use in crates))
 
 
 @cache
 def read_types(crate: str) -> dict[str, tuple[Definition, ...]]:
     """The types of a crate, each with its constants, and with what contracts see of it: its value, or a trait's ghosts."""
     found: dict[str, tuple[Definition, ...]] = {}
-    for path in sorted((CRATES / crate / 'src').rglob('*.rt')):
-        text = path.read_text(encoding='utf-8')
+    for path in sorted((CRATES / crate / "src").rglob("*.rt")):
+        text = path.read_text(encoding="utf-8")
         for head in re.finditer(TYPE, text):
             name = head[2]
             starts = [it.start() for it in re.finditer(FURTHER.format(name), text, re.MULTILINE)]
             parts = [item_at(text, at) for at in starts]
-            parts += [lines_of(item_at(text, it.start()), 'ghost ') for it in re.finditer(rf'^impl.* {name}\b.* for ', text, re.MULTILINE)]
-            parts += [lines_of(item_at(text, it.start()), 'const ') for it in re.finditer(rf'^impl {name} \{{', text, re.MULTILINE)]
-            made = [Definition(path, name, text.count('\n', 0, text.index(part)) + 1, part) for part in parts if part]
-            own = Definition(path, name, text.count('\n', 0, head.start()) + 1, item_at(text, head.start()))
+            parts += [
+                lines_of(item_at(text, it.start()), "ghost ") for it in re.finditer(rf"^impl.* {name}\b.* for ", text, re.MULTILINE)
+            ]
+            parts += [lines_of(item_at(text, it.start()), "const ") for it in re.finditer(rf"^impl {name} \{{", text, re.MULTILINE)]
+            made = [Definition(path, name, text.count("\n", 0, text.index(part)) + 1, part) for part in parts if part]
+            own = Definition(path, name, text.count("\n", 0, head.start()) + 1, item_at(text, head.start()))
             found[name] = (*found.get(name, ()), own, *made)
     return found
 
 
 def lines_of(item: str, word: str) -> str:
     """The lines of an item from the first that declares such a thing to the last; empty if there is none."""
-    found = re.findall(rf'^    (?:pub(?:\([^)]*\))? )?{word}.*?;$', item, re.DOTALL | re.MULTILINE)
-    return item[item.index(found[0]) : item.index(found[-1]) + len(found[-1])] if found else ''
+    found = re.findall(rf"^    (?:pub(?:\([^)]*\))? )?{word}.*?;$", item, re.DOTALL | re.MULTILINE)
+    return item[item.index(found[0]) : item.index(found[-1]) + len(found[-1])] if found else ""
 
 
 def item_at(text: str, at: int) -> str:
     """The item that begins there: to its closing brace, or to the semicolon of its one line."""
-    end = re.compile(r'^\}|^pub struct [^\n{]*;$', re.MULTILINE).search(text, at)
+    end = re.compile(r"^\}|^pub struct [^\n{]*;$", re.MULTILINE).search(text, at)
     return text[at : end.end() if end else len(text)]
 
 
@@ -158,9 +158,9 @@ class Walk:
                 self.cite(source.aliases[name], name)
             elif name in source.names:
                 self.cite(source.names[name], name)
-            elif name in source.definitions and path.suffix == '.antt':
+            elif name in source.definitions and path.suffix == ".antt":
                 self.add(source.definitions[name], source, path)
-            elif path.suffix == '.rt':
+            elif path.suffix == ".rt":
                 self.add_type(crate, name)
 
     def add(self, definition: Definition, source: Source, path: Path) -> None:
@@ -169,22 +169,22 @@ class Walk:
             self.follow(definition, source, path)
 
     def cite(self, module: str, name: str) -> None:
-        _, crate, *below = module.split('.')
+        _, crate, *below = module.split(".")
         if not (CRATES / crate).is_dir():
             return  # the kit's
-        if below[1] == 'declared':
+        if below[1] == "declared":
             types = [word for word in below[2:] if word[0].isupper() and word not in PARTS]
             if not self.add_type(crate, (types or [name])[-1]):
-                raise LookupError(f'{module}.{name} leads to no type of {crate}')
-        elif below[1] != 'contracts':
-            path = CRATES / crate / 'specs' / f'{"/".join(below[1:])}.antt'
+                raise LookupError(f"{module}.{name} leads to no type of {crate}")
+        elif below[1] != "contracts":
+            path = CRATES / crate / "specs" / f'{"/".join(below[1:])}.antt'
             source = read_specs(path)
             if name in source.definitions:
                 self.add(source.definitions[name], source, path)
             elif name in source.names:
                 self.cite(source.names[name], name)
             else:
-                raise LookupError(f'{module}.{name} leads to no definition of {crate}')
+                raise LookupError(f"{module}.{name} leads to no definition of {crate}")
 
     def add_type(self, crate: str, name: str) -> bool:
         """Adds a type and the types of its fields, and returns whether there is one. Of a type with a model only its
@@ -193,7 +193,7 @@ class Walk:
             parts = read_types(place).get(name, ())
             if parts and parts[0] not in self.types:
                 self.types.update(dict.fromkeys(parts))
-                models = [part for part in parts if ' Model for ' in part.text]
+                models = [part for part in parts if " Model for " in part.text]
                 for part in models or parts[:1]:
                     self.add_value(part, place, is_model=bool(models))
             if parts:
@@ -204,6 +204,6 @@ class Walk:
         source, text = Source(), part.text
         source.add_imports(text)
         if is_model:
-            values = re.findall(r'ghost Value = \{(.*)\};', text)
-            text = ' '.join(values)
+            values = re.findall(r"ghost Value = \{(.*)\};", text)
+            text = " ".join(values)
         self.follow(Definition(part.path, part.name, part.first, text), source, part.path)

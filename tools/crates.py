@@ -1,53 +1,38 @@
-"""The crates of crates.txt, and copies of some of them for the kit's gate."""
+"""The crates of crates.txt, lowest first."""
 
 from __future__ import annotations
 
-import os
-import shutil
-from collections.abc import Iterable
+from pathlib import Path
+from typing import NamedTuple
 
-TOP = os.path.dirname(os.path.dirname(os.path.realpath(__file__)))
-# what a crate is proved from
-SOURCES = ("src", "specs", "proofs")
-# what a crate is made of, with the files of a program's run
-PARTS = (*SOURCES, "data", "args", "status", "stdin", "stdout")
-# the edits that the gate tries
-EDITS = "must-fail"
+TOP = Path(__file__).resolve().parent.parent
 
 
-def crates_below(*programs: str) -> dict[str, str]:
-    """Returns the lines of crates.txt of these crates and of those that they stand on, lowest first."""
-    lines: dict[str, str] = {}
-    with open(f"{TOP}/crates.txt", encoding="utf-8") as listed:
-        for line in listed:
-            name, colon, _ = line.partition("#")[0].partition(":")
-            if colon:
-                lines[name.split()[0]] = line
-    ordered: dict[str, str] = {}
+class Crate(NamedTuple):
+    """A line of the file, and the crates that it names."""
 
-    def add(name: str) -> None:
-        if name in lines and name not in ordered:
-            for use in lines[name].partition(":")[2].split():
-                add(use)
-            ordered[name] = lines[name]
-
-    for program in programs:
-        add(program)
-    return ordered
+    line: str
+    uses: list[str]
 
 
-def copy_crates(names: dict[str, str], folder: str, parts: Iterable[str] = PARTS) -> None:
-    """Copies these parts of these crates to the folder, with their lines of crates.txt and with HANDLES, as `rt ci` wants them."""
-    for name in names:
-        os.makedirs(f"{folder}/crates/{name}")
-        for part in parts:
-            path, to = f"{TOP}/crates/{name}/{part}", f"{folder}/crates/{name}/{part}"
-            if os.path.isdir(path):
-                shutil.copytree(path, to)
-            elif os.path.isfile(path):
-                shutil.copy2(path, to)
-    # rt ends its search for the top of a repository here, and what it sets aside lies within
-    os.mkdir(f"{folder}/.git")
-    shutil.copy2(f"{TOP}/HANDLES", folder)
-    with open(f"{folder}/crates.txt", "w", encoding="utf-8") as listed:
-        listed.writelines(names.values())
+def listed() -> dict[str, Crate]:
+    """All crates of this repository, in the order of the file."""
+    found = {}
+    for line in (TOP / "crates.txt").read_text(encoding="utf-8").splitlines(keepends=True):
+        name, colon, uses = line.partition("#")[0].partition(":")
+        if colon:
+            found[name.split()[0]] = Crate(line, uses.split())
+    return found
+
+
+def below(*names: str) -> dict[str, Crate]:
+    """These crates, and all of this repository that they use, directly or through others."""
+    crates = listed()
+    found: set[str] = set()
+    new = [*names]
+    while new:
+        name = new.pop()
+        if name in crates and name not in found:
+            found.add(name)
+            new += crates[name].uses
+    return {name: crate for name, crate in crates.items() if name in found}

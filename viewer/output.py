@@ -1,19 +1,40 @@
-"""Files that are written whole or not at all."""
+"""Output that is written whole: standard output, the text of --help, and files. Each failure is an OSError."""
 
 from __future__ import annotations
 
+import argparse
+import errno
 import os
 import shutil
 import stat
 import sys
-from typing import Optional
+from typing import IO, Any, Optional, TextIO
+
+
+class Parser(argparse.ArgumentParser):
+    """A parser of a command line that raises OSError if the text of --help can't be written."""
+
+    def print_help(self, file: Optional[IO[Any]] = None) -> None:
+        if file is None:
+            write(None, self.format_help().encode("utf-8"))
+        else:
+            super().print_help(file)
+
+
+def opened(stream: Optional[TextIO], name: str) -> TextIO:
+    """A standard stream. Raises OSError if the caller has closed it: Python then has none."""
+    if stream is None:
+        raise OSError(errno.EBADF, os.strerror(errno.EBADF), name)
+    return stream
 
 
 def write(path: Optional[str], data: bytes) -> None:
     """Writes standard output, or the file in one piece: what was there stays if it can't be written. Raises OSError."""
     if path is None:
-        sys.stdout.buffer.write(data)
-        sys.stdout.buffer.flush()
+        descriptor = opened(sys.stdout, "standard output").fileno()
+        rest = memoryview(data)
+        while rest:  # with no buffer, which Python would write again when it ends
+            rest = rest[os.write(descriptor, rest) :]
         return
     target = os.path.realpath(path)
     if os.path.exists(target) and not stat.S_ISREG(os.stat(target).st_mode):  # such as /dev/stdout

@@ -22,9 +22,9 @@ static int lwp_info(th_host *h, th_caller caller, void *addr, int data)
     else if (length != 4 || memcmp(event, "NONE", 4) != 0)
         return thp_no_reply(h);
     if (thp_take_key(&reply, "flags") != 0 || thp_take_flags(&reply, &thp_stop_flags, &info.pl_flags) != 0 ||
-        thp_take_key(&reply, "mask") != 0 || thp_take_signals(&reply, &info.pl_sigmask) != 0 || thp_take_key(&reply, "pending") != 0 ||
-        thp_take_signals(&reply, &info.pl_siglist) != 0 || thp_take_key(&reply, "child") != 0 ||
-        thp_take_int(&reply, &info.pl_child_pid) != 0 || thp_take_key(&reply, "code") != 0 ||
+        thp_take_key(&reply, "mask") != 0 || thp_take_signals(&reply, &info.pl_sigmask) != 0 ||
+        thp_take_key(&reply, "pending") != 0 || thp_take_signals(&reply, &info.pl_siglist) != 0 ||
+        thp_take_key(&reply, "child") != 0 || thp_take_int(&reply, &info.pl_child_pid) != 0 || thp_take_key(&reply, "code") != 0 ||
         thp_take_number(&reply, &info.pl_syscall_code) != 0 || *reply != '\0')
         return thp_no_reply(h);
     memcpy(addr, &info, (size_t)data);
@@ -54,10 +54,8 @@ static int bad_arguments(int request, const void *addr, int data)
         if (data != (int)sizeof(int))
             return EINVAL;
         return addr == NULL ? EFAULT : 0;
-    case TH_PT_GETLWPLIST:
-        return addr == NULL && data > 0 ? EFAULT : 0;
-    default:
-        return thp_name_of(&thp_requests, request) == NULL ? EINVAL : 0;
+    case TH_PT_GETLWPLIST: return addr == NULL && data > 0 ? EFAULT : 0;
+    default: return thp_name_of(&thp_requests, request) == NULL ? EINVAL : 0;
     }
 }
 
@@ -88,12 +86,9 @@ static int ptrace_step(th_host *h, th_caller caller, int request, th_pid pid, vo
     if (request != TH_PT_TRACE_ME)
         thp_key_word(h, "target", pid);
     switch (request) {
-    case TH_PT_TRACE_ME:
-        return thp_ask_done(h, caller.user);
-    case TH_PT_LWPINFO:
-        return lwp_info(h, caller, addr, data);
-    case TH_PT_GET_EVENT_MASK:
-        return event_mask(h, caller, addr);
+    case TH_PT_TRACE_ME: return thp_ask_done(h, caller.user);
+    case TH_PT_LWPINFO: return lwp_info(h, caller, addr, data);
+    case TH_PT_GET_EVENT_MASK: return event_mask(h, caller, addr);
     case TH_PT_GETNUMLWPS: {
         int32_t count = 0;
         ssize_t numbers = thp_ask_numbers(h, caller.user, "number", &count, 1);
@@ -106,9 +101,7 @@ static int ptrace_step(th_host *h, th_caller caller, int request, th_pid pid, vo
             data = 0;
         thp_key_word(h, "data", data);
         return (int)thp_ask_numbers(h, caller.user, "lwps", addr, (size_t)data);
-    default:
-        thp_key_word(h, "data", data);
-        return thp_ask_done(h, caller.user);
+    default: thp_key_word(h, "data", data); return thp_ask_done(h, caller.user);
     }
 }
 

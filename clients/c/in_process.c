@@ -20,14 +20,14 @@ static uint32_t last_line(th_host *h, size_t *length)
     return code;
 }
 
-/* Makes the step. Where the step was made and memory ran out for its answer, the session is broken. */
+/* Makes the step. If the step was made and memory ran out for its answer, the session is broken. */
 static uint32_t make_step(th_host *h, size_t *length)
 {
     struct thp_text *answer = &h->answer;
     if (thp_room_for(answer, ANSWER) != 0)
         return TRACEHOST_NO_MEMORY;
-    uint32_t code = tracehost_line(h->library, false, (const uint8_t *)h->step.bytes, h->step.length - 1,
-                                   (uint8_t *)answer->bytes, answer->size, length);
+    uint32_t code = tracehost_line(
+        h->library, false, (const uint8_t *)h->step.bytes, h->step.length - 1, (uint8_t *)answer->bytes, answer->size, length);
     if (code == TRACEHOST_NO_TEXT || (code == TRACEHOST_ANSWERED && *length > answer->size)) {
         code = last_line(h, length);
         if (code != TRACEHOST_ANSWERED)
@@ -58,10 +58,7 @@ static void library_reason(th_host *h, char *reason, size_t size)
     reason[0] = '\0';
 }
 
-static void library_stop(th_host *h)
-{
-    (void)h;
-}
+static void library_stop(th_host *h) { (void)h; }
 
 static int library_end(th_host *h)
 {

@@ -63,26 +63,26 @@ struct thp_transport {
 
 struct th_host {
     const struct thp_transport *transport;
-    pthread_mutex_t lock;   /* a call holds it from its step's first byte to its answer's last */
+    pthread_mutex_t lock; /* a call holds it from its step's first byte to its answer's last */
     pthread_cond_t changed; /* a wait blocks, is due, or is over */
     struct thp_wait *waits; /* in the order in which they began to block */
-    unsigned long session;  /* its number in this program, from 1 */
-    int broken;             /* nothing more is exchanged */
-    int socket;             /* -1 once it is closed */
-    int reasons;            /* the program's standard error */
+    unsigned long session; /* its number in this program, from 1 */
+    int broken; /* nothing more is exchanged */
+    int socket; /* -1 once it is closed */
+    int reasons; /* the program's standard error */
     pid_t program;
-    pid_t owner;            /* the process that opened the session */
-    void *library;          /* a session in the process */
-    struct thp_text step;   /* the line that is sent */
+    pid_t owner; /* the process that opened the session */
+    void *library; /* a session in the process */
+    struct thp_text step; /* the line that is sent */
     struct thp_text answer; /* the line that was received, with a NUL in place of its line feed */
-    int kills;              /* the setting of kern.kill_on_debugger_exit */
-    int answered;           /* a line was answered */
-    int scenario, lines;    /* the files of th_record; -1 for none */
-    size_t steps;           /* recorded in them */
-    off_t recorded;         /* bytes of the scenario before the brackets that close it */
-    off_t lines_end;        /* bytes of the lines */
-    int record_error;       /* why a step can't be recorded; 0 while all are */
-    struct thp_text entry;  /* what is added to the scenario */
+    int kills; /* the setting of kern.kill_on_debugger_exit */
+    int answered; /* a line was answered */
+    int scenario, lines; /* the files of th_record; -1 for none */
+    size_t steps; /* recorded in them */
+    off_t recorded; /* bytes of the scenario before the brackets that close it */
+    off_t lines_end; /* bytes of the lines */
+    int record_error; /* why a step can't be recorded; 0 while all are */
+    struct thp_text entry; /* what is added to the scenario */
 };
 
 /* A session that is not connected yet, and its end; NULL with errno. */

@@ -106,15 +106,40 @@ static const struct {
 };
 
 static const char *const SIGNALS[] = {
-    "SIGHUP",  "SIGINT",  "SIGQUIT", "SIGILL",    "SIGTRAP", "SIGABRT",  "SIGEMT",  "SIGFPE",  "SIGKILL", "SIGBUS",  "SIGSEGV",
-    "SIGSYS",  "SIGPIPE", "SIGALRM", "SIGTERM",   "SIGURG",  "SIGSTOP",  "SIGTSTP", "SIGCONT", "SIGCHLD", "SIGTTIN", "SIGTTOU",
-    "SIGIO",   "SIGXCPU", "SIGXFSZ", "SIGVTALRM", "SIGPROF", "SIGWINCH", "SIGINFO", "SIGUSR1", "SIGUSR2",
+    "SIGHUP",
+    "SIGINT",
+    "SIGQUIT",
+    "SIGILL",
+    "SIGTRAP",
+    "SIGABRT",
+    "SIGEMT",
+    "SIGFPE",
+    "SIGKILL",
+    "SIGBUS",
+    "SIGSEGV",
+    "SIGSYS",
+    "SIGPIPE",
+    "SIGALRM",
+    "SIGTERM",
+    "SIGURG",
+    "SIGSTOP",
+    "SIGTSTP",
+    "SIGCONT",
+    "SIGCHLD",
+    "SIGTTIN",
+    "SIGTTOU",
+    "SIGIO",
+    "SIGXCPU",
+    "SIGXFSZ",
+    "SIGVTALRM",
+    "SIGPROF",
+    "SIGWINCH",
+    "SIGINFO",
+    "SIGUSR1",
+    "SIGUSR2",
 };
 
-const char *th_signame(int sig)
-{
-    return sig >= 1 && (size_t)sig <= COUNT(SIGNALS) ? SIGNALS[sig - 1] : NULL;
-}
+const char *th_signame(int sig) { return sig >= 1 && (size_t)sig <= COUNT(SIGNALS) ? SIGNALS[sig - 1] : NULL; }
 
 int th_freebsd_errno(int error)
 {
@@ -142,7 +167,7 @@ const char *th_strerror(int error)
     }
 }
 
-/* Appends to a text of which `size` bytes are kept, the last one a NUL. */
+/* Appends to a text; `size` bytes of it are kept, the last one a NUL. */
 static void append(char *text, size_t size, size_t *length, const char *more)
 {
     size_t added = strlen(more);
@@ -176,15 +201,9 @@ static int join_names(const struct thp_table *table, int flags, char *text, size
     return (int)length;
 }
 
-int th_flagnames(int flags, char *text, size_t size)
-{
-    return join_names(&thp_stop_flags, flags, text, size);
-}
+int th_flagnames(int flags, char *text, size_t size) { return join_names(&thp_stop_flags, flags, text, size); }
 
-int th_eventnames(int mask, char *text, size_t size)
-{
-    return join_names(&thp_events, mask, text, size);
-}
+int th_eventnames(int mask, char *text, size_t size) { return join_names(&thp_events, mask, text, size); }
 
 const char *thp_name_of(const struct thp_table *table, int value)
 {

@@ -178,10 +178,7 @@ static int receive_line(th_host *h)
     }
 }
 
-static int pipe_exchange(th_host *h)
-{
-    return send_all(h, h->step.bytes, h->step.length) == 0 ? receive_line(h) : -1;
-}
+static int pipe_exchange(th_host *h) { return send_all(h, h->step.bytes, h->step.length) == 0 ? receive_line(h) : -1; }
 
 /* The program has written the reason before its answer. */
 static void pipe_reason(th_host *h, char *reason, size_t size)

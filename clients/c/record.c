@@ -59,10 +59,7 @@ static int add_entry(th_host *h, const char *between, const char *bytes, size_t 
     return 0;
 }
 
-static int open_new(const char *path)
-{
-    return open(path, O_WRONLY | O_CREAT | O_TRUNC | O_CLOEXEC, 0666);
-}
+static int open_new(const char *path) { return open(path, O_WRONLY | O_CREAT | O_TRUNC | O_CLOEXEC, 0666); }
 
 static int open_record(th_host *h, const char *scenario, const char *lines)
 {
@@ -93,8 +90,7 @@ int th_record(th_host *h, const char *scenario, const char *lines)
 /* a step that ran out of memory isn't part of a scenario, and a forked child's steps aren't the parent's */
 static int is_recorded(const th_host *h)
 {
-    return h->scenario >= 0 && !thp_refused(h) && strstr(h->answer.bytes, " error ENOMEM ") == NULL &&
-           !thp_is_inherited(h);
+    return h->scenario >= 0 && !thp_refused(h) && strstr(h->answer.bytes, " error ENOMEM ") == NULL && !thp_is_inherited(h);
 }
 
 static int add_line(th_host *h)
@@ -134,10 +130,7 @@ int thp_record(th_host *h)
     return 0;
 }
 
-int th_record_error(const th_host *h)
-{
-    return h->record_error;
-}
+int th_record_error(const th_host *h) { return h->record_error; }
 
 void thp_close_record(th_host *h)
 {

@@ -13,20 +13,14 @@ static _Thread_local
 #else
 static __thread
 #endif
-struct {
+    struct {
     unsigned long session;
     char fault[32], reason[1024];
 } refusal;
 
-const char *th_fault(const th_host *h)
-{
-    return refusal.session == h->session ? refusal.fault : "";
-}
+const char *th_fault(const th_host *h) { return refusal.session == h->session ? refusal.fault : ""; }
 
-const char *th_reason(const th_host *h)
-{
-    return refusal.session == h->session ? refusal.reason : "";
-}
+const char *th_reason(const th_host *h) { return refusal.session == h->session ? refusal.reason : ""; }
 
 /* ---------------------------------------------------------------- bytes that grow */
 
@@ -85,15 +79,9 @@ th_host *thp_new(const struct thp_transport *transport, const struct th_settings
     return NULL;
 }
 
-int thp_is_inherited(const th_host *h)
-{
-    return getpid() != h->owner;
-}
+int thp_is_inherited(const th_host *h) { return getpid() != h->owner; }
 
-int thp_is_foreign(const th_host *h)
-{
-    return h->transport->is_shared && thp_is_inherited(h);
-}
+int thp_is_foreign(const th_host *h) { return h->transport->is_shared && thp_is_inherited(h); }
 
 void thp_free(th_host *h)
 {
@@ -144,10 +132,7 @@ static void note_reason(th_host *h)
     strcpy(refusal.reason, bytes + strspn(bytes, " "));
 }
 
-int thp_refused(const th_host *h)
-{
-    return strncmp(h->answer.bytes, "refused ", 8) == 0;
-}
+int thp_refused(const th_host *h) { return strncmp(h->answer.bytes, "refused ", 8) == 0; }
 
 static void note_refusal(th_host *h)
 {

@@ -9,10 +9,7 @@
 
 /* ---------------------------------------------------------------- writing a step: only names and numbers, nothing to escape */
 
-void thp_add_text(struct thp_text *text, const char *more)
-{
-    thp_add_bytes(text, more, strlen(more));
-}
+void thp_add_text(struct thp_text *text, const char *more) { thp_add_bytes(text, more, strlen(more)); }
 
 void thp_add_number(struct thp_text *text, int64_t number)
 {
@@ -34,10 +31,7 @@ void thp_key_number(th_host *h, const char *key, int64_t number)
     thp_add_number(&h->step, number);
 }
 
-void thp_key_word(th_host *h, const char *key, int number)
-{
-    thp_key_number(h, key, (int64_t)(uint32_t)number);
-}
+void thp_key_word(th_host *h, const char *key, int number) { thp_key_number(h, key, (int64_t)(uint32_t)number); }
 
 void thp_key_name(th_host *h, const char *key, const char *name)
 {
@@ -234,4 +228,3 @@ ssize_t thp_ask_numbers(th_host *h, unsigned user, const char *kind, int32_t *nu
     }
     return (ssize_t)count;
 }
-

@@ -24,7 +24,7 @@
  *   - TH_EFORKED: the process is a child of the one that opened the session over a pipe, which is the parent's.
  *   - EPIPE: the program has ended, or broke off its answer. No SIGPIPE is raised: the program's standard input and output
  *     are a socket, which is written by send(2) with MSG_NOSIGNAL.
- *   - EPROTO: the program's line isn't one that docs/LINES.md describes; the next call answers EPIPE.
+ *   - EPROTO: the program's line isn't one that docs/FORMAT.md describes; the next call answers EPIPE.
  *   - ETIMEDOUT: a wait was blocked for longer than its timeout.
  *
  * th_strerror has words for all of these; perror(3) and strerror(3) have wrong ones for those that begin with TH_.
@@ -54,7 +54,7 @@ extern "C" {
 typedef int32_t th_pid;
 typedef int32_t th_lwpid;
 typedef uint32_t th_sigset; /* signal n has bit n - 1 */
-#define TH_SIGMASK(sig) ((th_sigset)1 << ((sig) - 1))
+#define TH_SIGMASK(sig) ((th_sigset)1 << ((sig)-1))
 
 /* requests of ptrace(2) */
 /* tools/format requests */
@@ -119,7 +119,7 @@ struct th_lwpinfo {
 #define TH_WNOHANG 1
 #define TH_WUNTRACED 2
 #define TH_WCONTINUED 4
-#define TH_WSTATUS_(status) ((status) & 0177)
+#define TH_WSTATUS_(status) ((status)&0177)
 #define TH_WIFSTOPPED(status) (TH_WSTATUS_(status) == 0177)
 #define TH_WSTOPSIG(status) ((status) >> 8)
 #define TH_WIFCONTINUED(status) ((status) == 0x13)
@@ -184,7 +184,7 @@ int th_eventnames(int mask, char *text, size_t size);
 /* FreeBSD's number of a host system's errno that a call has set; 0 for one that isn't the model's */
 int th_freebsd_errno(int error);
 
-/* own errno values, none of which the model answers */
+/* own errno values; the model answers none of them */
 #define TH_EHELD EINPROGRESS
 #define TH_EREFUSED EBADMSG
 #define TH_ERECORD ENOTRECOVERABLE
@@ -215,7 +215,7 @@ th_host *th_open(const struct th_settings *settings);
 
 /*
  * Ends the session, frees it, and returns the program's status as waitpid(2) of the host system gives it. For NULL it does nothing.
- * What the program has written on standard error by then, but for reasons, is written there. 0 after th_open.
+ * What the program has written on standard error by then, except reasons, is written there. 0 after th_open.
  */
 int th_close(th_host *h);
 
@@ -270,7 +270,7 @@ int th_ptrace(th_host *h, th_caller caller, int request, th_pid pid, void *addr,
 th_pid th_wait4(th_host *h, th_caller caller, th_pid wpid, int *status, int options);
 
 /*
- * wait4(2) that blocks, for a session of several threads. Where there is nothing to collect, and without TH_WNOHANG, it sleeps
+ * wait4(2) that blocks, for a session of several threads. If there is nothing to collect, and without TH_WNOHANG, it sleeps
  * until a step of another thread was answered, and is then asked again before any other step is made. A step that is refused,
  * held, or answered by an errno or by nothing doesn't count: it changes nothing. Blocked waits are asked in the order in
  * which they began to block. After `timeout` milliseconds it returns -1 with ETIMEDOUT; -1 is no timeout.
@@ -339,11 +339,11 @@ enum th_call { TH_CALL_EXIT, TH_CALL_FORK, TH_CALL_VFORK, TH_CALL_EXEC, TH_CALL_
 enum th_outcome { TH_DONE, TH_NEW, TH_STOPPED, TH_CAUGHT, TH_ENDED };
 struct th_turned {
     enum th_outcome what;
-    th_pid pid;   /* TH_NEW: the new process, or the LWP's own if an LWP was made */
+    th_pid pid; /* TH_NEW: the new process, or the LWP's own if an LWP was made */
     th_lwpid lwp; /* TH_NEW: the new LWP; TH_STOPPED: the LWP that stopped */
-    int signal;   /* TH_STOPPED, TH_CAUGHT */
-    int flags;    /* TH_STOPPED */
-    int status;   /* TH_ENDED */
+    int signal; /* TH_STOPPED, TH_CAUGHT */
+    int flags; /* TH_STOPPED */
+    int status; /* TH_ENDED */
 };
 
 /*

@@ -30,7 +30,8 @@ def answer_of(tool: str) -> str | None:
 def version() -> str:
     found = answer_of("version")
     if found is None:  # a source distribution
-        found = re.search("^Version: (.+)$", (HERE / "PKG-INFO").read_text(encoding="utf-8"), re.M).group(1)
+        lines = (HERE / "PKG-INFO").read_text(encoding="utf-8").splitlines()
+        found = next(line for line in lines if line.startswith("Version: ")).partition(" ")[2]
     return found
 
 

@@ -1,5 +1,5 @@
-//! Finds `libtracehost.a`: in the folder $TRACEHOST_LIB_DIR, else in the release of the checkout that this crate is part
-//! of, else by pkg-config.
+//! Finds `libtracehost.a`: in the folder $TRACEHOST_LIB_DIR, else that of the present sources in the checkout that this crate
+//! is part of, else by pkg-config.
 
 use std::env;
 use std::path::{Path, PathBuf};
@@ -8,14 +8,24 @@ use std::process::{self, Command};
 const ARCHIVE: &str = "libtracehost.a";
 
 fn named() -> Option<PathBuf> {
-    env::var_os("TRACEHOST_LIB_DIR").map(PathBuf::from)
+    env::var_os("TRACEHOST_LIB_DIR")
+        .filter(|name| !name.is_empty())
+        .map(PathBuf::from)
 }
 
-fn in_checkout() -> Option<PathBuf> {
+/// What `tools/library` of the checkout prints: a folder, or why it has no library of its present sources.
+fn in_checkout() -> Option<Result<PathBuf, String>> {
     let top = Path::new(&env::var_os("CARGO_MANIFEST_DIR")?).join("../..");
-    let machine = env::var("CARGO_CFG_TARGET_ARCH").ok()? + "-" + &env::var("CARGO_CFG_TARGET_OS").ok()?;
-    let folder = top.join("release").join(machine);
-    folder.join(ARCHIVE).exists().then_some(folder)
+    let output = Command::new(top.join("tools/library")).output().ok()?;
+    for part in ["crates", "library", "release"] {
+        println!("cargo:rerun-if-changed={}", top.join(part).display());
+    }
+    let text = |bytes: Vec<u8>| String::from_utf8_lossy(&bytes).trim().to_owned();
+    Some(if output.status.success() {
+        Ok(text(output.stdout).into())
+    } else {
+        Err(text(output.stderr))
+    })
 }
 
 fn installed() -> Option<PathBuf> {
@@ -25,14 +35,22 @@ fn installed() -> Option<PathBuf> {
     (found.status.success() && folder.join(ARCHIVE).exists()).then_some(folder)
 }
 
+fn fail(reason: &str) -> ! {
+    eprintln!("{reason}");
+    process::exit(1)
+}
+
 fn main() {
     println!("cargo:rerun-if-changed=build.rs");
     for name in ["TRACEHOST_LIB_DIR", "PKG_CONFIG_PATH", "PKG_CONFIG_LIBDIR"] {
         println!("cargo:rerun-if-env-changed={name}");
     }
-    let Some(folder) = named().or_else(in_checkout).or_else(installed) else {
-        eprintln!("tracehost: there is no {ARCHIVE}: install tracehost, or name its folder in TRACEHOST_LIB_DIR");
-        process::exit(1);
+    let folder = match named().map(Ok).or_else(in_checkout).or_else(|| installed().map(Ok)) {
+        Some(Ok(folder)) => folder,
+        Some(Err(reason)) => fail(&reason),
+        None => {
+            fail("tracehost: there is no libtracehost.a: install tracehost, or name its folder in TRACEHOST_LIB_DIR")
+        }
     };
     println!("cargo:rerun-if-changed={}", folder.join(ARCHIVE).display());
     println!("cargo:rustc-link-search=native={}", folder.display());

@@ -14,7 +14,7 @@ static bool is_no_memory(const struct text *reply)
     return reply->length >= sizeof words - 1 && memcmp(reply->bytes, words, sizeof words - 1) == 0;
 }
 
-/* The state but for the number of the user's last step, which counts the steps that were answered ENOMEM too. */
+/* The state, without the number of the user's last step, which counts the steps that were answered ENOMEM too. */
 static bool is_same_state(struct text *one, struct text *other)
 {
     one->bytes[one->length] = other->bytes[other->length] = 0;
@@ -223,7 +223,7 @@ static unsigned long copies(tracehost *h)
     return refusals;
 }
 
-/* A copy of a session with two stop handlers, the second of which decides. */
+/* A copy of a session with two stop handlers; the second one decides. */
 static void handlers(void)
 {
     static const tracehost_rule rules[3] = {

@@ -1,4 +1,4 @@
-/* The fields of a view's rows, each with the values that docs/FORMAT.md and docs/MACHINE.md give the steps before. */
+/* The fields of a view's rows, each with the values that docs/FORMAT.md and docs/internals/MACHINE.md give the steps before. */
 #include "check.h"
 
 enum { DEBUGGER = 1000, FIRST = 100000, RUNS = 0, TRACE_STOP = 1, JOB_STOP = 2, ZOMBIE = 3 };

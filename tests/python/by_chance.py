@@ -14,9 +14,7 @@ REQUESTS = (
     "PT_GETNUMLWPS PT_GETLWPLIST"
 ).split()
 # how often each op comes
-WEIGHTS = {
-    "spawn": 4, "ptrace": 24, "wait4": 14, "kill": 4, "sigaction": 4, "list": 2, "install": 3, "handle": 12, "turn": 40
-}
+WEIGHTS = {"spawn": 4, "ptrace": 24, "wait4": 14, "kill": 4, "sigaction": 4, "list": 2, "install": 3, "handle": 12, "turn": 40}
 
 
 def some(chance: random.Random, names: list[str]) -> list[str]:

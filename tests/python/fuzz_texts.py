@@ -20,7 +20,7 @@ KEYS = (
 )  # fmt: skip
 BYTES = (b'\xff', b'\xc0\x80', b'\xed\xa0\x80', b'\xef\xbb\xbf', b'\x00', b'\x0c', b'\xc2\xa0', b'"', b'\\', b'{', b']',
          b',', b':', b'\r\n', b'\t', b'\xf0\x9f\x98\x80', b'\xf4\x90\x80\x80', b'\x7f', b'\x1f', b'-', b'e')  # fmt: skip
-MARK = 'a value by chance'
+MARK = "a value by chance"
 
 
 def objects(value: Any) -> list[dict[str, Any]]:
@@ -44,13 +44,13 @@ def arrays(value: Any) -> list[list[Any]]:
 def raw_value(chance: random.Random) -> str:
     if chance.random() < 0.1:
         depth = chance.choice((1, 3, 120, 121, 122, 123, 124, 125, 126, 127, 128, 129, 500))
-        opening, closing = chance.choice((('[', ']'), ('{"a":', '}')))
-        return opening * depth + chance.choice(('1', '', '"]"', '{}')) + closing * depth
+        opening, closing = chance.choice((("[", "]"), ('{"a":', "}")))
+        return opening * depth + chance.choice(("1", "", '"]"', "{}")) + closing * depth
     return chance.choice(RAW)
 
 
 def change_value(chance: random.Random, value: Any) -> None:
-    """Changes one object or array somewhere in the value; MARK stands for a text put there later."""
+    """Changes one object or array somewhere in the value; MARK is replaced by a text later."""
     if chance.random() < 0.15 and (found := arrays(value)):
         array = chance.choice(found)
         array.insert(chance.randint(0, len(array)), MARK)
@@ -88,11 +88,11 @@ def hostile(chance: random.Random, value: Any) -> bytes:
     value = copy.deepcopy(value)
     for _ in range(chance.choice((0, 1, 1, 1, 2, 3))):
         change_value(chance, value)
-    text = json.dumps(value, separators=chance.choice(((',', ':'), (', ', ' : '))))
+    text = json.dumps(value, separators=chance.choice(((",", ":"), (", ", " : "))))
     while (mark := f'"{MARK}"') in text:
         text = text.replace(mark, raw_value(chance), 1)
     if chance.random() < 0.1:
-        text = text.replace('{', '{"%s":%s,' % (chance.choice(KEYS), raw_value(chance)), 1)
+        text = text.replace("{", '{"%s":%s,' % (chance.choice(KEYS), raw_value(chance)), 1)
     data = text.encode()
     for _ in range(chance.choice((0, 0, 0, 0, 1, 2))):
         data = change_bytes(chance, data)

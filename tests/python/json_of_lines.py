@@ -1,4 +1,4 @@
-"""Plain lines as lines of JSON, by the tables of docs/FORMAT.md and docs/JSON.md."""
+"""Plain lines as lines of JSON, by the tables of docs/FORMAT.md."""
 
 import json
 from collections.abc import Callable, Sequence
@@ -59,7 +59,7 @@ def numbers(words: Sequence[str]) -> list[int]:
 def handled(words: Sequence[str]) -> Members:
     by = words.index("by")
     pid, word, _, tid, *view = words[:by]
-    index, decision, *passed = words[by + 1:]
+    index, decision, *passed = words[by + 1 :]
     members: Members = {"pid": int(pid)} | status(word) | {"at": {"lwp": int(tid)} | named(view)}
     members |= {"by": None if index == "none" else int(index), "decision": decision}
     if passed:

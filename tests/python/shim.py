@@ -1,14 +1,16 @@
 """Runs of programs with shim.c loaded before them, which lets their calls fail."""
 
-import collections
+from __future__ import annotations
+
 import concurrent.futures
 import dataclasses
 import os
 import subprocess
 import tempfile
 from collections.abc import Iterable, Mapping
+from pathlib import Path
 
-from counting import Counts
+from checking import TOP, Checks
 
 SECONDS = 30
 
@@ -25,21 +27,21 @@ class End:
     err: bytes
 
 
-def fault(line: str, out: bytes = b'', status: int = 3) -> End:
-    return End(status, out, line.encode() + b'\n')
+def fault(line: str, out: bytes = b"", status: int = 3) -> End:
+    return End(status, out, line.encode() + b"\n")
 
 
 def whole(text: bytes) -> End:
-    return End(0, text, b'')
+    return End(0, text, b"")
 
 
-MEMORY = fault('tracehost: out of memory')
-REFUSED_STEP = b'error ENOMEM 12\n'
+MEMORY = fault("tracehost: out of memory")
+REFUSED_STEP = b"error ENOMEM 12\n"
 
 
 @dataclasses.dataclass(frozen=True)
 class Run:
-    """A command, what stands on its standard input, the words that the shim reads, and the ends that it may come to."""
+    """A command, its standard input, the words that the shim reads, and the ends that it may come to."""
 
     command: Command
     given: bytes
@@ -47,7 +49,7 @@ class Run:
     ends: Ends
 
     def __str__(self) -> str:
-        shim = ' '.join(f'{name}={value}' for name, value in self.shim.items())
+        shim = " ".join(f"{name}={value}" for name, value in self.shim.items())
         return f'{shim} {" ".join(self.command)}'
 
 
@@ -66,14 +68,17 @@ class ShimCounts:
 class Shim:
     """Runs commands with the shim before them."""
 
-    def __init__(self, library: str) -> None:
-        self.library = library
+    def __init__(self, folder: Path) -> None:
+        """Builds the shim in this folder."""
+        self.library = str(folder / "shim.so")
+        flags = ["-std=c11", "-O2", "-Wall", "-Wextra", "-Werror", "-shared", "-fPIC"]
+        subprocess.run(["cc", *flags, "-o", self.library, TOP / "tests/python/shim.c"], check=True)
 
     def end_of(self, run: Run) -> tuple[End, ShimCounts | None]:
         """How the run ended, and what the shim counted; no counts if the program didn't come to its end."""
         with tempfile.NamedTemporaryFile() as report:
-            shim = {'LD_PRELOAD': self.library, 'SHIM_REPORT': report.name}
-            shim.update((f'SHIM_{name}', str(value)) for name, value in run.shim.items())
+            shim = {"LD_PRELOAD": self.library, "SHIM_REPORT": report.name}
+            shim.update((f"SHIM_{name}", str(value)) for name, value in run.shim.items())
             ran = subprocess.run(run.command, input=run.given, capture_output=True, timeout=SECONDS, env=shim)
             counted = report.read().split()
         counts = ShimCounts(*map(int, counted)) if counted else None
@@ -82,35 +87,29 @@ class Shim:
     def counts_of(self, run: Run) -> ShimCounts:
         """What the shim counted in a run that comes to its end."""
         _, counts = self.end_of(run)
-        assert counts, f'{run} did not come to its end'
+        assert counts, f"{run} did not come to its end"
         return counts
 
 
-def judged(shim: Shim, kind: str, run: Run) -> tuple[str, int, str]:
-    """The kind of the run's failures, how many there were, and what is wrong with the run: an end that it may not come
-    to, or more refused steps than failures."""
+def judged(shim: Shim, run: Run) -> tuple[int, str]:
+    """How many failures the run had, and what is wrong with it: an end that it may not come to, or more refused steps than
+    failures."""
     try:
         end, counts = shim.end_of(run)
     except subprocess.TimeoutExpired:
-        return kind, 0, f'{run}: not ended after {SECONDS} s'
-    told = f'{run}: status {end.status}, {end.err!r}, {len(end.out)} bytes, the last {end.out[-60:]!r}'
+        return 0, f"{run}: not ended after {SECONDS} s"
+    told = f"{run}: status {end.status}, {end.err!r}, {len(end.out)} bytes, the last {end.out[-60:]!r}"
     failures = counts.failures if counts else 0
     is_right = end in run.ends and end.out.count(REFUSED_STEP) <= failures
-    return kind, failures, '' if is_right else told
+    return failures, "" if is_right else told
 
 
-def check_all(counts: Counts, shim: Shim, runs: Iterable[tuple[str, Run]]) -> int:
-    """Makes the runs side by side, checks each, and that there were failures of each kind."""
-    made: collections.Counter[str] = collections.Counter()
-    failures: collections.Counter[str] = collections.Counter()
+def check_all(checks: Checks, shim: Shim, runs: Iterable[Run]) -> None:
+    """Makes the runs side by side, checks each, and that there were failures."""
+    failures = 0
     with concurrent.futures.ThreadPoolExecutor(os.cpu_count()) as pool:
-        waiting = [pool.submit(judged, shim, kind, run) for kind, run in runs]
-        for ended in waiting:
-            kind, failed, complaint = ended.result()
-            made[kind] += 1
-            failures[kind] += failed
-            counts.check(not complaint, complaint)
-    for kind in made:
-        print(f'{kind}: {made[kind]} runs, {failures[kind]} failed')
-        counts.check(failures[kind] > 0, f'no failure of {kind}')
-    return made.total()
+        for failed, complaint in pool.map(lambda run: judged(shim, run), runs):
+            failures += failed
+            checks.check(not complaint, complaint)
+    print(f"{checks.made} runs, {failures} failures")
+    checks.check(failures > 0, "no call failed")

@@ -4,9 +4,11 @@ No row of these sessions ends, so the numbers of a user's processes and LWPs ris
 refused for is answered ENOMEM, and changes nothing.
 """
 
+from __future__ import annotations
+
 import dataclasses
 import json
-from collections.abc import Iterator
+from collections.abc import Callable
 from functools import cache, cached_property
 from typing import Any
 
@@ -14,8 +16,8 @@ from shim import End
 
 Step = dict[str, Any]
 PROCESSES, LWPS, HANDLERS, USERS = 250, 1000, 64, range(1001, 1065)
-REFUSED = 'error ENOMEM 12'
-MAY_BE_REFUSED = ('spawn', 'list', 'install', 'PT_GETLWPLIST', 'leave')
+REFUSED = "error ENOMEM 12"
+MAY_BE_REFUSED = ("spawn", "list", "install", "PT_GETLWPLIST", "leave")
 
 
 class Rows:
@@ -27,50 +29,50 @@ class Rows:
         self.is_in_call = False
 
     def answer(self, step: Step) -> str:
-        kind = step.get('request') or step.get('act') or step['op']
-        if kind == 'spawn':
+        kind = step.get("request") or step.get("act") or step["op"]
+        if kind == "spawn":
             return self.spawned()
-        if self.processes == 0 or step.get('lwp', self.first_tid) >= self.first_tid + self.lwps:
-            return 'error ESRCH 3'
-        if kind == 'enter':
+        if self.processes == 0 or step.get("lwp", self.first_tid) >= self.first_tid + self.lwps:
+            return "error ESRCH 3"
+        if kind == "enter":
             was_in_call, self.is_in_call = self.is_in_call, True
-            return 'error EINVAL 22' if was_in_call else 'ok'
-        if kind == 'leave':
-            return self.left(step['lwp'] - self.first_tid)
-        if kind == 'install':
+            return "error EINVAL 22" if was_in_call else "ok"
+        if kind == "leave":
+            return self.left(step["lwp"] - self.first_tid)
+        if kind == "install":
             self.handlers += 1
-            return 'ok' if self.handlers <= HANDLERS else 'error EAGAIN 35'
-        if kind == 'list':
-            return numbers('pids', self.first_pid, self.processes)
-        if kind == 'PT_GETLWPLIST':  # of the second process, which has all LWPs but the first
-            return numbers('lwps', self.first_tid + 1, min(step['data'], self.lwps - 1))
+            return "ok" if self.handlers <= HANDLERS else "error EAGAIN 35"
+        if kind == "list":
+            return numbers("pids", self.first_pid, self.processes)
+        if kind == "PT_GETLWPLIST":  # of the second process, which has all LWPs but the first
+            return numbers("lwps", self.first_tid + 1, min(step["data"], self.lwps - 1))
         if self.processes == 1:  # the second process, which the other steps name, was refused
-            return 'error ECHILD 10' if kind == 'wait4' else 'error ESRCH 3'
-        return str(step['answer'])
+            return "error ECHILD 10" if kind == "wait4" else "error ESRCH 3"
+        return str(step["answer"])
 
     def spawned(self) -> str:
         if self.processes == PROCESSES or self.lwps == LWPS:
-            return 'error EAGAIN 35'
+            return "error EAGAIN 35"
         self.processes += 1
         self.lwps += 1
         return self.newest(self.processes - 1)
 
     def left(self, process: int) -> str:
         if not self.is_in_call:
-            return 'error EINVAL 22'
+            return "error EINVAL 22"
         if self.lwps == LWPS:
-            return 'error EAGAIN 35'
+            return "error EAGAIN 35"
         self.is_in_call = False
         self.lwps += 1
         return self.newest(process)
 
     def newest(self, process: int) -> str:
-        return f'new {self.first_pid + process} {self.first_tid + self.lwps - 1}'
+        return f"new {self.first_pid + process} {self.first_tid + self.lwps - 1}"
 
 
 @cache
 def numbers(word: str, first: int, count: int) -> str:
-    return ' '.join([word, *map(str, range(first, first + count))])
+    return " ".join([word, *map(str, range(first, first + count))])
 
 
 @dataclasses.dataclass(frozen=True)
@@ -78,7 +80,6 @@ class Sized:
     """A session by its steps. Of its allocations those of fewer bytes than `least` are ignored, and those of its
     first steps, which only prepare the others."""
 
-    sizes: str
     steps: tuple[Step, ...]
     least: int = 0
     preparing: int = 0
@@ -89,11 +90,11 @@ class Sized:
 
     def lines_of(self, count: int) -> bytes:
         """The first lines."""
-        return b''.join(json.dumps(sent(step)).encode() + b'\n' for step in self.steps[:count])
+        return b"".join(json.dumps(sent(step)).encode() + b"\n" for step in self.steps[:count])
 
     @property
     def scenario(self) -> bytes:
-        return json.dumps({'steps': [sent(step) for step in self.steps]}).encode()
+        return json.dumps({"steps": [sent(step) for step in self.steps]}).encode()
 
     def text(self, refused: frozenset[int] = frozenset()) -> bytes:
         """The answers, if memory was refused for these steps."""
@@ -101,15 +102,15 @@ class Sized:
         made = dict.fromkeys(USERS, 0)
         lines = []
         for place, step in enumerate(self.steps):
-            user = step['user']
+            user = step["user"]
             made[user] += 1
             answer = REFUSED if place in refused else rows[user].answer(step)
-            lines.append(f'{user} {made[user]} {answer}\n')
-        return ''.join(lines).encode()
+            lines.append(f"{user} {made[user]} {answer}\n")
+        return "".join(lines).encode()
 
 
 def sent(step: Step) -> Step:
-    return {key: value for key, value in step.items() if key != 'answer'}
+    return {key: value for key, value in step.items() if key != "answer"}
 
 
 class Counted:
@@ -123,7 +124,7 @@ class Counted:
         if not isinstance(end, End):
             return NotImplemented
         lines = end.out.splitlines()
-        is_whole = (end.status, end.err, len(lines)) == (0, b'', len(self.session.steps))
+        is_whole = (end.status, end.err, len(lines)) == (0, b"", len(self.session.steps))
         if not is_whole and (end.status, end.err) != (self.memory.status, self.memory.err):
             return False
         refused = frozenset(place for place, line in enumerate(lines) if line.endswith(REFUSED.encode()))
@@ -132,23 +133,23 @@ class Counted:
 
 
 def may_be_refused(step: Step) -> bool:
-    return (step.get('request') or step.get('act') or step['op']) in MAY_BE_REFUSED
+    return (step.get("request") or step.get("act") or step["op"]) in MAY_BE_REFUSED
 
 
 # ---- the sessions
 
 
 def spawn(user: int) -> Step:
-    return {'user': user, 'op': 'spawn'}
+    return {"user": user, "op": "spawn"}
 
 
 def new_lwp(user: int, lwp: int) -> tuple[Step, Step]:
-    turn = {'user': user, 'op': 'turn', 'lwp': lwp}
-    return {**turn, 'act': 'enter', 'call': 'thr_new'}, {**turn, 'act': 'leave'}
+    turn = {"user": user, "op": "turn", "lwp": lwp}
+    return {**turn, "act": "enter", "call": "thr_new"}, {**turn, "act": "leave"}
 
 
 def of_first(op: str, **keys: Any) -> Step:
-    return {'user': 1001, 'op': op, 'caller': 1000, **keys}
+    return {"user": 1001, "op": op, "caller": 1000, **keys}
 
 
 def traced(lwps: int) -> tuple[Step, ...]:
@@ -158,21 +159,16 @@ def traced(lwps: int) -> tuple[Step, ...]:
         spawn(1001),
         spawn(1001),
         *made,
-        of_first('ptrace', request='PT_ATTACH', target=1001, answer='ok'),
-        {'user': 1001, 'op': 'turn', 'lwp': 100001, 'act': 'compute', 'answer': 'held'},
-        of_first('wait4', which=1001, answer='status 1001 4479'),
+        of_first("ptrace", request="PT_ATTACH", target=1001, answer="ok"),
+        {"user": 1001, "op": "turn", "lwp": 100001, "act": "compute", "answer": "held"},
+        of_first("wait4", which=1001, answer="status 1001 4479"),
     )
 
 
-def lwp_lists(lwps: int, lengths: list[int], refuses: bool) -> Sized:
-    before = traced(lwps)
-    lists = tuple(of_first('ptrace', request='PT_GETLWPLIST', target=1001, data=length) for length in lengths)
-    kept = len(before) if refuses else 0
-    return Sized(f'PT_GETLWPLIST of {spans(lengths)} LWPs', (*before, *lists), preparing=kept)
-
-
-def spans(lengths: list[int]) -> str:
-    return f'1 to {lengths[-1]}' if len(lengths) == lengths[-1] else ', '.join(map(str, lengths))
+def lwp_lists(lengths: list[int], refuses: bool) -> Sized:
+    before = traced(LWPS - 1)
+    lists = tuple(of_first("ptrace", request="PT_GETLWPLIST", target=1001, data=length) for length in lengths)
+    return Sized((*before, *lists), preparing=len(before) if refuses else 0)
 
 
 def around_powers(most: int) -> list[int]:
@@ -193,20 +189,28 @@ def with_all_lwps() -> tuple[Step, ...]:
     return (*in_tables(), *(step for turn in turns for step in turn))
 
 
-def refused_sessions() -> Iterator[Sized]:
-    """Sessions in which each allocation is refused in turn."""
-    lists = (step for _ in range(PROCESSES) for step in (spawn(1001), of_first('list')))
-    yield Sized(f'tables and lists of 1 to {PROCESSES} processes', tuple(lists))
-    rules = [{'decision': 'leave'}]
-    handlers = (of_first('install', rules=rules * (count % 17)) for count in range(HANDLERS + 1))
-    yield Sized(f'1 to {HANDLERS} handlers', (spawn(1001), *handlers))
-    yield lwp_lists(LWPS - 1, around_powers(LWPS - 1), refuses=True)
-    yield Sized(f'tables of 1 to {LWPS} LWPs', traced(LWPS - 1), least=1024)
-    yield Sized(f'tables of 1 to {PROCESSES * len(USERS)} processes', in_tables(), least=16384)
-    yield Sized(f'tables of {PROCESSES * len(USERS)} to {LWPS * len(USERS)} LWPs', with_all_lwps(), least=1 << 20)
+def tables_and_lists() -> Sized:
+    lists = (step for _ in range(PROCESSES) for step in (spawn(1001), of_first("list")))
+    return Sized(tuple(lists))
 
 
-def whole_sessions() -> Iterator[Sized]:
-    """Sessions in which nothing is refused."""
-    yield from refused_sessions()
-    yield lwp_lists(LWPS - 1, list(range(1, LWPS)), refuses=False)
+def handlers() -> Sized:
+    rules = [{"decision": "leave"}]
+    installs = (of_first("install", rules=rules * (count % 17)) for count in range(HANDLERS + 1))
+    return Sized((spawn(1001), *installs))
+
+
+# sessions in which each allocation is refused in turn, by what grows in them
+REFUSED_SESSIONS: dict[str, Callable[[], Sized]] = {
+    f"tables and lists of 1 to {PROCESSES} processes": tables_and_lists,
+    f"1 to {HANDLERS} handlers": handlers,
+    f"PT_GETLWPLIST around each power of two up to {LWPS - 1} LWPs": lambda: lwp_lists(around_powers(LWPS - 1), refuses=True),
+    f"tables of 1 to {LWPS} LWPs": lambda: Sized(traced(LWPS - 1), least=1024),
+    f"tables of 1 to {PROCESSES * len(USERS)} processes": lambda: Sized(in_tables(), least=16384),
+    f"tables of {PROCESSES * len(USERS)} to {LWPS * len(USERS)} LWPs": lambda: Sized(with_all_lwps(), least=1 << 20),
+}
+# sessions in which nothing is refused
+WHOLE_SESSIONS: dict[str, Callable[[], Sized]] = {
+    **REFUSED_SESSIONS,
+    f"PT_GETLWPLIST of 1 to {LWPS - 1} LWPs": lambda: lwp_lists(list(range(1, LWPS)), refuses=False),
+}

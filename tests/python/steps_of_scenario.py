@@ -1,4 +1,4 @@
-"""The steps of a scenario in the form of `asked` in a trace, read from the scenario by docs/FORMAT.md and docs/JSON.md.
+"""The steps of a scenario in the form of `asked` in a trace, read from the scenario by docs/FORMAT.md.
 
 The keys are in the order of the tables. A key whose value is that of a missing key is left out, and WNOHANG too.
 """
@@ -10,13 +10,18 @@ Object = dict[str, Any]
 
 OPTIONS = ["WUNTRACED", "WCONTINUED"]
 EVENTS = ["PTRACE_EXEC", "PTRACE_SCE", "PTRACE_SCX", "PTRACE_FORK", "PTRACE_LWP", "PTRACE_VFORK"]
-FLAGS = [f"PL_FLAG_{name}" for name in
-         ("SCE", "SCX", "EXEC", "FORKED", "CHILD", "BORN", "EXITED", "VFORKED", "VFORK_DONE")]
+FLAGS = [f"PL_FLAG_{name}" for name in ("SCE", "SCX", "EXEC", "FORKED", "CHILD", "BORN", "EXITED", "VFORKED", "VFORK_DONE")]
 # the keys of each op after `op`, in order; those of a request, an act and a call follow
 KEYS: dict[str, list[str]] = {
-    "spawn": [], "ptrace": ["caller", "request"], "wait4": ["caller", "which", "options"],
-    "kill": ["caller", "which", "signal"], "sigaction": ["caller", "signal", "action"], "list": ["caller"],
-    "install": ["caller", "rules"], "handle": ["caller"], "turn": ["lwp", "act"],
+    "spawn": [],
+    "ptrace": ["caller", "request"],
+    "wait4": ["caller", "which", "options"],
+    "kill": ["caller", "which", "signal"],
+    "sigaction": ["caller", "signal", "action"],
+    "list": ["caller"],
+    "install": ["caller", "rules"],
+    "handle": ["caller"],
+    "turn": ["lwp", "act"],
 }
 REQUEST_KEYS: dict[str, list[str]] = {"PT_TRACE_ME": [], "PT_SET_EVENT_MASK": ["target", "mask"]}
 ACT_KEYS: dict[str, list[str]] = {"raise": ["signal"], "block": ["set"], "enter": ["call", "code"]}
@@ -31,15 +36,21 @@ def events(given: list[str]) -> list[str]:
 
 
 def rule(given: Object) -> Object:
-    forms = {"signal": given.get("signal"), "flags": in_order(FLAGS)(given.get("flags", [])),
-             "decision": given["decision"], "pass": given.get("pass")}
+    forms = {
+        "signal": given.get("signal"),
+        "flags": in_order(FLAGS)(given.get("flags", [])),
+        "decision": given["decision"],
+        "pass": given.get("pass"),
+    }
     return {key: value for key, value in forms.items() if value}
 
 
 # a value whose key may be missing, in the order of its form; empty if it is that of a missing key
 OPTIONAL: dict[str, Callable[[Any], Any]] = {"options": in_order(OPTIONS), "data": lambda data: data}
 FORMS: dict[str, Callable[[Any], Any]] = {
-    "mask": events, "set": lambda given: sorted(set(given)), "rules": lambda given: [rule(one) for one in given],
+    "mask": events,
+    "set": lambda given: sorted(set(given)),
+    "rules": lambda given: [rule(one) for one in given],
 }
 
 

@@ -24,7 +24,7 @@ def run(command: list[object], cwd: pathlib.Path, environment: Mapping[str, str]
     """What a command prints on both streams, in an environment of PATH, HOME and these."""
     given = {"PATH": PATH, "HOME": str(cwd), **environment}
     done = subprocess.run(
-        [str(word) for word in command], cwd=cwd, env=given, timeout=600,
+        [str(word) for word in command], cwd=cwd, env=given, timeout=1800,  # a loaded machine takes its time
         stdin=subprocess.DEVNULL, stdout=subprocess.PIPE, stderr=subprocess.STDOUT, encoding="utf-8", errors="replace",
     )  # fmt: skip
     assert done.returncode == status, f"{command}: status {done.returncode}\n{done.stdout[-3000:]}"
@@ -43,14 +43,21 @@ def block(page: str, language: str, count: int = 0) -> str:
 
 def copy(place: pathlib.Path) -> pathlib.Path:
     """A copy of this repository's files."""
-    listed = subprocess.run(
-        ["git", "ls-files", "-co", "--exclude-standard", "-z"], cwd=TOP, stdout=subprocess.PIPE, check=True
-    )
+    listed = subprocess.run(["git", "ls-files", "-co", "--exclude-standard", "-z"], cwd=TOP, stdout=subprocess.PIPE, check=True)
     for name in filter(None, listed.stdout.decode().split("\0")):
         if (TOP / name).exists():
             (place / name).parent.mkdir(parents=True, exist_ok=True)
             shutil.copy2(TOP / name, place / name, follow_symlinks=False)
     return place
+
+
+def copy_with_builds(place: pathlib.Path) -> pathlib.Path:
+    """The same, with the program and the library that were built here."""
+    made = copy(place)
+    for built in ("crates/tracehost/out", "crates/tracehost_c/out"):
+        if (TOP / built).exists():
+            shutil.copytree(TOP / built, made / built)
+    return made
 
 
 @pytest.fixture(scope="module")

@@ -1,37 +1,26 @@
-"""Runs scenarios in full, and with each user's steps alone, and compares that user's lines, with their numbers.
+"""Each user's session is the user's own: each scenario of tests/rows and examples in full, and with only one user's steps,
+gives the same lines of that user, with their numbers."""
 
-    python3 tests/python/test_alone.py PROGRAM SCENARIO..
-"""
+from __future__ import annotations
 
 import json
-import subprocess
-import sys
+from pathlib import Path
 
-from counting import Counts
-
-program, files = sys.argv[1], sys.argv[2:]
+from checking import TOP, Checks, accepted_files, for_each_scenario, run
 
 
-def lines_of(text: str, *options: str) -> str | None:
-    """The lines that the program prints, or none if it refuses the scenario."""
-    ran = subprocess.run([program, *options], input=text, capture_output=True, text=True)
-    return ran.stdout if ran.returncode == 0 else None
+def lines_of(program: Path, scenario: object, *options: str) -> str:
+    ran = run(program, *options, given=json.dumps(scenario))
+    assert (ran.status, ran.err) == (0, "")
+    return ran.out
 
 
-counts = Counts()
-for file in files:
-    with open(file, 'rb') as it:
-        data = it.read()
-    try:
-        text = data.decode()
-        scenario = json.loads(text)
-        users = sorted({step['user'] for step in scenario['steps']})
-    except (ValueError, TypeError, KeyError):
-        continue
-    if lines_of(text) is None:
-        continue
+@for_each_scenario(accepted_files())
+def test_lines_of_each_user(program: Path, file: Path, checks: Checks) -> None:
+    scenario = json.loads((TOP / file).read_bytes())
+    users = sorted({step["user"] for step in scenario["steps"]})
     for user in users:
-        alone = dict(scenario, steps=[step for step in scenario['steps'] if step['user'] == user])
-        is_same = lines_of(text, '--user', str(user)) == lines_of(json.dumps(alone))
-        counts.check(is_same, f'{file}: the lines of user {user} differ from those of its steps alone')
-counts.end()
+        alone = {**scenario, "steps": [step for step in scenario["steps"] if step["user"] == user]}
+        is_same = lines_of(program, scenario, "--user", str(user)) == lines_of(program, alone)
+        checks.check(is_same, f"the lines of user {user} differ from those of its steps alone")
+    checks.check(lines_of(program, {**scenario, "steps": []}) == "", "a user without steps has no line")

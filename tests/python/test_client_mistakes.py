@@ -1,33 +1,29 @@
-"""Each mistake of a table is told by the client that it is made with: where it is, or what to write.
+"""Each mistake of tests/client_mistakes.tsv is told by the client that it is made with: where it is, or what to write.
 
-    python3 tests/python/test_client_mistakes.py PROGRAM TABLE MISTAKES ROOM [LIBRARY]
-
-tests/mistakes.sh describes both tables: TABLE has the clients' mistakes, MISTAKES the program's. Those of the program in
-scenarios are also made with the viewer, which asks the program. ROOM is an empty folder, and LIBRARY a libtracehost.a.
-At the end it prints how many of all mistakes are told so that one can mend them.
+The columns of the table are the client; the mistake; code of Python or C, words of the shell or a command; and what has to
+be in the message, between ` && `, or - if the message doesn't help. The mistakes of tests/mistakes.tsv in scenarios are also
+made with the viewer, which asks the program.
 """
 
 from __future__ import annotations
 
-import collections
 import csv
 import io
-import os
 import pathlib
 import signal
 import subprocess
-import sys
+from collections.abc import Iterator
+from pathlib import Path
 from typing import NamedTuple
 
-import test_mistakes
-from counting import Counts
+import pytest
+import tracehost
+from tracehost.shell import Shell
 
-TOP = pathlib.Path(__file__).resolve().parents[2]
-sys.path.insert(0, str(TOP / "clients/python"))
+import mistakes
+from checking import TOP, needs
 
-import tracehost  # noqa: E402
-from tracehost.shell import Shell  # noqa: E402
-
+TABLE = TOP / "tests/client_mistakes.tsv"
 COMMANDS = {
     "viewer/make": TOP / "viewer/make", "viewer/perfetto": TOP / "viewer/perfetto",
     "tracehost-run": TOP / "clients/posix/tracehost-run", "tracehost-cc": TOP / "clients/posix/tracehost-cc",
@@ -37,22 +33,54 @@ FILES = {
     "cut.json": b'{"steps":[{"user":1001,"op":"spawn"}', "good.json": b'{"steps":[{"user":1001,"op":"spawn"}]}\n',
     "op.json": b'{"steps":[{"user":1001,"op":"spwan"}]}',
 }  # fmt: skip
-MOST_OF_ALL = 225
-LEAST_TOLD = 215
+# the first use of tracehost-cc compiles the runtime
+SECONDS = 300
+# of so many mistakes, at least so many are told so that one can mend them
+MOST_OF_ALL, LEAST_TOLD = 225, 215
 
 
 class Mistake(NamedTuple):
     client: str
     name: str
     what: str
-    words: list[str]
+    wanted: list[str]
+
+    @property
+    def is_told(self) -> bool:
+        return self.wanted != ["-"]
 
 
-def read(path: str) -> list[Mistake]:
-    with open(path, encoding="utf-8", newline="") as file:
+def read() -> list[Mistake]:
+    with open(TABLE, encoding="utf-8", newline="") as file:
         rows = csv.reader(file, delimiter="\t", quoting=csv.QUOTE_NONE)
         next(rows)
         return [Mistake(client, name, what, words.split(" && ")) for client, name, what, words in rows]
+
+
+ALL = read()
+OF_PROGRAM = mistakes.read_mistakes()
+IN_SCENARIOS = [mistake for mistake in OF_PROGRAM if mistake.answer.startswith("refused:") and mistake.words == ["input"]]
+
+
+def told_by(*clients: str) -> pytest.MarkDecorator:
+    """A mark that runs a test for each mistake that one of these clients tells."""
+    chosen = [mistake for mistake in ALL if mistake.client in clients and mistake.is_told]
+    return pytest.mark.parametrize("mistake", chosen, ids=[f"{mistake.client}: {mistake.name}" for mistake in chosen])
+
+
+@pytest.fixture(scope="module")
+def room(tmp_path_factory: pytest.TempPathFactory) -> Path:
+    """The folder that the mistakes are made in."""
+    folder = tmp_path_factory.mktemp("room")
+    for name, data in FILES.items():
+        (folder / name).write_bytes(data)
+    return folder
+
+
+@pytest.fixture(autouse=True)
+def surroundings(room: Path, program: Path, monkeypatch: pytest.MonkeyPatch) -> None:
+    monkeypatch.chdir(room)
+    monkeypatch.setenv("TRACEHOST", str(program))
 
 
 def by_python(mistake: Mistake, transport: str) -> str:
@@ -68,7 +96,17 @@ def by_python(mistake: Mistake, transport: str) -> str:
     return ""
 
 
-def by_shell(mistake: Mistake) -> str:
+@told_by("python")
+def test_in_python(mistake: Mistake, library: Path, monkeypatch: pytest.MonkeyPatch) -> None:
+    """Over the library, and in the same words over a pipe."""
+    monkeypatch.setenv("TRACEHOST_LIBRARY", str(library / "libtracehost.so"))
+    said = by_python(mistake, "library")
+    assert all(words in said for words in mistake.wanted), said
+    assert by_python(mistake, "pipe") == said
+
+
+@told_by("shell")
+def test_in_the_shell(mistake: Mistake) -> None:
     """What the shell prints after two steps."""
     printed = io.StringIO()
     shell = Shell(stdin=io.StringIO(), stdout=printed)
@@ -77,24 +115,46 @@ def by_shell(mistake: Mistake) -> str:
             shell.onecmd(line)
     finally:
         shell.close()
-    return printed.getvalue().split("\n", 2)[2]
+    said = printed.getvalue().split("\n", 2)[2]
+    assert all(words in said for words in mistake.wanted), said
 
 
-def by_command(words: list[str], environment: dict[str, str]) -> str:
-    """Standard error of a command that has to fail."""
-    done = subprocess.run(
+def by_command(words: list[str]) -> subprocess.CompletedProcess[str]:
+    return subprocess.run(
         [COMMANDS[words[0]], *words[1:]], stdin=subprocess.DEVNULL, stdout=subprocess.PIPE, stderr=subprocess.PIPE,
-        env={**os.environ, **environment}, timeout=60, encoding="utf-8", errors="replace",
+        timeout=SECONDS, encoding="utf-8", errors="replace", check=False,
     )  # fmt: skip
-    return done.stderr if done.returncode else ""
 
 
-def program_of(mistakes: list[Mistake]) -> str:
+@told_by("viewer", "runner")
+def test_of_a_command(mistake: Mistake) -> None:
+    ran = by_command(mistake.what.split(" "))
+    assert ran.returncode != 0
+    assert all(words in ran.stderr for words in mistake.wanted), ran.stderr
+
+
+@pytest.fixture(scope="module")
+def said_by_library(library: Path, room: Path) -> Iterator[dict[str, str]]:
+    """What the library's codes say, for each call of the table in a C program."""
+    calls = [mistake for mistake in ALL if mistake.client == "library"]
+    (room / "calls.c").write_text(program_of(calls), encoding="utf-8")
+    command: list[str | Path] = [
+        "cc",
+        "-std=c11",
+        f"-I{TOP}/include",
+        "-o",
+        room / "calls",
+        room / "calls.c",
+        library / "libtracehost.a",
+    ]
+    subprocess.run(command, check=True)
+    said = subprocess.run([room / "calls"], stdout=subprocess.PIPE, text=True, check=True).stdout.splitlines()
+    yield dict(zip([mistake.name for mistake in calls], said, strict=True))
+
+
+def program_of(calls: list[Mistake]) -> str:
     """A C program that makes the calls, and prints what their codes say, a line each."""
-    calls = "".join(
-        f'    printf("%s\\n", tracehost_strerror({mistake.what}));\n'
-        for mistake in mistakes
-    )
+    lines = "".join(f'    printf("%s\\n", tracehost_strerror({mistake.what}));\n' for mistake in calls)
     return f"""#include <stdio.h>
 #include <tracehost.h>
 
@@ -106,90 +166,34 @@ int main(void)
     tracehost_open(true, &ended);
     tracehost_close(&ended);
     tracehost_open(true, &h);
-{calls}    return (int)tracehost_close(&h);
+{lines}    return (int)tracehost_close(&h);
 }}
 """
 
 
-def by_library(mistakes: list[Mistake], library: str) -> list[str]:
-    pathlib.Path("calls.c").write_text(program_of(mistakes), encoding="utf-8")
-    subprocess.run(["cc", "-std=c11", f"-I{TOP}/include", "-o", "calls", "calls.c", library], check=True)
-    return subprocess.run(["./calls"], stdout=subprocess.PIPE, text=True, check=True).stdout.splitlines()
+@needs("cc")
+@told_by("library")
+def test_in_c(mistake: Mistake, said_by_library: dict[str, str]) -> None:
+    said = said_by_library[mistake.name]
+    assert all(words in said for words in mistake.wanted), said
 
 
-class Told:
-    """How many mistakes of each client are told so that one can mend them, of how many."""
-
-    def __init__(self) -> None:
-        self.counts = Counts()
-        self.told: collections.Counter[str] = collections.Counter()
-        self.all: collections.Counter[str] = collections.Counter()
-
-    def look(self, client: str, name: str, wanted: list[str], said: str) -> None:
-        self.all[client] += 1
-        if wanted == ["-"]:
-            return
-        is_told = all(words in said for words in wanted)
-        self.told[client] += is_told
-        self.counts.check(is_told, f"{client}: {name}: {said!r}")
-
-    def end(self) -> None:
-        told, all_of_them = sum(self.told.values()), sum(self.all.values())
-        for client, count in self.all.items():
-            print(f"{client}: {self.told[client]} of {count}")
-        print(f"told so that one can mend them: {told} of {all_of_them} mistakes")
-        self.counts.check(all_of_them >= MOST_OF_ALL and told * MOST_OF_ALL >= LEAST_TOLD * all_of_them, "too few are told")
-        self.counts.end()
+@pytest.mark.parametrize("mistake", IN_SCENARIOS, ids=[mistake.name for mistake in IN_SCENARIOS])
+def test_in_the_viewer(mistake: mistakes.Mistake, room: Path) -> None:
+    """The viewer says what the program explains. It draws steps and replies without a scenario around them."""
+    (room / "input").write_bytes(mistake.input)
+    ran = by_command(["viewer/make", "input"])
+    if ran.returncode == 0:
+        assert ran.stdout.startswith("<!DOCTYPE html>")
+    else:
+        assert mistake.remedy in ran.stderr
+        assert mistake.place in ran.stderr
 
 
-def look_at_clients(told: Told, mistakes: list[Mistake], program: str, library: str) -> None:
-    environment = {"TRACEHOST": program}
-    transports = ["library", "pipe"] if "TRACEHOST_LIBRARY" in os.environ else ["pipe"]
-    for mistake in mistakes:
-        if mistake.words == ["-"]:
-            told.look(mistake.client, mistake.name, mistake.words, "")
-        elif mistake.client == "python":
-            over = [by_python(mistake, transport) for transport in transports]
-            told.look(mistake.client, mistake.name, mistake.words, over[0])
-            told.counts.check(len(set(over)) == 1, f"{mistake.name}: other words over a pipe: {over}")
-        elif mistake.client == "shell":
-            told.look(mistake.client, mistake.name, mistake.words, by_shell(mistake))
-        elif mistake.client != "library":
-            told.look(mistake.client, mistake.name, mistake.words, by_command(mistake.what.split(" "), environment))
-    calls = [mistake for mistake in mistakes if mistake.client == "library"]
-    if not library:
-        print(f"the library is older than its header: its {len(calls)} mistakes aren't made")
-        return
-    for mistake, said in zip(calls, by_library(calls, library)):
-        told.look(mistake.client, mistake.name, mistake.words, said)
-
-
-def look_at_program(told: Told, table: str, program: str, room: pathlib.Path) -> None:
-    """The program's mistakes, which it explains; and those in scenarios by the viewer, which asks it."""
-    for mistake in test_mistakes.read(table):
-        has_option = any(word.startswith("--explain=") for word in mistake.words)
-        ran = test_mistakes.run(program, room, mistake, *([] if has_option else ["--explain"]))
-        wanted = [mistake.remedy] + ([mistake.place] if mistake.place else [])
-        told.look("program", mistake.name, wanted, ran.err.decode())
-        if mistake.answer.startswith("refused:") and mistake.words == ["input"]:
-            said = by_command(["viewer/make", "input"], {"TRACEHOST": program})
-            if said:  # what the program printed is drawn
-                told.look("viewer, of a scenario", mistake.name, wanted, said)
-
-
-def main() -> None:
-    program, table, mistakes, room = sys.argv[1], sys.argv[2], sys.argv[3], pathlib.Path(sys.argv[4])
-    library = sys.argv[5] if len(sys.argv) > 5 else ""
-    table, mistakes = os.path.abspath(table), os.path.abspath(mistakes)
-    os.environ["TRACEHOST"] = program
-    os.chdir(room)
-    for name, data in FILES.items():
-        pathlib.Path(name).write_bytes(data)
-    told = Told()
-    look_at_program(told, mistakes, program, room)
-    look_at_clients(told, read(table), program, library)
-    told.end()
-
-
-if __name__ == "__main__":
-    main()
+def test_most_mistakes_are_told() -> None:
+    """The program tells each of its own."""
+    told, count = sum(mistake.is_told for mistake in ALL) + len(OF_PROGRAM), len(ALL) + len(OF_PROGRAM)
+    print(f"told so that one can mend them: {told} of {count} mistakes")
+    assert count >= MOST_OF_ALL
+    assert told * MOST_OF_ALL >= LEAST_TOLD * count
+    assert {mistake.client for mistake in ALL if mistake.is_told} == {"python", "shell", "viewer", "runner", "library"}

@@ -1,48 +1,46 @@
-"""What a shell completes on a terminal, with the files in completions/.
+"""What bash and zsh complete with the files in completions/, on a terminal too."""
 
-    python3 tests/python/test_completions.py bash|zsh
-"""
+from __future__ import annotations
 
 import os
 import pty
 import re
 import select
 import subprocess
-import sys
 import time
 
-from counting import Counts
+import pytest
 
-READY = 'shell is ready'
+from checking import TOP, needs
+
+READY = "shell is ready"
 SETUP = {
-    'bash': (['bash', '--norc', '--noprofile', '-i'],
-             "bind 'set enable-bracketed-paste off'; source completions/tracehost.bash"),
-    'zsh': (['zsh', '-f', '-i'],
-            'fpath=(completions $fpath); autoload -Uz compinit; compinit -u -D'),
+    "bash": (["bash", "--norc", "--noprofile", "-i"], "bind 'set enable-bracketed-paste off'; source completions/tracehost.bash"),
+    "zsh": (["zsh", "-f", "-i"], "fpath=(completions $fpath); autoload -Uz compinit; compinit -u -D"),
 }
 # what is typed, and what the terminal then shows
 CASES = [
-    ('--th\t', r'--threads'),
-    ('--user 106\t\t', r'1060\s+1061\s+1062\s+1063\s+1064'),
-    ('--user=106\t\t', r'1060\s+1061\s+1062\s+1063\s+1064'),
-    ('--user=1064\t --th\t', r'--user=1064[ \x08]+--threads'),
-    ('--explain=al\t', r'--explain=always'),
-    ('--explain=\t\t', r'always\b[^$]*auto\b[^$]*never|auto\b[^$]*always\b[^$]*never'),
-    ('--json=tr\t', r'--json=trace'),
-    ('--json=\t\t', r'replies\b[^$]*trace'),
-    ('--json schema/sc\t', r'--json schema/scenario\.schema\.json'),
-    ('--explain schema/sc\t', r'--explain schema/scenario\.schema\.json'),
-    ('--lines --kill-on-debugger-exit=\t\t', r'0\b[^$]*\b1'),
-    ('--expect=schema/sc\t', r'--expect=schema/scenario\.schema\.json'),
-    ('--expect schema/sc\t', r'--expect schema/scenario\.schema\.json'),
-    ('schema/sc\t', r'tracehost schema/scenario\.schema\.json'),
-    ('--lines --kill\t', r'--lines --kill-on-debugger-exit'),
+    ("--th\t", r"--threads"),
+    ("--user 106\t\t", r"1060\s+1061\s+1062\s+1063\s+1064"),
+    ("--user=106\t\t", r"1060\s+1061\s+1062\s+1063\s+1064"),
+    ("--user=1064\t --th\t", r"--user=1064[ \x08]+--threads"),
+    ("--explain=al\t", r"--explain=always"),
+    ("--explain=\t\t", r"always\b[^$]*auto\b[^$]*never|auto\b[^$]*always\b[^$]*never"),
+    ("--json=tr\t", r"--json=trace"),
+    ("--json=\t\t", r"replies\b[^$]*trace"),
+    ("--json schema/sc\t", r"--json schema/scenario\.schema\.json"),
+    ("--explain schema/sc\t", r"--explain schema/scenario\.schema\.json"),
+    ("--lines --kill-on-debugger-exit=\t\t", r"0\b[^$]*\b1"),
+    ("--expect=schema/sc\t", r"--expect=schema/scenario\.schema\.json"),
+    ("--expect schema/sc\t", r"--expect schema/scenario\.schema\.json"),
+    ("schema/sc\t", r"tracehost schema/scenario\.schema\.json"),
+    ("--lines --kill\t", r"--lines --kill-on-debugger-exit"),
 ]
 # what is typed, and what the terminal doesn't show then
-NOT_OFFERED = [('--lines --u\t', '--user'), ('--user 1001 --l\t', '--lines')]
-MOST_SECONDS = 10.0
-# what colours the text or moves the cursor, but for a step back
-CONTROLS = re.compile(r'\x1b(\[[0-9;?]*[a-zA-Z]|[=>])|[\x07\r]')
+NOT_OFFERED = [("--lines --u\t", "--user"), ("--user 1001 --l\t", "--lines")]
+MOST_SECONDS = 60.0
+# what colours the text or moves the cursor, except a step back
+CONTROLS = re.compile(r"\x1b(\[[0-9;?]*[a-zA-Z]|[=>])|[\x07\r]")
 
 
 class Shell:
@@ -51,24 +49,23 @@ class Shell:
     def __init__(self, name: str) -> None:
         words, setup = SETUP[name]
         self.terminal, theirs = pty.openpty()
-        env = {**os.environ, 'TERM': 'xterm', 'PS1': '', 'COLUMNS': '200'}
-        self.process = subprocess.Popen(words, stdin=theirs, stdout=theirs, stderr=theirs, env=env,
-                                        start_new_session=True)
+        env = {**os.environ, "TERM": "xterm", "PS1": "", "COLUMNS": "200"}
+        self.process = subprocess.Popen(words, cwd=TOP, stdin=theirs, stdout=theirs, stderr=theirs, env=env, start_new_session=True)
         os.close(theirs)
         self.type(f"PS1='' PROMPT=''; {setup}; stty cols 200; echo ${{NONE}}{READY}\n")
-        self.shows(rf'\n{READY}', MOST_SECONDS)
+        self.shows(rf"\n{READY}", MOST_SECONDS)
 
     def type(self, text: str) -> None:
         os.write(self.terminal, text.encode())
 
     def shows(self, wanted: str, seconds: float) -> str:
         """What the terminal shows until it is what is wanted, or the time is over."""
-        written = shown = ''
+        written = shown = ""
         end = time.monotonic() + seconds
         while time.monotonic() < end and not re.search(wanted, shown):
             if select.select([self.terminal], [], [], 0.1)[0]:
-                written += os.read(self.terminal, 65536).decode(errors='replace')
-                shown = CONTROLS.sub('', written)
+                written += os.read(self.terminal, 65536).decode(errors="replace")
+                shown = CONTROLS.sub("", written)
         return shown
 
     def end(self) -> None:
@@ -80,24 +77,57 @@ class Shell:
 def shown_after(name: str, typed: str, wanted: str, seconds: float) -> str:
     shell = Shell(name)
     try:
-        shell.type('tracehost ' + typed)
+        shell.type("tracehost " + typed)
         return shell.shows(wanted, seconds)
     finally:
         shell.end()
 
 
-def main() -> None:
-    name = sys.argv[1]
-    counts = Counts()
-    for typed, wanted in CASES:
-        shown = shown_after(name, typed, wanted, MOST_SECONDS)
-        counts.check(re.search(wanted, shown) is not None, f'{name}: {typed!r} shows {shown!r}')
-    for typed, unwanted in NOT_OFFERED:
-        shown = shown_after(name, typed, unwanted, 1.0)
-        offered = shown.replace('tracehost ' + typed.strip('\t'), '', 1)
-        counts.check(unwanted not in offered, f'{name}: {typed!r} shows {shown!r}')
-    counts.end()
+# the words before the cursor, of which the last is completed, and what bash offers. `=` breaks words in a shell that is
+# used, and not in every one
+OFFERED: list[tuple[list[str], str]] = [
+    (["--th"], "--threads"),
+    (["--expect", "schema/sc"], "schema/scenario.schema.json"),
+    (["--user", "106"], "1060 1061 1062 1063 1064"),
+    (["--kill-on-debugger-exit", ""], "0 1"),
+    (["schema/sc"], "schema/scenario.schema.json"),
+    (["--user", "=", "106"], "1060 1061 1062 1063 1064"),
+    (["--user=106"], "--user=1060 --user=1061 --user=1062 --user=1063 --user=1064"),
+    (["--kill-on-debugger-exit", "="], "0 1"),
+    (["--expect", "=", "schema/sc"], "schema/scenario.schema.json"),
+    (["--explain", "="], "auto always never"),
+    (["--explain=al"], "--explain=always"),
+    (["--json", "="], "replies trace"),
+    (["--json=t"], "--json=trace"),
+    (["--explain", "schema/sc"], "schema/scenario.schema.json"),
+    (["--lines", "--"], "--lines --kill-on-debugger-exit --json --explain --help --version"),
+    (["--user", "1001", "--"], "--user --threads --expect --json --explain --help --version"),
+]
 
 
-if __name__ == '__main__':
-    main()
+@pytest.mark.parametrize(("words", "offered"), OFFERED, ids=[" ".join(words) for words, _ in OFFERED])
+def test_bash_offers(words: list[str], offered: str) -> None:
+    code = 'source completions/tracehost.bash; COMP_WORDS=("$@"); COMP_CWORD=$(($# - 1)); _tracehost; echo "${COMPREPLY[*]}"'
+    command = ["bash", "--norc", "-c", code, "-", "tracehost", *words]
+    assert subprocess.run(command, cwd=TOP, stdout=subprocess.PIPE, text=True, check=True).stdout == offered + "\n"
+
+
+each_shell = pytest.mark.parametrize("shell", [pytest.param(name, marks=needs(name)) for name in SETUP])
+
+
+@each_shell
+@pytest.mark.parametrize(("typed", "wanted"), CASES, ids=[typed.strip("\t") for typed, _ in CASES])
+def test_the_terminal_shows(shell: str, typed: str, wanted: str) -> None:
+    assert re.search(wanted, shown_after(shell, typed, wanted, MOST_SECONDS))
+
+
+@each_shell
+@pytest.mark.parametrize(("typed", "unwanted"), NOT_OFFERED, ids=[typed.strip("\t") for typed, _ in NOT_OFFERED])
+def test_the_terminal_does_not_show(shell: str, typed: str, unwanted: str) -> None:
+    shown = shown_after(shell, typed, unwanted, 1.0)
+    assert unwanted not in shown.replace("tracehost " + typed.strip("\t"), "", 1)
+
+
+@needs("zsh")
+def test_zsh_reads_the_completions() -> None:
+    subprocess.run(["zsh", "-f", "-n", "completions/_tracehost"], cwd=TOP, check=True)

@@ -1,12 +1,11 @@
-"""Runs tracehost and refusals with each allocation, read, write and start of a thread failing in turn.
+"""Each allocation, read, write and start of a thread fails in turn, by shim.c, which is loaded before the program.
 
-    python3 tests/python/test_failures.py SHIM TRACEHOST [REFUSALS]
-
-SHIM is tests/python/shim.c as a shared library. Each run has to end in one of a few ways, which are known beforehand:
-with the whole text, or with one line on standard error, its status, and a part of the text only if a write failed or
-if lines are answered one by one. Prints how many failures of each kind there were, and the first runs that ended
-otherwise.
+Each run has to end in one of a few ways, which are known beforehand: with the whole text, or with one line on standard
+error, its status, and a part of the text only if a write failed or if lines are answered one by one. So docs/FORMAT.md,
+sections 8 and 11, has it. The program test_no_memory does so inside the library.
 """
+
+from __future__ import annotations
 
 import collections
 import dataclasses
@@ -16,14 +15,18 @@ import json
 import os
 import signal
 import subprocess
-import sys
-import tempfile
 import time
 from collections.abc import Iterator
+from pathlib import Path
 
-from counting import Counts
+import pytest
+
+from checking import TOP, Checks, needs
 from json_of_lines import as_json
 from shim import MEMORY, SECONDS, Command, End, Ends, Run, Shim, check_all, fault, whole
+
+REFUSALS = TOP / "crates/test_no_memory/out/test_no_memory"
+pytestmark = needs("cc")
 
 
 @dataclasses.dataclass(frozen=True)
@@ -35,16 +38,16 @@ class GivesUp:
     def __eq__(self, end: object) -> bool:
         if not isinstance(end, End):
             return NotImplemented
-        said = (end.status, end.err) == (3, b'refusals: out of memory\n')
+        said = (end.status, end.err) == (3, b"refusals: out of memory\n")
         return said and end.out != self.text and self.text.startswith(end.out)
 
 
-START = fault('tracehost: cannot start a worker')
-CANNOT_READ = fault('tracehost: cannot read')
+START = fault("tracehost: cannot start a worker")
+CANNOT_READ = fault("tracehost: cannot read")
 
 
 def cannot_write(front: bytes) -> End:
-    return fault('tracehost: cannot write', front)
+    return fault("tracehost: cannot write", front)
 
 
 # ---- the runs
@@ -52,36 +55,41 @@ def cannot_write(front: bytes) -> End:
 
 def row(name: str) -> tuple[str, bytes]:
     """The file of a scenario in tests/rows/sessions, and its text."""
-    path = f'tests/rows/sessions/{name}'
-    with open(f'{path}.out', 'rb') as text:
-        return f'{path}.json', text.read()
+    path = TOP / "tests/rows/sessions" / name
+    return f"{path}.json", path.with_suffix(".out").read_bytes()
 
 
 def lines_of(text: bytes, user: int) -> bytes:
-    return b''.join(line for line in text.splitlines(keepends=True) if line.startswith(b'%d ' % user))
+    return b"".join(line for line in text.splitlines(keepends=True) if line.startswith(b"%d " % user))
 
 
 def texts_by_users(text: bytes) -> list[bytes]:
     """The lines of each user with lines, by rising user."""
     texts: dict[int, bytes] = {}
     for line in text.splitlines(keepends=True):
-        user = int(line.split(b' ', 1)[0])
-        texts[user] = texts.get(user, b'') + line
+        user = int(line.split(b" ", 1)[0])
+        texts[user] = texts.get(user, b"") + line
     return [texts[user] for user in sorted(texts)]
 
 
 def by_users(text: bytes) -> bytes:
     """The lines user by user, each user's in their order."""
-    return b''.join(texts_by_users(text))
+    return b"".join(texts_by_users(text))
 
 
-def ways(program: str, file: str, text: bytes) -> Iterator[tuple[Command, bytes, Ends]]:
-    """The program with its options on the file, its text, and the faults that want of memory may have."""
-    yield (program, file), text, (MEMORY,)
-    yield (program, '--user', '1001', file), lines_of(text, 1001), (MEMORY,)
-    yield (program, '--threads', file), by_users(text), (MEMORY, START)
-    yield (program, '--json', file), as_json(text.decode()).encode(), (MEMORY,)
-    yield (program, '--expect', file.replace('.json', '.out'), file), b'', (MEMORY,)
+WAYS = ("plain", "--user", "--threads", "--json", "--expect")
+
+
+def way_of(name: str, program: str, file: str, text: bytes) -> tuple[Command, bytes, Ends]:
+    """The program with an option on the file, its text, and the faults that want of memory may have."""
+    ways: dict[str, tuple[Command, bytes, Ends]] = {
+        "plain": ((program, file), text, (MEMORY,)),
+        "--user": ((program, "--user", "1001", file), lines_of(text, 1001), (MEMORY,)),
+        "--threads": ((program, "--threads", file), by_users(text), (MEMORY, START)),
+        "--json": ((program, "--json", file), as_json(text.decode()).encode(), (MEMORY,)),
+        "--expect": ((program, "--expect", file.replace(".json", ".out"), file), b"", (MEMORY,)),
+    }
+    return ways[name]
 
 
 def refused_allocations(
@@ -92,21 +100,21 @@ def refused_allocations(
     counts = shim.counts_of(Run(command, given, {}, ends))
     for n in range(1, counts.allocations + 1):
         possible = tuple(end for end in ends if end != START) if n < counts.before_threads else ends
-        yield Run(command, given, {'ALLOCATION': n}, possible)
-        yield Run(command, given, {'ALLOCATION': f'{n}-'}, possible)
+        yield Run(command, given, {"ALLOCATION": n}, possible)
+        yield Run(command, given, {"ALLOCATION": f"{n}-"}, possible)
     for chance in chances:
         for seed in range(seeds):
-            yield Run(command, given, {'CHANCE': chance, 'SEED': seed}, ends)
+            yield Run(command, given, {"CHANCE": chance, "SEED": seed}, ends)
 
 
 def refused_explanations(shim: Shim, program: str) -> Iterator[Run]:
     """Each allocation refused while a fault is explained: the fault is printed, with or without its place."""
-    row = 'tests/rows/explain/request_in_small_letters'
-    with open(f'{row}.err', 'rb') as lines:
+    row = TOP / "tests/rows/explain/request_in_small_letters"
+    with open(f"{row}.err", "rb") as lines:
         fault, told = lines.read().splitlines(keepends=True)
-    ends = (End(1, b'', fault + told), End(1, b'', fault), MEMORY)
-    command = (program, '--explain', f'{row}.json')
-    return refused_allocations(shim, command, b'', ends, (), 0)
+    ends = (End(1, b"", fault + told), End(1, b"", fault), MEMORY)
+    command = (program, "--explain", f"{row}.json")
+    return refused_allocations(shim, command, b"", ends, (), 0)
 
 
 READ_ERRORS = (errno.EIO, errno.EAGAIN)
@@ -115,28 +123,28 @@ WRITE_ERRORS = (errno.EIO, errno.ENOSPC, errno.EPIPE, errno.EAGAIN)
 
 def failing_reads(shim: Shim, program: str, file: str, text: bytes) -> Iterator[Run]:
     """Each read of a file, of a pipe, and with threads, fails, is interrupted, or moves one byte."""
-    with open(file, 'rb') as scenario:
+    with open(file, "rb") as scenario:
         given = scenario.read()
     done = whole(text)
     for command, data, end in (
-        ((program, file), b'', done),
+        ((program, file), b"", done),
         ((program,), given, done),
-        ((program, '--threads', file), b'', whole(by_users(text))),
+        ((program, "--threads", file), b"", whole(by_users(text))),
     ):
-        most = {'MOST': 256}
+        most = {"MOST": 256}
         counts = shim.counts_of(Run(command, data, most, (end,)))
         for n in range(1, counts.reads + 1):
             for error in READ_ERRORS:
-                yield Run(command, data, {**most, 'READ': n, 'ERROR': error}, (CANNOT_READ,))
-            yield Run(command, data, {**most, 'READ': n, 'ERROR': errno.EINTR}, (end,))
-            yield Run(command, data, {**most, 'READ': n}, (end,))
-        yield Run(command, data, {'READ': '1-1000', 'ERROR': errno.EINTR}, (end,))
-        yield Run(command, data, {'READ': '1-'}, (end,))
+                yield Run(command, data, {**most, "READ": n, "ERROR": error}, (CANNOT_READ,))
+            yield Run(command, data, {**most, "READ": n, "ERROR": errno.EINTR}, (end,))
+            yield Run(command, data, {**most, "READ": n}, (end,))
+        yield Run(command, data, {"READ": "1-1000", "ERROR": errno.EINTR}, (end,))
+        yield Run(command, data, {"READ": "1-"}, (end,))
 
 
 def fronts(texts: list[bytes], most: int) -> Iterator[bytes]:
     """What is written before each write of texts, one after another, if a write takes at most so many bytes."""
-    front = b''
+    front = b""
     for text in texts:
         for at in range(0, len(text), most):
             yield front
@@ -146,48 +154,46 @@ def fronts(texts: list[bytes], most: int) -> Iterator[bytes]:
 def failing_writes(program: str, file: str, text: bytes) -> Iterator[Run]:
     """Each write fails, is interrupted, or moves one byte: a front of the text is left if one failed. With threads,
     each user's text is written by itself."""
-    for command, texts in (((program, file), [text]), ((program, '--threads', file), texts_by_users(text))):
-        most, text = 16, b''.join(texts)
+    for command, texts in (((program, file), [text]), ((program, "--threads", file), texts_by_users(text))):
+        most, text = 16, b"".join(texts)
         for n, front in enumerate(fronts(texts, most), 1):
-            few = {'MOST': most, 'WRITE': n}
+            few = {"MOST": most, "WRITE": n}
             for error in WRITE_ERRORS:
-                yield Run(command, b'', {**few, 'ERROR': error}, (cannot_write(front),))
-            yield Run(command, b'', {**few, 'ERROR': errno.EINTR}, (whole(text),))
-            yield Run(command, b'', few, (whole(text),))
-        yield Run(command, b'', {'WRITE': '1-1000', 'ERROR': errno.EINTR}, (whole(text),))
-        yield Run(command, b'', {'WRITE': '1-'}, (whole(text),))
+                yield Run(command, b"", {**few, "ERROR": error}, (cannot_write(front),))
+            yield Run(command, b"", {**few, "ERROR": errno.EINTR}, (whole(text),))
+            yield Run(command, b"", few, (whole(text),))
+        yield Run(command, b"", {"WRITE": "1-1000", "ERROR": errno.EINTR}, (whole(text),))
+        yield Run(command, b"", {"WRITE": "1-"}, (whole(text),))
         # neither the text nor the fault can be written
-        yield Run(command, b'', {'WRITE': '1-', 'ERROR': errno.EIO}, (End(3, b'', b''),))
+        yield Run(command, b"", {"WRITE": "1-", "ERROR": errno.EIO}, (End(3, b"", b""),))
 
 
 def faults_told_in_pieces(program: str) -> Iterator[Run]:
     """The line of a fault is whole if its writes are interrupted or move one byte; its status stays if no write
     succeeds."""
     for options, given, line in (
-        ((), b'', b'tracehost: refused: BadJson\n'),
-        ((), b'{"steps":[{"user":1001,"op":"fly"}]}', b'tracehost: refused: BadName at step 1\n'),
+        ((), b"", b"tracehost: refused: BadJson\n"),
+        ((), b'{"steps":[{"user":1001,"op":"fly"}]}', b"tracehost: refused: BadName at step 1\n"),
     ):
-        for shim in ({'WRITE': 1, 'ERROR': errno.EINTR}, {'WRITE': 1}, {'MOST': 1}):
-            yield Run((program, *options), given, shim, (End(1, b'', line),))
-        yield Run((program, *options), given, {'WRITE': '1-', 'ERROR': errno.EIO}, (End(1, b'', b''),))
+        for shim in ({"WRITE": 1, "ERROR": errno.EINTR}, {"WRITE": 1}, {"MOST": 1}):
+            yield Run((program, *options), given, shim, (End(1, b"", line),))
+        yield Run((program, *options), given, {"WRITE": "1-", "ERROR": errno.EIO}, (End(1, b"", b""),))
 
 
 def refused_threads(program: str, file: str) -> Iterator[Run]:
-    """Of 63 workers, all but the first user's, each can't be started, alone and with all after it."""
+    """Of 63 workers, all but the first user's, each can't be started, by itself and with all after it."""
     users = range(1001, 1065)
-    steps = [{'user': user, 'op': 'spawn'} for user in users for _ in range(2)]
-    with open(file, 'w') as scenario:
-        json.dump({'steps': steps}, scenario)
-    text = ''.join(
-        f'{user} {n + 1} new {1000 * (user - 1000) + n} {100000 + 4000 * (user - 1001) + n}\n'
-        for user in users
-        for n in range(2)
+    steps = [{"user": user, "op": "spawn"} for user in users for _ in range(2)]
+    with open(file, "w") as scenario:
+        json.dump({"steps": steps}, scenario)
+    text = "".join(
+        f"{user} {n + 1} new {1000 * (user - 1000) + n} {100000 + 4000 * (user - 1001) + n}\n" for user in users for n in range(2)
     ).encode()
-    command = (program, '--threads', file)
+    command = (program, "--threads", file)
     for n in range(1, 64):
-        yield Run(command, b'', {'THREAD': n}, (START,))
-        yield Run(command, b'', {'THREAD': f'{n}-'}, (START,))
-    yield Run(command, b'', {'THREAD': '64-'}, (whole(text),))
+        yield Run(command, b"", {"THREAD": n}, (START,))
+        yield Run(command, b"", {"THREAD": f"{n}-"}, (START,))
+    yield Run(command, b"", {"THREAD": "64-"}, (whole(text),))
 
 
 # ---- lines, each answered before the next is read
@@ -203,63 +209,63 @@ class Session:
 
     @property
     def given(self) -> bytes:
-        return b''.join(self.lines)
+        return b"".join(self.lines)
 
     @property
     def text(self) -> bytes:
-        return b''.join(self.answers)
+        return b"".join(self.answers)
 
     def answers_to(self, taken: int) -> bytes:
         """The answers to those lines that are whole if so many bytes were taken."""
         ends = itertools.accumulate(map(len, self.lines))
-        return b''.join(answer for end, answer in zip(ends, self.answers) if end <= taken)
+        return b"".join(answer for end, answer in zip(ends, self.answers) if end <= taken)
 
 
 def session_of(program: str, file: str, text: bytes) -> Session:
-    with open(file, 'rb') as data:
+    with open(file, "rb") as data:
         scenario = json.load(data)
     pairs = []
-    for place, (step, answer) in enumerate(zip(scenario['steps'], text.splitlines(keepends=True))):
-        pairs.append((json.dumps(step).encode() + b'\n', answer))
+    for place, (step, answer) in enumerate(zip(scenario["steps"], text.splitlines(keepends=True))):
+        pairs.append((json.dumps(step).encode() + b"\n", answer))
         if place % 10 == 9:
-            pairs.append((b'\n', b'refused BadJson\n'))
-    setting = str(scenario.get('kill_on_debugger_exit', 1))
+            pairs.append((b"\n", b"refused BadJson\n"))
+    setting = str(scenario.get("kill_on_debugger_exit", 1))
     lines, answers = zip(*pairs)
-    return Session((program, '--lines', '--kill-on-debugger-exit', setting), lines, answers)
+    return Session((program, "--lines", "--kill-on-debugger-exit", setting), lines, answers)
 
 
 def failing_reads_of_lines(shim: Shim, session: Session) -> Iterator[Run]:
     """Each read fails, is interrupted, or moves one byte: the lines that were taken before a failure are answered."""
     size = 256
-    most = {'MOST': size}
+    most = {"MOST": size}
     done = whole(session.text)
     counts = shim.counts_of(Run(session.command, session.given, most, (done,)))
     for n in range(1, counts.reads + 1):
         answered = session.answers_to(size * (n - 1))
         for error in READ_ERRORS:
-            end = fault('tracehost: cannot read', answered)
-            yield Run(session.command, session.given, {**most, 'READ': n, 'ERROR': error}, (end,))
-        yield Run(session.command, session.given, {**most, 'READ': n, 'ERROR': errno.EINTR}, (done,))
-        yield Run(session.command, session.given, {**most, 'READ': n}, (done,))
-    yield Run(session.command, session.given, {'READ': '1-1000', 'ERROR': errno.EINTR}, (done,))
-    yield Run(session.command, session.given, {'READ': '1-'}, (done,))
+            end = fault("tracehost: cannot read", answered)
+            yield Run(session.command, session.given, {**most, "READ": n, "ERROR": error}, (end,))
+        yield Run(session.command, session.given, {**most, "READ": n, "ERROR": errno.EINTR}, (done,))
+        yield Run(session.command, session.given, {**most, "READ": n}, (done,))
+    yield Run(session.command, session.given, {"READ": "1-1000", "ERROR": errno.EINTR}, (done,))
+    yield Run(session.command, session.given, {"READ": "1-"}, (done,))
 
 
 def failing_writes_of_lines(session: Session) -> Iterator[Run]:
-    """Each write fails, is interrupted, or moves one byte: what was written before one failed stands."""
+    """Each write fails, is interrupted, or moves one byte: what was written before one failed stays."""
     most = 16
     done = whole(session.text)
     pieces = [answer[at : at + most] for answer in session.answers for at in range(0, len(answer), most)]
     for n in range(1, len(pieces) + 1):
-        few = {'MOST': most, 'WRITE': n}
-        front = b''.join(pieces[: n - 1])
+        few = {"MOST": most, "WRITE": n}
+        front = b"".join(pieces[: n - 1])
         for error in WRITE_ERRORS:
-            yield Run(session.command, session.given, {**few, 'ERROR': error}, (cannot_write(front),))
-        yield Run(session.command, session.given, {**few, 'ERROR': errno.EINTR}, (done,))
+            yield Run(session.command, session.given, {**few, "ERROR": error}, (cannot_write(front),))
+        yield Run(session.command, session.given, {**few, "ERROR": errno.EINTR}, (done,))
         yield Run(session.command, session.given, few, (done,))
-    yield Run(session.command, session.given, {'WRITE': '1-1000', 'ERROR': errno.EINTR}, (done,))
-    yield Run(session.command, session.given, {'WRITE': '1-'}, (done,))
-    yield Run(session.command, session.given, {'WRITE': '1-', 'ERROR': errno.EIO}, (End(3, b'', b''),))
+    yield Run(session.command, session.given, {"WRITE": "1-1000", "ERROR": errno.EINTR}, (done,))
+    yield Run(session.command, session.given, {"WRITE": "1-"}, (done,))
+    yield Run(session.command, session.given, {"WRITE": "1-", "ERROR": errno.EIO}, (End(3, b"", b""),))
 
 
 class Answered:
@@ -275,7 +281,7 @@ class Answered:
         """The replies of a session without these lines."""
         if refused not in self.known:
             left = [line for place, line in enumerate(self.session.lines) if place not in refused]
-            ran = subprocess.run(self.session.command, input=b''.join(left), capture_output=True, timeout=SECONDS)
+            ran = subprocess.run(self.session.command, input=b"".join(left), capture_output=True, timeout=SECONDS)
             self.known[refused] = [reply_of(answer) for answer in ran.stdout.splitlines(keepends=True)]
         return self.known[refused]
 
@@ -283,10 +289,10 @@ class Answered:
         if not isinstance(end, End):
             return NotImplemented
         answers = end.out.splitlines(keepends=True)
-        is_whole = (end.status, end.err, len(answers)) == (0, b'', len(self.session.lines))
+        is_whole = (end.status, end.err, len(answers)) == (0, b"", len(self.session.lines))
         if not is_whole and (end.status, end.err) != (3, MEMORY.err):
             return False
-        refused = frozenset(place for place, answer in enumerate(answers) if reply_of(answer) == b'error ENOMEM 12\n')
+        refused = frozenset(place for place, answer in enumerate(answers) if reply_of(answer) == b"error ENOMEM 12\n")
         replies = [reply_of(answer) for place, answer in enumerate(answers) if place not in refused]
         return (
             all(takes_memory(self.session.lines[place]) for place in refused)
@@ -297,22 +303,22 @@ class Answered:
 
 def reply_of(answer: bytes) -> bytes:
     """An answer without the user and the number."""
-    return answer if answer.startswith(b'refused') else answer.split(b' ', 2)[2]
+    return answer if answer.startswith(b"refused") else answer.split(b" ", 2)[2]
 
 
 def takes_memory(line: bytes) -> bool:
     """Whether a line is a step that may take memory."""
     step = json.loads(line) if line.strip() else {}
-    kind = step.get('request') or step.get('act') or step.get('op')
-    return kind in ('spawn', 'list', 'install', 'PT_GETLWPLIST', 'leave')
+    kind = step.get("request") or step.get("act") or step.get("op")
+    return kind in ("spawn", "list", "install", "PT_GETLWPLIST", "leave")
 
 
 def numbers_rise(answers: list[bytes]) -> bool:
     """Whether each user's answers are numbered from 1 on."""
     counts: collections.Counter[bytes] = collections.Counter()
     for answer in answers:
-        if not answer.startswith(b'refused'):
-            user, number, _ = answer.split(b' ', 2)
+        if not answer.startswith(b"refused"):
+            user, number, _ = answer.split(b" ", 2)
             counts[user] += 1
             if int(number) != counts[user]:
                 return False
@@ -324,7 +330,7 @@ def numbers_rise(answers: list[bytes]) -> bool:
 
 def slow_pipe(program: str, file: str, text: bytes) -> bool:
     """A pipe that gives a byte at a time to a program that is stopped and continued in between."""
-    with open(file, 'rb') as data:
+    with open(file, "rb") as data:
         given = data.read()
     pipe = subprocess.PIPE
     with subprocess.Popen([program], stdin=pipe, stdout=pipe, stderr=pipe, bufsize=0) as ran:
@@ -341,9 +347,9 @@ def slow_pipe(program: str, file: str, text: bytes) -> bool:
 
 def full_device(program: str, file: str) -> bool:
     """A device with no room."""
-    with open('/dev/full', 'wb') as full:
+    with open("/dev/full", "wb") as full:
         ran = subprocess.run([program, file], stdout=full, stderr=subprocess.PIPE, timeout=SECONDS)
-    return End(ran.returncode, b'', ran.stderr) == cannot_write(b'')
+    return End(ran.returncode, b"", ran.stderr) == cannot_write(b"")
 
 
 def closed_pipe(program: str, file: str) -> bool:
@@ -351,77 +357,100 @@ def closed_pipe(program: str, file: str) -> bool:
     reader, writer = os.pipe()
     os.close(reader)
     try:
-        ran = subprocess.run(
-            [program, file], stdout=writer, stderr=subprocess.PIPE, timeout=SECONDS, restore_signals=False
-        )
+        ran = subprocess.run([program, file], stdout=writer, stderr=subprocess.PIPE, timeout=SECONDS, restore_signals=False)
     finally:
         os.close(writer)
-    return End(ran.returncode, b'', ran.stderr) == cannot_write(b'')
-
-
-def runs_without(program: str) -> dict[str, bool]:
-    """The runs without the shim, and whether each ended as it should."""
-    file, text = row('every_kind_of_step')
-    return {
-        'a pipe that gives a byte at a time': slow_pipe(program, file, text),
-        'a device with no room': full_device(program, file),
-        'a pipe that nobody reads': closed_pipe(program, file),
-    }
+    return End(ran.returncode, b"", ran.stderr) == cannot_write(b"")
 
 
 # ---- refusals
 
 
-def retried_refusals(shim: Shim, program: str) -> Iterator[tuple[str, Run]]:
+def retried_refusals(shim: Shim, program: str) -> Iterator[Run]:
     """A call that is refused is made again: the text is whole, unless all from one on are refused, or too many."""
-    with open('crates/test_no_memory/stdout', 'rb') as stored:
-        text = stored.read()
+    text = (TOP / "crates/test_no_memory/stdout").read_bytes()
     command, done = (program,), whole(text)
-    counts = shim.counts_of(Run(command, b'', {}, (done,)))
+    counts = shim.counts_of(Run(command, b"", {}, (done,)))
     for n in range(1, counts.allocations + 1):
-        yield 'allocations', Run(command, b'', {'ALLOCATION': n}, (done,))
-        yield 'allocations', Run(command, b'', {'ALLOCATION': f'{n}-'}, (GivesUp(text), done))
+        yield Run(command, b"", {"ALLOCATION": n}, (done,))
+        yield Run(command, b"", {"ALLOCATION": f"{n}-"}, (GivesUp(text), done))
     for chance in (1, 2, 3):
         for seed in range(200):
-            yield 'allocations', Run(command, b'', {'CHANCE': chance, 'SEED': seed}, (done, GivesUp(text)))
+            yield Run(command, b"", {"CHANCE": chance, "SEED": seed}, (done, GivesUp(text)))
     for n in range(1, counts.threads + 1):
-        yield 'threads', Run(command, b'', {'THREAD': n}, (done,))
-        yield 'threads', Run(command, b'', {'THREAD': f'{n}-'}, (GivesUp(text),))
+        yield Run(command, b"", {"THREAD": n}, (done,))
+        yield Run(command, b"", {"THREAD": f"{n}-"}, (GivesUp(text),))
 
 
-def runs_of_tracehost(shim: Shim, program: str, room: str) -> Iterator[tuple[str, Run]]:
-    file, text = row('every_kind_of_step')
-    rows = ((file, text, 60), (*row('a_debugger_ends_without_killing'), 20), (*row('a_fork_in_full_tables'), 20))
-    for name, its_text, seeds in rows:
-        for command, shown, faults in ways(program, name, its_text):
-            ends = (whole(shown), *faults)
-            for run in refused_allocations(shim, command, b'', ends, (1, 5, 20), seeds):
-                yield 'allocations', run
-        session = session_of(program, name, its_text)
-        ends = (Answered(session),)
-        for run in refused_allocations(shim, session.command, session.given, ends, (1, 5, 20), seeds):
-            yield 'allocations', run
-        yield from (('reads', run) for run in failing_reads_of_lines(shim, session))
-        yield from (('writes', run) for run in failing_writes_of_lines(session))
-    yield from (('reads', run) for run in failing_reads(shim, program, file, text))
-    yield from (('allocations', run) for run in refused_explanations(shim, program))
-    yield from (('writes', run) for run in failing_writes(program, file, text))
-    yield from (('writes', run) for run in faults_told_in_pieces(program))
-    yield from (('threads', run) for run in refused_threads(program, f'{room}/users.json'))
+# ---- the tests
+
+# the rows, and how often some allocations of each are refused by chance
+SEEDS = {"every_kind_of_step": 60, "a_debugger_ends_without_killing": 20, "a_fork_in_full_tables": 20}
+CHANCES = (1, 5, 20)
+each_row = pytest.mark.parametrize("name", SEEDS)
 
 
-def main() -> None:
-    library, program, *refusals = sys.argv[1:]
-    shim, counts = Shim(library), Counts()
-    with tempfile.TemporaryDirectory() as room:
-        made = check_all(counts, shim, runs_of_tracehost(shim, program, room))
-    counts.check(made >= 3000, f'only {made} runs of tracehost')
-    for name, is_right in runs_without(program).items():
-        counts.check(is_right, name)
-    for name in refusals:
-        check_all(counts, shim, retried_refusals(shim, name))
-    counts.end()
+@pytest.fixture(scope="module")
+def shim(tmp_path_factory: pytest.TempPathFactory) -> Shim:
+    return Shim(tmp_path_factory.mktemp("shim"))
 
 
-if __name__ == '__main__':
-    main()
+@each_row
+@pytest.mark.parametrize("way", WAYS)
+def test_refused_allocations(shim: Shim, program: Path, checks: Checks, name: str, way: str) -> None:
+    command, shown, faults = way_of(way, str(program), *row(name))
+    check_all(checks, shim, refused_allocations(shim, command, b"", (whole(shown), *faults), CHANCES, SEEDS[name]))
+
+
+@each_row
+def test_refused_allocations_line_by_line(shim: Shim, program: Path, checks: Checks, name: str) -> None:
+    session = session_of(str(program), *row(name))
+    ends = (Answered(session),)
+    check_all(checks, shim, refused_allocations(shim, session.command, session.given, ends, CHANCES, SEEDS[name]))
+
+
+@each_row
+def test_failing_reads_line_by_line(shim: Shim, program: Path, checks: Checks, name: str) -> None:
+    check_all(checks, shim, failing_reads_of_lines(shim, session_of(str(program), *row(name))))
+
+
+@each_row
+def test_failing_writes_line_by_line(shim: Shim, program: Path, checks: Checks, name: str) -> None:
+    check_all(checks, shim, failing_writes_of_lines(session_of(str(program), *row(name))))
+
+
+def test_failing_reads(shim: Shim, program: Path, checks: Checks) -> None:
+    check_all(checks, shim, failing_reads(shim, str(program), *row("every_kind_of_step")))
+
+
+def test_failing_writes(shim: Shim, program: Path, checks: Checks) -> None:
+    check_all(checks, shim, failing_writes(str(program), *row("every_kind_of_step")))
+
+
+def test_refused_allocations_of_an_explanation(shim: Shim, program: Path, checks: Checks) -> None:
+    check_all(checks, shim, refused_explanations(shim, str(program)))
+
+
+def test_a_fault_told_in_pieces(shim: Shim, program: Path, checks: Checks) -> None:
+    check_all(checks, shim, faults_told_in_pieces(str(program)))
+
+
+def test_refused_threads(shim: Shim, program: Path, checks: Checks, tmp_path: Path) -> None:
+    check_all(checks, shim, refused_threads(str(program), str(tmp_path / "users.json")))
+
+
+@pytest.mark.skipif(not os.access(REFUSALS, os.X_OK), reason="the program test_no_memory is not built: the gate builds it")
+def test_refused_allocations_and_threads_inside_the_library(shim: Shim, checks: Checks) -> None:
+    check_all(checks, shim, retried_refusals(shim, str(REFUSALS)))
+
+
+def test_a_pipe_that_gives_a_byte_at_a_time(program: Path) -> None:
+    assert slow_pipe(str(program), *row("every_kind_of_step"))
+
+
+def test_a_device_with_no_room(program: Path) -> None:
+    assert full_device(str(program), row("every_kind_of_step")[0])
+
+
+def test_a_pipe_that_nobody_reads(program: Path) -> None:
+    assert closed_pipe(str(program), row("every_kind_of_step")[0])

@@ -1,7 +1,5 @@
 """The clients and the library under attack: false programs, rooms that end at a page which can't be touched, damaged
 answers. TRACEHOST_TEST_SCALE multiplies the number of sessions: 1 takes a minute, and a nightly run has 20.
-
-    python3 -m pytest tests/python/test_hostile_clients.py      with TRACEHOST and TRACEHOST_LIBRARY
 """
 
 from __future__ import annotations
@@ -33,7 +31,6 @@ from tracehost import (  # noqa: E402
 
 SCALE = int(os.environ.get("TRACEHOST_TEST_SCALE", "1"))
 FAULTS = TOP / "clients/c/tests/faults"
-ARCHIVE = pathlib.Path(os.environ["TRACEHOST_LIBRARY"]).parent / "libtracehost.a"
 STRICT = ["-std=c11", "-Wall", "-Wextra", "-Wpedantic", "-Wconversion", "-Werror", "-g", "-O1", "-pthread"]
 SANITIZERS = ["-fsanitize=address,undefined", "-fno-sanitize-recover=all"]
 
@@ -53,9 +50,10 @@ def output(*command: object) -> str:
 
 
 @pytest.mark.parametrize("compiler", [name for name in ("gcc", "clang") if shutil.which(name)])
-def test_the_library_with_guarded_rooms(tmp_path: pathlib.Path, compiler: str) -> None:
+def test_the_library_with_guarded_rooms(library: pathlib.Path, tmp_path: pathlib.Path, compiler: str) -> None:
     """10,000 runs of up to 400 calls on four handles."""
-    guarded = compiled("guarded", tmp_path, f"-I{TOP / 'include'}", TOP / "tests/in_process/guarded.c", ARCHIVE, compiler=compiler)
+    source, archive = TOP / "tests/in_process/guarded.c", library / "libtracehost.a"
+    guarded = compiled("guarded", tmp_path, f"-I{TOP / 'include'}", source, archive, compiler=compiler)
     output(guarded, 0, 10000 * SCALE)
 
 
@@ -112,8 +110,9 @@ class Liar:
         return getattr(self._made, name)
 
 
-def test_the_client_in_python_with_damaged_answers() -> None:
+def test_the_client_in_python_with_damaged_answers(library: pathlib.Path, monkeypatch: pytest.MonkeyPatch) -> None:
     """3,000 sessions of twelve calls: each returns a reply of 32-bit numbers, or raises what its page names."""
+    monkeypatch.setenv("TRACEHOST_LIBRARY", str(library / "libtracehost.so"))
     raised: set[str] = set()
     for seed in range(3000 * SCALE):
         chance = random.Random(seed)

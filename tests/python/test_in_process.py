@@ -1,170 +1,105 @@
-"""The library's lines against those of `tracehost --lines`: test_in_process.py PROGRAM LINES.
-
-LINES is tests/in_process/lines.c, compiled with the library. Also the Python client's typed calls on the library, against
-the same steps as lines of the program. The row files say what the program's lines are.
-
-With --rows as the only word it prints the lines of the row files, as LINES reads them.
+"""The library in the caller's process, include/tracehost.h, by the programs of tests/in_process: codes, rooms, views, copies,
+handles that aren't open, sessions next to each other and in threads, each allocation refused in turn. They run as they
+are, with the compiler's sanitizers, and in valgrind. Also the header in C and C++, and the names that the library has.
 """
 
-import collections
-import json
-import pathlib
-import random
-import subprocess
-import sys
-import unittest
-from collections.abc import Iterable, Iterator
-from typing import Any, ClassVar, NamedTuple
+from __future__ import annotations
 
-TOP = pathlib.Path(__file__).resolve().parents[2]
-sys.path[:0] = [str(TOP / "clients/python"), str(TOP / "clients/python/tests")]
+import os
+import re
+import shutil
+from pathlib import Path
 
-from by_chance import scenario
-from counting import run_unit_tests
-from replay import call, replayed
-from tracehost import Host
+import pytest
+from c_programs import WARNINGS, compiled, output, reads
+from checking import TOP, needs
+from library_programs import OWN, SOURCES, TESTS, WAYS, Programs, present, programs
 
-PROGRAM, LINES = "", ""
-SCENARIOS = 2000
-BATCH = 100  # how many sessions one process of LINES has
-TYPED = 50
-STYLES: list[list[str]] = [[], ["--json"]]
-# the first words of replies in docs/FORMAT.md, section 7, and of a line that is refused
-KINDS = (
-    "ok new number status nothing info lwps pids mask handled stopped caught ended held error refused"
-).split()
+__all__ = ["present", "programs"]  # fixtures
+HEADER = '#include "tracehost.h"\ntracehost h = TRACEHOST_CLOSED;\n'
+OF_C = {"memcpy", "memmove", "memset", "memcmp", "bcmp", "malloc", "realloc", "free"}
+
+pytestmark = needs("cc")
 
 
-class Session(NamedTuple):
-    lines: bytes
-    kill: bool
-
-    @classmethod
-    def of_steps(cls, steps: list[dict[str, Any]], kill: object) -> "Session":
-        return cls(b"".join(line_of(step) for step in steps), bool(kill))
+# ---- the header, and the names: those of the header, and what the library takes of the C library
 
 
-def line_of(step: dict[str, Any]) -> bytes:
-    return json.dumps(step).encode() + b"\n"
+@pytest.mark.parametrize("standard", ["c99", "c11", "c17"])
+def test_the_header_in_c(tmp_path: Path, standard: str) -> None:
+    (tmp_path / "header.c").write_text(HEADER)
+    reads(f"-std={standard}", *WARNINGS, *OWN, tmp_path / "header.c")
 
 
-def rows() -> Iterator[Session]:
-    """The row files and examples that have steps, as they stand: steps that are refused too."""
-    for file in sorted((TOP / "tests/rows").glob("*/*.json")) + sorted((TOP / "examples").glob("*.json")):
-        try:
-            made = json.loads(file.read_bytes())
-        except ValueError:
-            continue
-        if isinstance(made, dict) and isinstance(made.get("steps"), list):
-            yield Session.of_steps(made["steps"], made.get("kill_on_debugger_exit", 1))
+@needs("c++")
+@pytest.mark.parametrize("standard", ["c++11", "c++17"])
+def test_the_header_in_cpp(tmp_path: Path, standard: str) -> None:
+    (tmp_path / "header.c").write_text(HEADER)
+    reads(f"-std={standard}", *WARNINGS, *OWN, "-x", "c++", tmp_path / "header.c", compiler="c++")
 
 
-def without_a_byte(chance: random.Random, line: bytes) -> bytes:
-    """The line without one of its bytes, but for its line feed."""
-    place = chance.randrange(len(line) - 1)
-    return line[:place] + line[place + 1 :]
+def functions() -> set[str]:
+    text = (TOP / "include/tracehost.h").read_text(encoding="utf-8")
+    return set(re.findall(r"^(?:uint32_t |const char \*)(tracehost_[a-z0-9_]+)\(", text, re.MULTILINE))
 
 
-def by_chance(seed: int) -> Session:
-    """A session by chance. One line in fifty lacks a byte, and most of these are no steps."""
-    chance = random.Random(seed)
-    made = scenario(chance)
-    lines = [line_of(step) for step in made["steps"]]
-    for place in chance.sample(range(len(lines)), len(lines) // 50):
-        lines[place] = without_a_byte(chance, lines[place])
-    return Session(b"".join(lines), bool(made["kill_on_debugger_exit"]))
+def names(*words: str | Path) -> set[str]:
+    """The names that nm prints, without the letter and the version of each."""
+    lines = [line.split() for line in output("nm", *words).splitlines()]
+    return {line[-1].split("@")[0] for line in lines if len(line) > 1}
 
 
-def is_step(step: dict[str, object]) -> bool:
-    """Whether a step by chance isn't refused: PT_TRACE_ME has no target."""
-    return step.get("request") != "PT_TRACE_ME" or "target" not in step
+@needs("nm")
+@pytest.mark.parametrize(("name", "words"), [("libtracehost.a", ["--extern-only"]), ("libtracehost.so", ["-D"])])
+def test_the_names_that_it_defines(present: Path, name: str, words: list[str]) -> None:
+    assert functions()
+    assert names("--defined-only", *words, present / name) == functions()
 
 
-def answers(command: list[str], lines: bytes) -> bytes:
-    done = subprocess.run(command, input=lines, stdout=subprocess.PIPE, stderr=subprocess.DEVNULL, timeout=60)
-    assert done.returncode == 0, (command, done.returncode)
-    return done.stdout
+@needs("nm")
+@pytest.mark.parametrize(("name", "words"), [("libtracehost.a", []), ("libtracehost.so", ["-D"])])
+def test_the_names_that_it_needs(present: Path, name: str, words: list[str]) -> None:
+    assert names("--undefined-only", *words, present / name) <= OF_C
 
 
-def of_program(session: Session, style: list[str]) -> list[bytes]:
-    setting = ["--kill-on-debugger-exit", str(int(session.kill))]
-    return answers([PROGRAM, "--lines", "--explain=never", *style, *setting], session.lines).splitlines(keepends=True)
+@needs("objdump")
+def test_its_soname(library: Path) -> None:
+    assert re.search("SONAME *libtracehost.so.1$", output("objdump", "-p", library / "libtracehost.so"), re.MULTILINE)
 
 
-def for_library(sessions: Iterable[Session]) -> bytes:
-    """The lines of sessions, which one process of LINES makes one after the other."""
-    return b"".join(b"\f%d\n" % session.kill + session.lines for session in sessions)
+@pytest.mark.parametrize("name", ["libtracehost.so", "libtracehost.a"])
+def test_no_path_of_this_machine_is_in_it(library: Path, name: str) -> None:
+    assert os.fsencode(TOP) not in (library / name).read_bytes()
 
 
-class InProcess(unittest.TestCase):
-    kinds: ClassVar[collections.Counter[str]] = collections.Counter()
-
-    def compare(self, sessions: list[Session], first: int = 0) -> None:
-        """Compares the bytes of each session, in words and as objects. `first` is the number of the first one."""
-        for style in STYLES:
-            made = answers([LINES, *style], for_library(sessions)).splitlines(keepends=True)
-            for number, session in enumerate(sessions, first):
-                wanted = of_program(session, style)
-                with self.subTest(number=number, style=style):
-                    self.assertEqual(wanted, made[: len(wanted)])
-                del made[: len(wanted)]
-                if not style:
-                    self.kinds.update(kind_of(line) for line in wanted)
-            self.assertEqual(made, [])
-
-    def test_the_row_files(self) -> None:
-        sessions = list(rows())
-        self.assertGreater(len(sessions), 100)
-        self.compare(sessions)
-
-    def test_scenarios_by_chance(self) -> None:
-        """Each kind of reply is among them, and refused lines."""
-        self.kinds.clear()
-        for first in range(0, SCENARIOS, BATCH):
-            self.compare([by_chance(seed) for seed in range(first, first + BATCH)], first)
-        self.assertEqual([kind for kind in KINDS if self.kinds[kind] == 0], [])
-        self.assertLessEqual(set(self.kinds), set(KINDS))
-
-    def test_lines_that_are_no_steps(self) -> None:
-        spawn = b'{"user":1001,"op":"spawn"}'
-        lines = [b"", b" ", spawn, spawn + b"\r", b"\xff", b"{", spawn + spawn, b"\0", spawn.replace(b"1001", b"1065")]
-        lines += [b" " * (65536 - len(spawn)) + spawn, b" " * (65537 - len(spawn)) + spawn, b"[" * 200, spawn]
-        self.compare([Session(b"\n".join(lines), True)])
-
-    def test_typed_calls_from_python(self) -> None:
-        for seed in range(SCENARIOS, SCENARIOS + TYPED):
-            made = scenario(random.Random(seed))
-            steps = [step for step in made["steps"] if is_step(step)]
-            session = Session.of_steps(steps, made["kill_on_debugger_exit"])
-            with self.subTest(seed=seed), Host(transport="library", kill_on_debugger_exit=session.kill) as host:
-                self.assertEqual(replayed(host, steps, call), b"".join(of_program(session, [])).decode().splitlines())
+# ---- the programs
 
 
-    def test_views_over_a_pipe(self) -> None:
-        """A user's rows over a pipe are those over the library after the same steps, wherever they are asked for."""
-        for seed in range(SCENARIOS + TYPED, SCENARIOS + 2 * TYPED):
-            made = scenario(random.Random(seed))
-            kill = bool(made["kill_on_debugger_exit"])
-            library = Host(transport="library", kill_on_debugger_exit=kill)
-            pipe = Host(PROGRAM, transport="pipe", kill_on_debugger_exit=kill)
-            with self.subTest(seed=seed), library, pipe:
-                for number, step in enumerate(made["steps"]):
-                    text = json.dumps(step)
-                    self.assertEqual(library.line(text), pipe.line(text))
-                    if number % 25 == seed % 25:
-                        for uid in (1001, 1002, 1064):
-                            self.assertEqual(library.user(uid).view(), pipe.user(uid).view())
+@pytest.mark.parametrize("name", [*TESTS, "unwind"])
+@pytest.mark.parametrize("way", ["plain", "sanitizers"])
+def test_it_compiles_without_a_warning(programs: Programs, way: str, name: str) -> None:
+    assert programs(name, *WAYS[way].flags).exists()
 
 
-def kind_of(line: bytes) -> str:
-    """The word that begins the reply of a line in words."""
-    words = line.decode().split()
-    return words[0] if words[0] == "refused" else words[2]
+@pytest.mark.parametrize("name", [name for name in TESTS if name != "lines"])
+@pytest.mark.parametrize("way", WAYS)
+def test_program(programs: Programs, way: str, name: str) -> None:
+    how = WAYS[way]
+    if how.before and shutil.which(how.before[0]) is None:
+        pytest.skip(f"not installed: {how.before[0]}")
+    output(*how.before, programs(name, *how.flags), *how.words(name))
 
 
-if __name__ == "__main__":
-    if sys.argv[1:] == ["--rows"]:
-        sys.stdout.buffer.write(for_library(rows()))
-    else:
-        PROGRAM, LINES = sys.argv[1:]
-        run_unit_tests()
+def test_an_unwinder_finds_main(programs: Programs) -> None:
+    output(programs("unwind", *WAYS["plain"].flags))
+
+
+@needs("valgrind")
+def test_threads_have_no_race(programs: Programs) -> None:
+    output("valgrind", "-q", "--tool=helgrind", "--error-exitcode=1", programs("threads", *WAYS["plain"].flags), 100)
+
+
+def test_the_shared_object(library: Path, tmp_path: Path) -> None:
+    made = compiled(tmp_path / "shared", "-std=c11", *OWN, SOURCES / "agree.c", library / "libtracehost.so")
+    (tmp_path / "libtracehost.so.1").symlink_to(library / "libtracehost.so")
+    output(made, 20000, environment={"LD_LIBRARY_PATH": str(tmp_path)})

@@ -2,6 +2,7 @@
 environment but PATH and HOME. What is installed is used without LD_LIBRARY_PATH.
 
     python3 -m pytest tests/python/test_install.py
+    python3 -m pytest tests/python/test_install.py --debian     in a fresh Debian too, for some ten minutes more
 """
 
 from __future__ import annotations
@@ -15,6 +16,7 @@ import sys
 from collections.abc import Iterator, Mapping
 
 import pytest
+from places import Debian, Place, rust
 from stranger import NONE, PATH, TOP, block, clone, copy, needs, run, shell
 
 __all__ = ["clone"]  # a fixture
@@ -23,49 +25,71 @@ BUILDS = "import venv, ensurepip, setuptools; assert int(setuptools.__version__.
 
 
 class Installed:
-    """A prefix, and a folder to work in."""
+    """A prefix in a place, and a folder to work in."""
 
-    def __init__(self, prefix: pathlib.Path, room: pathlib.Path) -> None:
-        self.prefix, self.room = prefix, room
-        self.environment = {
+    def __init__(self, place: Place, prefix: str, known: bool = False) -> None:
+        """`known`: a prefix of which the system's linker, pkg-config and CMake know."""
+        self.place, self.prefix, self.room = place, prefix, f"{place.home}/work{'_of_root' if known else ''}"
+        self.environment = {} if known else {
             "PATH": f"{prefix}/bin:{PATH}",
             "PKG_CONFIG_PATH": f"{prefix}/lib/pkgconfig:{prefix}/share/pkgconfig",
-            "CMAKE_PREFIX_PATH": str(prefix),
-        }
+            "CMAKE_PREFIX_PATH": prefix,
+        }  # fmt: skip
 
-    def shell(self, text: str) -> str:
-        return shell(text, self.room, self.environment)
+    def shell(self, code: str, environment: Mapping[str, str] = NONE) -> str:
+        return self.place.shell(code, self.room, {**self.environment, **environment})
 
     def write(self, name: str, text: str) -> None:
-        (self.room / name).parent.mkdir(parents=True, exist_ok=True)
-        (self.room / name).write_text(text)
+        self.place.write(f"{self.room}/{name}", text)
+
+    def files(self) -> list[pathlib.Path]:
+        return [path for path in self.place.outside(self.prefix).rglob("*") if not path.is_symlink()]
 
 
-@pytest.fixture(scope="module", params=["plain", "spaces, umask 077, CFLAGS"])
-def installed(request: pytest.FixtureRequest, clone: pathlib.Path, tmp_path_factory: pytest.TempPathFactory) -> Iterator[Installed]:
-    """`make install PREFIX=..`, twice, as an update is; `make uninstall` leaves nothing."""
-    room = tmp_path_factory.mktemp("home")
-    plain = request.param == "plain"
-    prefix = room / (".local" if plain else "a prefix")
-    flags = {} if plain else {"CFLAGS": "-O2 -Wconversion -Wshadow"}
+HERE = ["plain", "spaces, umask 077, CFLAGS"]
+DEBIAN = ["Debian, by root into /usr/local", "Debian, into ~/.local"]
+
+
+def pytest_generate_tests(metafunc: pytest.Metafunc) -> None:
+    """--debian adds a fresh Debian."""
+    if "installed" in metafunc.fixturenames:
+        layouts = [*HERE, *(DEBIAN if metafunc.config.getoption("--debian") else [])]
+        metafunc.parametrize("installed", layouts, indirect=True, scope="module")
+
+
+@pytest.fixture(scope="module")
+def debian(tmp_path_factory: pytest.TempPathFactory) -> Debian:
+    return Debian(tmp_path_factory.mktemp("fresh"))
+
+
+@pytest.fixture(scope="module")
+def installed(request: pytest.FixtureRequest, tmp_path_factory: pytest.TempPathFactory) -> Iterator[Installed]:
+    """`make install`, twice, as an update is; `make uninstall` leaves nothing."""
+    layout: str = request.param
+    place = request.getfixturevalue("debian") if layout in DEBIAN else Place(tmp_path_factory.mktemp("home"))
+    known = layout == DEBIAN[0]
+    prefix = "/usr/local" if known else f"{place.home}/{'a prefix' if layout == HERE[1] else '.local'}"
+    words = "" if known else f" PREFIX='{prefix}'"
+    odd = layout == HERE[1]
+    flags = {"CFLAGS": "-O2 -Wconversion -Wshadow"} if odd else NONE
     for _ in range(2):
-        shell(f"umask {'022' if plain else '077'}; make install PREFIX='{prefix}'", clone, flags)
-    work = room / "work"
-    work.mkdir()
-    yield Installed(prefix, work)
-    shell(f"make uninstall PREFIX='{prefix}'", clone)
-    assert [path for path in prefix.rglob("*") if not path.is_dir() or "tracehost" in path.name] == []
+        place.shell(f"umask {'077' if odd else '022'}; make install{words}", place.clone, flags, root=known)
+    made = Installed(place, prefix, known)
+    made.write("empty", "")
+    yield made
+    place.shell(f"make uninstall{words}", place.clone, root=known)
+    left = place.outside(prefix).rglob("*")
+    assert [path for path in left if "tracehost" in path.name or not (known or path.is_dir())] == []
 
 
 def test_everybody_may_read_what_is_installed(installed: Installed) -> None:
-    for path in (installed.prefix / "x").parent.rglob("*"):
-        if not path.is_symlink():
-            assert path.stat().st_mode & 0o444 == 0o444, path
-            assert not path.is_dir() or path.stat().st_mode & 0o111 == 0o111, path
+    for path in installed.files():
+        assert path.stat().st_mode & 0o444 == 0o444, path
+        assert not path.is_dir() or path.stat().st_mode & 0o111 == 0o111, path
 
 
 def test_the_program(installed: Installed) -> None:
-    printed = installed.shell(f"tracehost '{TOP}/examples/first.json'")
+    printed = installed.shell(f"tracehost '{installed.place.clone}/examples/first.json'")
     assert printed == (TOP / "examples/first.out").read_text()
 
 
@@ -74,7 +98,7 @@ def test_c_with_the_library(installed: Installed) -> None:
     """The command of docs/INSTALL.md, and the program starts without LD_LIBRARY_PATH."""
     command = "cc prog.c $(pkg-config --cflags --libs tracehost)"
     assert f"    {command}\n" in INSTALL
-    installed.write("prog.c", block("IN_PROCESS.md", "c"))
+    installed.write("prog.c", block("CLIENTS.md", "c", 1))
     installed.shell(evaluated(command))
     assert installed.shell("./a.out") == "1001 stopped: word 4479\n"
 
@@ -84,7 +108,7 @@ def test_c_with_the_client(installed: Installed) -> None:
     command = "cc prog.c $(pkg-config --cflags tracehost-client) $(pkg-config --variable=source tracehost-client)"
     assert f"    {command}\n" in INSTALL
     installed.write("prog.c", block("CLIENTS.md", "c"))
-    if " " in str(installed.prefix):  # the variable has no quotes
+    if " " in installed.prefix:  # the variable has no quotes
         command = command.replace("$(pkg-config --variable=source tracehost-client)", '\\"$SOURCE\\"')
         command = f"SOURCE=$(pkg-config --variable=source tracehost-client); {evaluated(command)}"
     installed.shell(command)
@@ -98,18 +122,18 @@ def evaluated(command: str) -> str:
 
 @needs("c++", "pkg-config")
 def test_cpp(installed: Installed) -> None:
-    installed.write("prog.cpp", block("IN_PROCESS.md", "cpp"))
+    installed.write("prog.cpp", block("CLIENTS.md", "cpp"))
     installed.shell('eval "c++ -std=c++11 prog.cpp $(pkg-config --cflags --libs tracehost)"')
     assert installed.shell("./a.out") == "4479\n"
 
 
 @needs("cmake", "cc", "make")
-@pytest.mark.parametrize("target, page, wanted", [
-    ("tracehost::tracehost", "IN_PROCESS.md", "1001 stopped: word 4479\n"),
-    ("tracehost::archive", "IN_PROCESS.md", "1001 stopped: word 4479\n"),
-    ("tracehost::client", "CLIENTS.md", "1001 stopped: SIGSTOP\n"),
+@pytest.mark.parametrize("target, count, wanted", [
+    ("tracehost::tracehost", 1, "1001 stopped: word 4479\n"),
+    ("tracehost::archive", 1, "1001 stopped: word 4479\n"),
+    ("tracehost::client", 0, "1001 stopped: SIGSTOP\n"),
 ])  # fmt: skip
-def test_cmake(installed: Installed, target: str, page: str, wanted: str) -> None:
+def test_cmake(installed: Installed, target: str, count: int, wanted: str) -> None:
     """The lines of docs/INSTALL.md, with each target that they name."""
     lines = block("INSTALL.md", "cmake")
     assert target in lines
@@ -117,7 +141,7 @@ def test_cmake(installed: Installed, target: str, page: str, wanted: str) -> Non
     room = target.replace(":", "_")
     head = "cmake_minimum_required(VERSION 3.12)\nproject(prog C)\nadd_executable(prog prog.c)\n"
     installed.write(f"{room}/CMakeLists.txt", head + lines)
-    installed.write(f"{room}/prog.c", block(page, "c"))
+    installed.write(f"{room}/prog.c", block("CLIENTS.md", "c", count))
     installed.shell(f"cmake -S {room} -B {room}/out && cmake --build {room}/out")
     assert installed.shell(f"{room}/out/prog 2>/dev/null") == wanted
 
@@ -134,26 +158,83 @@ def test_versions_in_cmake(installed: Installed, version: str, found: bool) -> N
     assert f"found: {int(found)}" in installed.shell(f"cmake -S {room} -B {room}/out")
 
 
+@needs("meson", "ninja", "cc", "pkg-config")
+def test_meson(installed: Installed) -> None:
+    """As docs/INSTALL.md says: `dependency('tracehost')` finds the library by pkg-config."""
+    assert "In Meson `dependency('tracehost')` finds the library by pkg-config." in INSTALL
+    installed.write(
+        "meson/meson.build",
+        """project('prog', 'c')
+executable('inside', 'inside.c', dependencies: dependency('tracehost'))
+""",
+    )
+    installed.write("meson/inside.c", block("CLIENTS.md", "c", 1))
+    installed.shell("meson setup meson/out meson && ninja -C meson/out")
+    assert installed.shell("meson/out/inside") == "1001 stopped: word 4479\n"
+
+
+@pytest.mark.skipif(shutil.which("cargo") is None, reason="not installed: cargo")
+def test_rust(installed: Installed) -> None:
+    """The program of clients/rust/README.md, in a package that depends on the clone's crate, as that page says."""
+    readme = (TOP / "clients/rust/README.md").read_text(encoding="utf-8")
+    code, printed, depends = (readme.split(f"```{kind}\n")[1].split("```")[0] for kind in ("rust", "text", "toml"))
+    depends = depends.replace("../tracehost", installed.place.clone)
+    installed.write("rust/Cargo.toml", f'[package]\nname = "prog"\nversion = "0.1.0"\nedition = "2021"\n{depends}')
+    installed.write("rust/src/main.rs", code)
+    assert installed.shell("cd rust && cargo run --offline --quiet", rust(installed.place)) == printed
+
+
+@needs("python3")
+def test_python(installed: Installed) -> None:
+    """The commands of docs/INSTALL.md for Debian's pip, then README's ten lines, and a test of docs/CLIENTS.md."""
+    commands = "python3 -m venv --system-site-packages env\n    env/bin/pip install --no-build-isolation ./clients/python"
+    assert f"    {commands}\n" in INSTALL
+    place = installed.place
+    place.shell(" && ".join(line.strip() for line in commands.splitlines()), place.clone)
+    python = f"'{place.clone}/env/bin/python'"
+    readme = (TOP / "README.md").read_text(encoding="utf-8")
+    installed.write("ten.py", readme.split("```python\n")[1].split("```")[0])
+    wanted = readme.split("```python\n")[1].split("prints\n\n")[1].split("\n\n")[0]
+    assert place.shell(f"{python} ten.py", installed.room) == re.sub("^    ", "", wanted, flags=re.MULTILINE) + "\n"
+    installed.write("test_attach.py", block("CLIENTS.md", "python", 3))
+    assert "# test_attach.py" in installed.place.read(f"{installed.room}/test_attach.py")
+    assert "2 passed" in place.shell(f"{python} -m pytest -q -p no:cacheprovider test_attach.py", installed.room)
+
+
 @needs("cc", "python3", "pkg-config")
 def test_c_for_freebsd(installed: Installed) -> None:
     """tracehost-cc, tracehost-run, and pkg-config's flags of docs/POSIX.md."""
-    shutil.copy(TOP / "clients/posix/examples/traced.c", installed.room)
+    installed.write("traced.c", (TOP / "clients/posix/examples/traced.c").read_text())
     installed.shell("tracehost-cc -o traced traced.c && tracehost-run ./traced")
     flags = 'eval "cc $(pkg-config --cflags tracehost-posix) -o traced traced.c $(pkg-config --libs tracehost-posix)"'
     installed.shell(f"{flags} && tracehost-run ./traced")
 
 
+@needs("cc", "python3")
+def test_a_race(installed: Installed) -> None:
+    """It is found by the commands of docs/POSIX.md, and leaves a page."""
+    races = f"{installed.place.clone}/clients/posix/races"
+    said = installed.shell(
+        f"tracehost-cc -g -o lost_wakeup '{races}/lost_wakeup.c' &&"
+        " tracehost-run --schedules 300 --record run.json ./lost_wakeup; test $? -eq 1"
+    )
+    assert "tracehost-run: of its 2 switches 1 is enough: --switches 100000.61:100001" in said
+    assert installed.shell("tracehost --expect run.json.lines run.json") == ""
+    assert installed.place.read(f"{installed.room}/run.json.html").rstrip().endswith("</html>")
+
+
 @needs("python3")
 def test_the_viewer(installed: Installed) -> None:
-    installed.shell(f"tracehost --json=trace '{TOP}/examples/first.json' | tracehost-view -o page.html - ")
-    assert (installed.room / "page.html").read_text().rstrip().endswith("</html>")
-    installed.shell(f"tracehost --json=trace '{TOP}/examples/first.json' | tracehost-perfetto - >trace")
+    trace = f"tracehost --json=trace '{installed.place.clone}/examples/first.json'"
+    installed.shell(f"{trace} | tracehost-view -o page.html - ")
+    assert installed.place.read(f"{installed.room}/page.html").rstrip().endswith("</html>")
+    installed.shell(f"{trace} | tracehost-perfetto - >trace")
 
 
 @needs("bash")
 def test_completions(installed: Installed) -> None:
     """For all five commands, from the folder that bash-completion looks into; options come from each command's --help."""
-    folder = installed.prefix / "share/bash-completion/completions"
+    folder = f"{installed.prefix}/share/bash-completion/completions"
     for name, option in (("tracehost", "--explain"), ("tracehost-run", "--seed"), ("tracehost-view", "--title")):
         words = f"COMP_WORDS=('{installed.prefix}/bin/{name}' '{option[:4]}') COMP_CWORD=1"
         code = f"""source '{folder}/{name}'
@@ -161,10 +242,11 @@ def test_completions(installed: Installed) -> None:
             {words}
             $(complete -p {name} | sed 's/.*-F \\([^ ]*\\).*/\\1/') '{installed.prefix}/bin/{name}'
             printf '%s\\n' "${{COMPREPLY[@]}}" """
-        assert option in run(["bash", "--norc", "-c", code], installed.room, installed.environment).split(), name
-    assert (folder / "tracehost-perfetto").exists() and (folder / "tracehost-cc").exists()
+        assert option in installed.shell(code).split(), name
+    for name in ("tracehost-perfetto", "tracehost-cc"):
+        assert installed.place.outside(f"{folder}/{name}").exists()
     for name in ("_tracehost", "_tracehost-commands"):
-        assert (installed.prefix / "share/zsh/site-functions" / name).exists()
+        assert installed.place.outside(f"{installed.prefix}/share/zsh/site-functions/{name}").exists()
 
 
 # ---- clones
@@ -176,11 +258,13 @@ def test_a_subproject_of_meson(clone: pathlib.Path, tmp_path: pathlib.Path) -> N
     (tmp_path / "subprojects").mkdir()
     (tmp_path / "subprojects/tracehost").symlink_to(clone)
     (tmp_path / "subprojects/tracehost.wrap").write_text(block("INSTALL.md", "ini"))
-    (tmp_path / "meson.build").write_text("""project('prog', 'c')
+    (tmp_path / "meson.build").write_text(
+        """project('prog', 'c')
 executable('inside', 'inside.c', dependencies: dependency('tracehost', allow_fallback: true))
 executable('client', 'client.c', dependencies: dependency('tracehost-client', allow_fallback: true))
-""")
-    (tmp_path / "inside.c").write_text(block("IN_PROCESS.md", "c"))
+"""
+    )
+    (tmp_path / "inside.c").write_text(block("CLIENTS.md", "c", 1))
     (tmp_path / "client.c").write_text(block("CLIENTS.md", "c"))
     shell("meson setup out && ninja -C out", tmp_path)
     assert run(["out/inside"], tmp_path) == "1001 stopped: word 4479\n"
@@ -189,7 +273,7 @@ executable('client', 'client.c', dependencies: dependency('tracehost-client', al
 
 
 def test_a_clone_that_cannot_be_written(clone: pathlib.Path, tmp_path: pathlib.Path) -> None:
-    """tracehost-cc builds its runtime below XDG_CACHE_HOME."""
+    """tracehost-cc builds its runtime and the broker below XDG_CACHE_HOME."""
     view = tmp_path / "read only"
     view.mkdir()
     mount = f"mount --bind '{clone}' '{view}' && mount -o remount,bind,ro '{view}'"
@@ -197,8 +281,9 @@ def test_a_clone_that_cannot_be_written(clone: pathlib.Path, tmp_path: pathlib.P
         pytest.skip("this user can't make a read-only mount")
     shutil.copy(clone / "clients/posix/examples/traced.c", tmp_path)
     script = f"""{mount} && rm -rf '{clone}/clients/posix/build' && cd '{tmp_path}' &&
+        export XDG_CACHE_HOME='{tmp_path}/a cache' &&
         '{view}/tracehost' '{view}/examples/first.json' &&
-        XDG_CACHE_HOME='{tmp_path}/a cache' '{view}/clients/posix/tracehost-cc' -o traced traced.c &&
+        '{view}/clients/posix/tracehost-cc' -o traced traced.c &&
         TRACEHOST=$('{view}/tools/program') '{view}/clients/posix/tracehost-run' ./traced"""
     printed = run(["unshare", "-m", "sh", "-c", script], tmp_path)
     assert printed.startswith((TOP / "examples/first.out").read_text())
@@ -247,6 +332,6 @@ def test_the_usage_of_tools_deb(clone: pathlib.Path) -> None:
 
 
 def test_no_page_names_a_version_in_a_command() -> None:
-    for page in [*(TOP / "docs").glob("*.md"), TOP / "README.md", *(TOP / "clients").rglob("README.md")]:
+    for page in [*(TOP / "docs").rglob("*.md"), TOP / "README.md", *(TOP / "clients").rglob("README.md")]:
         for line in page.read_text(encoding="utf-8").splitlines():
             assert not re.match(r"    .*tracehost[_-]\d+\.\d+\.\d+", line), (page, line)

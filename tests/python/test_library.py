@@ -1,31 +1,35 @@
-"""Compares docs/LIBRARY.md and docs/LIBRARY_THREADS.md with the sources and the stored outputs of their examples,
-crates/examples_smallest and crates/examples_library.
+"""docs/internals/LIBRARY.md shows the sources of its example, crates/examples_library, and its stored output."""
 
-    python3 tests/python/test_library.py
-"""
+from __future__ import annotations
 
-import pathlib
 import re
+from pathlib import Path
 
-from counting import Counts
+import pytest
 
-examples = [pathlib.Path("crates/examples_smallest"), pathlib.Path("crates/examples_library")]
-sources = [path.read_text(encoding="utf-8") for example in examples for path in sorted((example / "src").glob("*.rt"))]
-stored = "".join((example / "stdout").read_text(encoding="utf-8") for example in examples)
-pages = [pathlib.Path(page).read_text(encoding="utf-8") for page in ("docs/LIBRARY.md", "docs/LIBRARY_THREADS.md")]
-counts = Counts()
+TOP = Path(__file__).resolve().parents[2]
+EXAMPLE = TOP / "crates/examples_library"
+SOURCES = {str(path.relative_to(TOP)): path.read_text(encoding="utf-8") for path in sorted((EXAMPLE / "src").glob("*.rt"))}
+PAGE = (TOP / "docs/internals/LIBRARY.md").read_text(encoding="utf-8")
+BLOCKS = re.findall(r"^```rust\n(.*?)^```$", PAGE, re.MULTILINE | re.DOTALL)
 
-blocks = re.findall(r"^```rust\n(.*?)^```$", "".join(pages), re.M | re.S)
-for block in blocks:
-    counts.check(any(block in source for source in sources), f"a block of Rust that isn't in the examples:\n{block}")
 
-# a reader can copy the pages: their blocks have every line of the sources but the first comment
-shown = "".join(blocks).replace("\n", "")
-for source in sources:
-    code = re.sub(r"^(//!.*\n)+", "", source).replace("\n", "")
-    counts.check(code in shown, f"docs/LIBRARY.md and LIBRARY_THREADS.md don't show the whole of\n{source}")
+def named(blocks: list[str]) -> list[object]:
+    return [pytest.param(block, id=f"{number}: {block.splitlines()[0]}") for number, block in enumerate(blocks, 1)]
 
-# each example's output in the order of the pages is the whole of the stored outputs
-outputs = "".join(re.findall(r"^```text\n(.*?)^```$", "".join(pages), re.M | re.S))
-counts.check(outputs == stored, "the outputs on the pages aren't the examples' files stdout")
-counts.end()
+
+@pytest.mark.parametrize("block", named(BLOCKS))
+def test_a_block_is_in_the_example(block: str) -> None:
+    assert any(block in source for source in SOURCES.values())
+
+
+@pytest.mark.parametrize("name", SOURCES)
+def test_the_page_links_a_source(name: str) -> None:
+    """A reader finds the rest of each file."""
+    assert f"](../../{name})" in PAGE
+
+
+def test_the_outputs_are_the_stored_ones() -> None:
+    """In the order of the page."""
+    stored = (EXAMPLE / "stdout").read_text(encoding="utf-8")
+    assert "".join(re.findall(r"^```text\n(.*?)^```$", PAGE, re.MULTILINE | re.DOTALL)) == stored

@@ -1,17 +1,14 @@
 """Programs that were linked with the last release's library run with the present one: no call and no struct has changed.
 
-    python3 -m pytest tests/python/test_library_abi.py
     python3 tests/python/test_library_abi.py      writes the present interface to library/tracehost.abi, for a release
 
 library/tracehost.abi is the interface of the last release, as abidw writes it. The present one is read from the debug
-information of stand-ins, one for each call of include/tracehost.h. The library is that of
-$TRACEHOST_LIB_DIR, else the release's.
+information of stand-ins, one for each call of include/tracehost.h.
 """
 
 from __future__ import annotations
 
 import ctypes
-import os
 import pathlib
 import platform
 import re
@@ -24,10 +21,9 @@ import pytest
 
 TOP = pathlib.Path(__file__).resolve().parents[2]
 RELEASE = TOP / f"release/{platform.machine()}-linux"
-LIBRARY = pathlib.Path(os.environ.get("TRACEHOST_LIB_DIR", RELEASE)).resolve() / "libtracehost.so"
 sys.path.insert(0, str(TOP / "clients/python"))
 
-from tracehost import library  # noqa: E402
+from tracehost import library as client  # noqa: E402
 
 # a pointer and a tag; and so many words of 32 bits
 SIZES = {
@@ -90,8 +86,8 @@ def test_a_changed_struct_is_found(was: str, now: str, tmp_path: pathlib.Path) -
 
 @needs_abidiff
 @pytest.mark.skipif(not (RELEASE / "libtracehost.so").exists(), reason="there is no release for this machine")
-def test_the_library_exports_what_the_last_release_did() -> None:
-    count, said = changes(RELEASE / "libtracehost.so", LIBRARY)
+def test_the_library_exports_what_the_last_release_did(library: pathlib.Path) -> None:
+    count, said = changes(RELEASE / "libtracehost.so", library / "libtracehost.so")
     assert count == 0, said
 
 
@@ -103,7 +99,7 @@ def test_the_sizes_of_the_header(tmp_path: pathlib.Path) -> None:
 
 
 def test_the_structs_of_the_python_client() -> None:
-    structs = (library.Handle, library.Reply, library.CRule, library.CProcess, library.CLwp)
+    structs = (client.Handle, client.Reply, client.CRule, client.CProcess, client.CLwp)
     assert [ctypes.sizeof(struct) for struct in structs] == list(SIZES.values())
 
 

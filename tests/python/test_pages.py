@@ -1,9 +1,7 @@
 """The commands that pages show print what follows them there. They run in a copy of this repository, as a reader runs them.
 
-    python3 -m pytest tests/python/test_pages.py
-
-`..` is any text. The commands that install are those of test_install.py, test_fresh_root.py and tests/pip.sh, and
-tests/cookbook.sh runs those of the cookbook.
+`..` is any text. The commands that install are those of test_install.py and test_pip.py, and test_cookbook.py runs those of
+the cookbook.
 """
 
 from __future__ import annotations
@@ -17,7 +15,7 @@ import pytest
 from stranger import PATH, TOP, clone, needs, run
 
 __all__ = ["clone"]  # a fixture
-SUITE = "PLANT=coalesce ./test_suite"  # by tests/clients.sh, which has compiled it
+SUITE = "PLANT=coalesce ./test_suite"  # by test_clients_examples.py, which has compiled it
 SHELL = "python -m tracehost"
 
 
@@ -77,7 +75,9 @@ class Reader:
         return printed
 
 
-PAGES = [page for page in ("README.md", *(f"docs/{path.name}" for path in sorted(TOP.glob("docs/*.md")))) if shown(page)]
+NAMES = ["README.md", *(str(path.relative_to(TOP)) for path in sorted(TOP.glob("docs/**/*.md")))]
+APART = "docs/TUTORIAL.md"  # by test_tutorial.py, which writes the files that its commands need
+PAGES = [page for page in NAMES if shown(page) and page != APART]
 
 
 @needs("cc", "g++", "make", "addr2line", "python3")
@@ -95,9 +95,21 @@ def test_a_page(clone: pathlib.Path, tmp_path: pathlib.Path, page: str) -> None:
 def test_the_commands_of_the_viewer(clone: pathlib.Path, tmp_path: pathlib.Path) -> None:
     """They print nothing, and leave a page, and a file for Perfetto."""
     reader = Reader(clone, tmp_path)
-    commands = [line for block in blocks("docs/VIEWER.md") for line in block.splitlines() if re.match(r"\./|viewer/make trace", line)]
+    commands = [
+        line for block in blocks("docs/VIEWER.md") for line in block.splitlines() if re.match(r"\./|viewer/make trace", line)
+    ]
     assert len(commands) == 3
     for command in commands:
         assert reader.types(command) == Printed("", 0)
     assert (clone / "page.html").read_text(encoding="utf-8").rstrip().endswith("</html>")
     assert (clone / "fork.json").read_text(encoding="utf-8").startswith("{")
+
+
+def test_the_session_of_the_format(program: pathlib.Path) -> None:
+    """The scenario at the end of section 9 prints the lines after it."""
+    text = (TOP / "docs/FORMAT.md").read_text(encoding="utf-8").partition("\n## 9. ")[2].partition("\n## ")[0]
+    scenario, lines = (
+        re.sub(r"^    ", "", block, flags=re.MULTILINE) for block in re.findall(r"(?:^    .*\n)+", text, re.MULTILINE)
+    )
+    done = subprocess.run([program], input=scenario, stdout=subprocess.PIPE, text=True, check=True)
+    assert done.stdout == lines

@@ -11,10 +11,9 @@ import subprocess
 import time
 
 import pytest
+from posix_kit import CC, POSIX, RUN, Posix
 
-TOP = pathlib.Path(__file__).resolve().parents[2]
-POSIX = TOP / "clients" / "posix"
-RUN = POSIX / "tracehost-run"
+pytestmark = pytest.mark.usefixtures("posix")
 
 PAST_THE_RUNTIME = r"""
 #include <dlfcn.h>
@@ -131,19 +130,21 @@ int main(int argc, char **argv)
 
 
 def run(*words: object, **environment: str) -> subprocess.CompletedProcess[str]:
-    return subprocess.run([str(word) for word in words], capture_output=True, text=True, timeout=120, env=dict(os.environ, **environment))
+    return subprocess.run(
+        [str(word) for word in words], capture_output=True, text=True, timeout=120, env=dict(os.environ, **environment)
+    )
 
 
 def compiled(folder: pathlib.Path, name: str, text: str, *options: str, compiler: str = "cc") -> pathlib.Path:
     source = folder / f"{name}.{'cpp' if '++' in compiler else 'c'}"
     source.write_text(text)
-    done = run(POSIX / "tracehost-cc", "-g", "-w", *options, "-o", folder / name, source, CC=compiler)
+    done = run(CC, "-g", "-w", *options, "-o", folder / name, source, CC=compiler)
     assert done.returncode == 0, done.stderr
     return folder / name
 
 
 @pytest.fixture(scope="module")
-def folder(tmp_path_factory: pytest.TempPathFactory) -> pathlib.Path:
+def folder(posix: Posix, tmp_path_factory: pytest.TempPathFactory) -> pathlib.Path:
     made = tmp_path_factory.mktemp("programs")
     compiled(made, "past", PAST_THE_RUNTIME)
     compiled(made, "odd", ODD)
@@ -192,9 +193,9 @@ def test_an_object_and_a_library_of_another_compiler_are_told(tmp_path: pathlib.
     assert run("cc", "-shared", "-fPIC", "-o", tmp_path / "libown.so", source).returncode == 0
     main = tmp_path / "main.c"
     main.write_text("int own(void); int main(int argc, char **argv) { return argc > 1 ? own() : 0; }\n")
-    done = run(POSIX / "tracehost-cc", "-o", tmp_path / "with_object", main, tmp_path / "own.o")
+    done = run(CC, "-o", tmp_path / "with_object", main, tmp_path / "own.o")
     assert done.returncode == 0 and "own.o calls fork of the host" in done.stderr
-    done = run(POSIX / "tracehost-cc", "-o", tmp_path / "with_library", main, f"-L{tmp_path}", "-lown", f"-Wl,-rpath,{tmp_path}")
+    done = run(CC, "-o", tmp_path / "with_library", main, f"-L{tmp_path}", "-lown", f"-Wl,-rpath,{tmp_path}")
     assert (done.returncode, done.stderr) == (0, "")
     done = run(RUN, tmp_path / "with_library")
     assert done.returncode == 0 and "libown.so calls fork of the host" in done.stderr
@@ -205,7 +206,7 @@ def test_an_object_and_a_library_of_another_compiler_are_told(tmp_path: pathlib.
 def test_make_may_name_the_compiler(tmp_path: pathlib.Path) -> None:
     """`make CC=tracehost-cc` and `configure CC=tracehost-cc` leave that name in the environment."""
     (tmp_path / "main.c").write_text("#include <unistd.h>\nint main(void) { return getpid() != 1000; }\n")
-    done = run("make", "-C", tmp_path, f"CC={POSIX / 'tracehost-cc'} --freebsd", "main")
+    done = run("make", "-C", tmp_path, f"CC={CC} --freebsd", "main")
     assert done.returncode == 0, done.stderr
     assert run(RUN, tmp_path / "main").returncode == 0
 
@@ -215,7 +216,7 @@ def test_assembly_is_compiled(tmp_path: pathlib.Path) -> None:
         "#ifndef __linux__\n.section .note.GNU-stack\n.text\n.globl seven\nseven: mov $7, %eax\nret\n#endif\n"
     )
     (tmp_path / "main.c").write_text("int seven(void); int main(void) { return seven() != 7 || getpid() != 1000; }\n")
-    words = [POSIX / "tracehost-cc", "--freebsd", "-o", tmp_path / "main", tmp_path / "main.c", tmp_path / "seven.S"]
+    words = [CC, "--freebsd", "-o", tmp_path / "main", tmp_path / "main.c", tmp_path / "seven.S"]
     done = run(*words)
     assert (done.returncode, done.stderr) == (0, "")
     assert run(RUN, tmp_path / "main").returncode == 0
@@ -284,28 +285,26 @@ def test_a_loop_has_its_place(folder: pathlib.Path) -> None:
     assert re.search(rf"1000/100000 in getppid at .*:{line_of('getppid();', ODD)}; 200 of the last 200", done.stderr), done.stderr
 
 
-def test_a_deadlock_and_a_switch_have_places(folder: pathlib.Path, tmp_path: pathlib.Path) -> None:
+def test_a_deadlock_and_a_switch_have_places(posix: Posix, tmp_path: pathlib.Path) -> None:
     race = POSIX / "races" / "lost_wakeup.c"
-    assert run(POSIX / "tracehost-cc", "-g", "-o", tmp_path / "race", race).returncode == 0
-    done = run(RUN, "--schedules", 300, "--record", tmp_path / "run.json", tmp_path / "race", "its", "words")
+    done = run(RUN, "--schedules", 300, "--record", tmp_path / "run.json", posix.race("lost_wakeup"), "its", "words")
     assert done.returncode == 1 and "1 is enough: --switches" in done.stderr
     place = f"in pause at .*lost_wakeup.c:{line_of('pause();', race.read_text())}"
     assert re.search(rf"1000/100000 {place}; 1001/100001 goes on", done.stderr), done.stderr
     assert re.search(rf"1000/100000 {place}$", done.stderr, re.MULTILINE), done.stderr
     title = re.search(r'"title": *"([^"]*)"', (tmp_path / "run.json.html").read_text())
-    assert title is not None and re.fullmatch(r"race its words: deadlock: .* \(switches before step \d+\)", title[1]), title
+    assert title is not None and re.fullmatch(r"lost_wakeup its words: deadlock: .* \(switches before step \d+\)", title[1]), title
 
 
-def test_what_was_never_preempted_is_listed(tmp_path: pathlib.Path) -> None:
-    race = POSIX / "races" / "lost_wakeup.c"
-    assert run(POSIX / "tracehost-cc", "-g", "-DRIGHT", "-o", tmp_path / "right", race).returncode == 0
+def test_what_was_never_preempted_is_listed(posix: Posix) -> None:
+    race, right = POSIX / "races" / "lost_wakeup.c", posix.remedy("lost_wakeup")
     at_suspend = f"  sigsuspend at {race}:{line_of('sigsuspend(&', race.read_text())}"
-    done = subprocess.run([RUN, "--coverage", "--preemptions", "0", "right"], capture_output=True, text=True, cwd=tmp_path)
+    done = subprocess.run([RUN, "--coverage", "--preemptions", "0", right.name], capture_output=True, text=True, cwd=right.parent)
     assert re.search(r"of (\d+) calls at which another could go on \1 were never preempted", done.stderr), done.stderr
     assert at_suspend in done.stderr.splitlines()
-    done = subprocess.run([RUN, "--coverage", "--preemptions", "1", "right"], capture_output=True, text=True, cwd=tmp_path)
+    done = subprocess.run([RUN, "--coverage", "--preemptions", "1", right.name], capture_output=True, text=True, cwd=right.parent)
     assert "were never preempted" in done.stderr and at_suspend not in done.stderr.splitlines(), done.stderr
-    assert "preempted" not in run(RUN, tmp_path / "right").stderr
+    assert "preempted" not in run(RUN, right).stderr
 
 
 # ---- whose fault it is
@@ -340,12 +339,16 @@ def test_no_more_workers_than_tasks(folder: pathlib.Path) -> None:
 
 @pytest.mark.parametrize("number", [signal.SIGKILL, signal.SIGTERM])
 def test_no_file_is_left_of_verified_runs(tmp_path: pathlib.Path, number: signal.Signals) -> None:
-    program = compiled(tmp_path, "calls", "#include <unistd.h>\nint main(void) { for (int i = 0; i < 20; i++) getppid(); return 0; }\n")
+    program = compiled(
+        tmp_path, "calls", "#include <unistd.h>\nint main(void) { for (int i = 0; i < 20; i++) getppid(); return 0; }\n"
+    )
     files = tmp_path / "files"
     files.mkdir()
     words = [str(word) for word in (RUN, "--verify", "--digest", "--schedules", 100000, program)]
     for _ in range(3):
-        broker = subprocess.Popen(words, stdout=subprocess.PIPE, text=True, env=dict(os.environ, TMPDIR=str(files), PYTHONUNBUFFERED="1"))
+        broker = subprocess.Popen(
+            words, stdout=subprocess.PIPE, text=True, env=dict(os.environ, TMPDIR=str(files), PYTHONUNBUFFERED="1")
+        )
         assert broker.stdout is not None and broker.stdout.readline()
         broker.send_signal(number)
         broker.stdout.close()

@@ -9,11 +9,13 @@ from __future__ import annotations
 import pathlib
 import re
 import subprocess
+import sys
 
 import pytest
+from posix_kit import CC, POSIX, RUN
 
-TOP = pathlib.Path(__file__).resolve().parents[2]
-POSIX = TOP / "clients" / "posix"
+pytestmark = pytest.mark.usefixtures("posix")
+
 TABLE = POSIX / "tests" / "FUNCTIONS.txt"
 HEADERS = """sys/types.h sys/event.h sys/procdesc.h sys/ptrace.h sys/sysctl.h sys/time.h threads.h pty.h utmp.h unistd.h signal.h
 pthread.h pthread_np.h semaphore.h time.h sys/wait.h grp.h crypt.h sys/swap.h sys/reboot.h sys/uio.h sys/stat.h poll.h spawn.h
@@ -39,7 +41,7 @@ def compiled(names: list[str], folder: pathlib.Path) -> subprocess.CompletedProc
     lines = [f"#include <{header}>" for header in HEADERS]
     lines += ["const void *const table[] = {", *(f"(const void *){name}," for name in names), "};"]
     (folder / "functions.c").write_text("\n".join(lines))
-    words = [str(POSIX / "tracehost-cc"), "-w", "-c", "-o", str(folder / "functions.o"), str(folder / "functions.c")]
+    words = [str(CC), "-w", "-c", "-o", str(folder / "functions.o"), str(folder / "functions.c")]
     return subprocess.run(words, capture_output=True, text=True)
 
 
@@ -67,7 +69,9 @@ def test_no_header_declares_what_is_absent(tmp_path: pathlib.Path) -> None:
 @pytest.mark.parametrize("name", ["killpg", "sigqueue", "setpgid", "tcsetpgrp", "thrd_create", "reboot", "_Fork"])
 def test_what_is_refused_ends_the_run_by_name(name: str, tmp_path: pathlib.Path) -> None:
     includes = "".join(f"#include <{header}>\n" for header in HEADERS)
-    (tmp_path / "program.c").write_text(f"{includes}int main(void) {{ ((void (*)(long, long, long)){name})(0, 0, 0); return 0; }}\n")
-    subprocess.run([POSIX / "tracehost-cc", "-w", "-o", tmp_path / "program", tmp_path / "program.c"], check=True)
-    done = subprocess.run([POSIX / "tracehost-run", tmp_path / "program"], capture_output=True, text=True, timeout=60)
+    (tmp_path / "program.c").write_text(
+        f"{includes}int main(void) {{ ((void (*)(long, long, long)){name})(0, 0, 0); return 0; }}\n"
+    )
+    subprocess.run([CC, "-w", "-o", tmp_path / "program", tmp_path / "program.c"], check=True)
+    done = subprocess.run([sys.executable, RUN, tmp_path / "program"], capture_output=True, text=True, timeout=60)
     assert done.returncode == 1 and f"calls {name}, which isn't among the calls of this runtime" in done.stderr

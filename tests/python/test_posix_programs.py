@@ -12,11 +12,11 @@ import pathlib
 import re
 import shutil
 import subprocess
+import sys
 
 import pytest
+from posix_kit import POSIX, RUN, Posix
 
-TOP = pathlib.Path(__file__).resolve().parents[2]
-POSIX = TOP / "clients" / "posix"
 PROGRAMS = sorted((POSIX / "tests" / "programs").glob("*.c*"))
 FLAGS = ["-g", "-w", "-pthread"]
 
@@ -44,33 +44,28 @@ def run(words: list[object]) -> subprocess.CompletedProcess[str]:
     return subprocess.run([str(word) for word in words], capture_output=True, text=True, timeout=200)
 
 
-def build(program: pathlib.Path, flags: list[str], compiler: str, to: pathlib.Path) -> None:
-    done = run(["env", f"CC={compiler}", POSIX / "tracehost-cc", *FLAGS, *flags, "-o", to, program])
-    assert done.returncode == 0, done.stderr
-
-
-@pytest.mark.parametrize("program, flags", ALL)
-def test_natively(program: pathlib.Path, flags: list[str], tmp_path: pathlib.Path) -> None:
-    wanted = header(program)
+@pytest.mark.parametrize("source, flags", ALL)
+def test_natively(source: pathlib.Path, flags: list[str], tmp_path: pathlib.Path) -> None:
+    wanted = header(source)
     if wanted.get("natively") == "no":
         pytest.skip("it can't run natively here")
-    assert run([compilers(program)[0], *FLAGS, *flags, "-o", tmp_path / "native", program]).returncode == 0
+    assert run([compilers(source)[0], *FLAGS, *flags, "-o", tmp_path / "native", source]).returncode == 0
     done = run([tmp_path / "native"])
     assert (done.stdout, done.returncode) == (_lines(wanted), 0), done.stderr
 
 
-@pytest.mark.parametrize("program, flags", ALL)
-def test_on_the_model(program: pathlib.Path, flags: list[str], tmp_path: pathlib.Path) -> None:
-    wanted = header(program)
-    for compiler in compilers(program):
-        build(program, flags, compiler, tmp_path / "program")
-        done = run([POSIX / "tracehost-run", tmp_path / "program"])
+@pytest.mark.parametrize("source, flags", ALL)
+def test_on_the_model(posix: Posix, source: pathlib.Path, flags: list[str]) -> None:
+    wanted = header(source)
+    for compiler in compilers(source):
+        built = posix.compiled(str(source.relative_to(POSIX)), *flags, compiler=compiler)
+        done = run([sys.executable, RUN, built])
         if "the host makes no hardware breakpoint" in done.stderr:
             pytest.skip("the host makes no hardware breakpoint")
         assert (done.stdout, done.returncode) == (_lines(wanted), 0), done.stderr
     schedules = wanted.get("schedules", "0")
     if schedules != "0":
-        done = run([POSIX / "tracehost-run", "--verify", "--schedules", schedules, tmp_path / "program"])
+        done = run([sys.executable, RUN, "--verify", "--schedules", schedules, built])
         assert done.returncode == 0, done.stderr
 
 

@@ -1,7 +1,9 @@
 """The texts of tests/, and hostile ones, are read alike as scenarios are read and by serde_json.
 
-The program test_scenarios compares the readings: crates/test_scenarios/src/readings.rt. $READINGS is its path.
+The program test_scenarios compares the readings: crates/test_scenarios/src/readings.rt.
 """
+
+from __future__ import annotations
 
 import json
 import os
@@ -10,12 +12,18 @@ import subprocess
 from collections.abc import Iterable, Iterator
 from pathlib import Path
 
-from fuzz_texts import hostile
-from test_mistakes import read
+import pytest
 
-TOP = Path(__file__).resolve().parents[2]
-ROWS = sorted([*TOP.glob('tests/rows/*/*.json'), *TOP.glob('examples/*.json')])
+from checking import TOP, scenario_files
+from fuzz_texts import hostile
+from mistakes import read_mistakes
+
+READINGS = TOP / "crates/test_scenarios/out/test_scenarios"
+ROWS = [TOP / file for file in scenario_files()]
 HOSTILE = 5_000
+pytestmark = pytest.mark.skipif(
+    not os.access(READINGS, os.X_OK), reason="the program test_scenarios is not built: the gate builds it"
+)
 
 
 def texts_of_tests() -> Iterator[bytes]:
@@ -24,7 +32,7 @@ def texts_of_tests() -> Iterator[bytes]:
         text = path.read_bytes()
         yield text
         yield from text.splitlines()
-    for mistake in read(str(TOP / 'tests/mistakes.tsv')):
+    for mistake in read_mistakes():
         yield mistake.input
         yield from mistake.input.splitlines()
 
@@ -45,14 +53,14 @@ def hostile_texts(chance: random.Random) -> Iterator[bytes]:
 
 
 def compare(texts: Iterable[bytes]) -> subprocess.CompletedProcess[bytes]:
-    framed = b''.join(b'%d\n%s' % (len(text), text) for text in texts)
-    return subprocess.run([os.environ['READINGS']], input=framed, capture_output=True, timeout=300)
+    framed = b"".join(b"%d\n%s" % (len(text), text) for text in texts)
+    return subprocess.run([READINGS], input=framed, capture_output=True, timeout=300)
 
 
 def check_alike(texts: list[bytes]) -> None:
     done = compare(texts)
-    assert done.stderr == b''
-    assert done.stdout == b'%d texts of the input and 100000 by chance are read alike\n' % len(texts)
+    assert done.stderr == b""
+    assert done.stdout == b"%d texts of the input and 100000 by chance are read alike\n" % len(texts)
     assert done.returncode == 0
 
 
@@ -67,6 +75,6 @@ def test_hostile_texts() -> None:
 
 
 def test_an_input_that_is_cut_off_is_no_success() -> None:
-    for framed in (b'x\n', b'2\n[', b'-1\n'):
-        done = subprocess.run([os.environ['READINGS']], input=framed, capture_output=True, timeout=300)
-        assert (done.stdout, done.returncode != 0) == (b'', True)
+    for framed in (b"x\n", b"2\n[", b"-1\n"):
+        done = subprocess.run([READINGS], input=framed, capture_output=True, timeout=300)
+        assert (done.stdout, done.returncode != 0) == (b"", True)

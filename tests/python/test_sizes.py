@@ -1,50 +1,43 @@
-"""Runs tracehost on lists and tables of all sizes, with each allocation refused in turn, and with none.
+"""Sessions that make lists and tables of all sizes, with each allocation refused in turn, and with none."""
 
-    python3 tests/python/test_sizes.py SHIM TRACEHOST
+from __future__ import annotations
 
-SHIM is tests/python/shim.c as a shared library. Prints the sizes.
-"""
-
-import subprocess
-import sys
 from collections.abc import Iterator
+from pathlib import Path
 
-from counting import Counts
-from shim import MEMORY, SECONDS, End, Run, Shim, check_all, whole
-from sizes import Counted, Sized, refused_sessions, whole_sessions
+import pytest
+
+from checking import Checks, Ended, needs, run
+from shim import MEMORY, Run, Shim, check_all
+from sizes import REFUSED_SESSIONS, WHOLE_SESSIONS, Counted, Sized
 
 MOST_STEPS = 100000
 
 
-def refused_allocations(shim: Shim, program: str, session: Sized) -> Iterator[tuple[str, Run]]:
-    """Each allocation refused, alone."""
-    command, least = (program, '--lines'), {'LEAST': session.least}
+def refused_allocations(shim: Shim, program: Path, session: Sized) -> Iterator[Run]:
+    """Each allocation refused, one in a run."""
+    command, least = (str(program), "--lines"), {"LEAST": session.least}
     prepared = Run(command, session.lines_of(session.preparing), least, ())
     first = shim.counts_of(prepared).allocations + 1 if session.preparing else 1
     last = shim.counts_of(Run(command, session.lines, least, ())).allocations
-    ends = (Counted(session, MEMORY),)
-    print(f'{session.sizes}: {last - first + 1} allocations')
     for n in range(first, last + 1):
-        yield 'allocations', Run(command, session.lines, {**least, 'ALLOCATION': n}, ends)
+        yield Run(command, session.lines, {**least, "ALLOCATION": n}, (Counted(session, MEMORY),))
 
 
-def answers_all(program: str, words: tuple[str, ...], given: bytes, text: bytes) -> bool:
-    ran = subprocess.run([program, *words], input=given, capture_output=True, timeout=SECONDS)
-    return End(ran.returncode, ran.stdout, ran.stderr) == whole(text)
+@pytest.fixture(scope="module")
+def shim(tmp_path_factory: pytest.TempPathFactory) -> Shim:
+    return Shim(tmp_path_factory.mktemp("shim"))
 
 
-def main() -> None:
-    library, program = sys.argv[1:]
-    shim, counts = Shim(library), Counts()
-    for session in whole_sessions():
-        text = session.text()
-        counts.check(answers_all(program, ('--lines',), session.lines, text), f'{session.sizes}: by --lines')
-        if len(session.steps) <= MOST_STEPS:
-            counts.check(answers_all(program, (), session.scenario, text), f'{session.sizes}: as a scenario')
-    runs = (run for session in refused_sessions() for run in refused_allocations(shim, program, session))
-    check_all(counts, shim, runs)
-    counts.end()
+@pytest.mark.parametrize("name", WHOLE_SESSIONS)
+def test_nothing_refused(program: Path, name: str) -> None:
+    session = WHOLE_SESSIONS[name]()
+    assert run(program, "--lines", given=session.lines) == Ended(0, session.text().decode(), "")
+    if len(session.steps) <= MOST_STEPS:  # as a scenario too
+        assert run(program, given=session.scenario) == Ended(0, session.text().decode(), "")
 
 
-if __name__ == '__main__':
-    main()
+@needs("cc")
+@pytest.mark.parametrize("name", REFUSED_SESSIONS)
+def test_refused_allocations(shim: Shim, program: Path, name: str, checks: Checks) -> None:
+    check_all(checks, shim, refused_allocations(shim, program, REFUSED_SESSIONS[name]()))

@@ -1,30 +1,33 @@
-"""Refused input is explained unasked if standard error is a terminal, and only there.
+"""Refused input is explained unasked if standard error is a terminal, and only there."""
 
-    python3 tests/python/test_terminal.py PROGRAM
-"""
+from __future__ import annotations
 
 import os
 import pty
 import subprocess
-import sys
+from pathlib import Path
 
-from counting import Counts
+import pytest
+
+from checking import Ended, run
 
 STEP = '{"user":1001,"op":"spawn"}'
 BAD_STEP = '{"user":1001,"op":"spwn"}'
-BAD_SCENARIO = '{"steps":[' + BAD_STEP + ']}'
-LINE = 'tracehost: refused: BadName at step 1\n'
+BAD_SCENARIO = '{"steps":[' + BAD_STEP + "]}"
+NEW = "1001 1 new 1000 100000\n"
+LINE = "tracehost: refused: BadName at step 1\n"
 EXPLAINED = '  steps[0].op: "spwn" is no op; did you mean "spawn"?\n'
 LINE_EXPLAINED = '  line 1, op: "spwn" is no op; did you mean "spawn"?\n'
+REMEDY = '  --kill-on-debugger-exit: a scenario has a key for it, {"kill_on_debugger_exit":0,"steps":[..]}\n'
 
 
 # the options, and whether they explain on a terminal and elsewhere
 CHOICES: list[tuple[list[str], bool, bool]] = [
     ([], True, False),
-    (['--explain=auto'], True, False),
-    (['--explain'], True, True),
-    (['--explain=always'], True, True),
-    (['--explain=never'], False, False),
+    (["--explain=auto"], True, False),
+    (["--explain"], True, True),
+    (["--explain=always"], True, True),
+    (["--explain=never"], False, False),
 ]
 
 
@@ -34,15 +37,15 @@ def all_of(descriptor: int) -> str:
     while True:
         try:
             part = os.read(descriptor, 65536)
-        except OSError:  # the terminal's other side is closed
+        except OSError:  # the terminal"s other side is closed
             break
         if not part:
             break
         parts.append(part)
-    return b''.join(parts).decode().replace('\r\n', '\n')
+    return b"".join(parts).decode().replace("\r\n", "\n")
 
 
-def with_terminal_error(program: str, words: list[str], text: str) -> tuple[int, str, str]:
+def with_terminal_error(program: Path, words: list[str], text: str) -> Ended:
     """The status, standard output and standard error of a run whose standard error is a terminal."""
     ours, theirs = pty.openpty()
     with subprocess.Popen([program, *words], stdin=subprocess.PIPE, stdout=subprocess.PIPE, stderr=theirs) as process:
@@ -50,81 +53,72 @@ def with_terminal_error(program: str, words: list[str], text: str) -> tuple[int,
         out, _ = process.communicate(text.encode(), timeout=60)
     err = all_of(ours)
     os.close(ours)
-    return process.returncode, out.decode(), err
+    return Ended(process.returncode, out.decode(), err)
 
 
-def with_terminal(program: str, words: list[str], text: str, error: bool = True) -> tuple[int, str, str]:
+def with_terminal(program: Path, words: list[str], text: str, error: bool = True) -> Ended:
     """The same of a run that reads from a terminal, to which standard error goes too, or else a pipe."""
     ours, theirs = pty.openpty()
-    with subprocess.Popen([program, *words], stdin=theirs, stdout=subprocess.PIPE,
-                          stderr=theirs if error else subprocess.PIPE) as process:
+    with subprocess.Popen(
+        [program, *words], stdin=theirs, stdout=subprocess.PIPE, stderr=theirs if error else subprocess.PIPE
+    ) as process:
         os.close(theirs)
         # the end of input, where a line begins
-        os.write(ours, text.encode() + b'\x04')
+        os.write(ours, text.encode() + b"\x04")
         out, err = process.communicate(timeout=60)
     shown = all_of(ours)
     os.close(ours)
-    return process.returncode, out.decode(), shown if error else err.decode()
+    return Ended(process.returncode, out.decode(), shown if error else err.decode())
 
 
-def captured(program: str, words: list[str], text: str) -> tuple[int, str, str]:
-    ended = subprocess.run([program, *words], input=text, capture_output=True, text=True, timeout=60, check=False)
-    return ended.returncode, ended.stdout, ended.stderr
+@pytest.mark.parametrize(
+    ("words", "on_terminal", "elsewhere"), CHOICES, ids=[" ".join(words) or "no option" for words, _, _ in CHOICES]
+)
+def test_a_refused_scenario(program: Path, words: list[str], on_terminal: bool, elsewhere: bool) -> None:
+    assert with_terminal_error(program, words, BAD_SCENARIO) == Ended(1, "", LINE + EXPLAINED if on_terminal else LINE)
+    assert run(program, *words, given=BAD_SCENARIO) == Ended(1, "", LINE + EXPLAINED if elsewhere else LINE)
 
 
-def check_choice(program: str, counts: Counts) -> None:
-    """--explain=auto, always and never, on a terminal and captured."""
-    for words, on_terminal, elsewhere in CHOICES:
-        wanted = (1, '', LINE + EXPLAINED if on_terminal else LINE)
-        got = with_terminal_error(program, words, BAD_SCENARIO)
-        counts.check(got == wanted, f'{words} on a terminal: {got}')
-        wanted = (1, '', LINE + EXPLAINED if elsewhere else LINE)
-        got = captured(program, words, BAD_SCENARIO)
-        counts.check(got == wanted, f'{words} captured: {got}')
-        wanted = (0, 'refused BadName\n', LINE_EXPLAINED if on_terminal else '')
-        got = with_terminal_error(program, [*words, '--lines'], BAD_STEP + '\n')
-        counts.check(got == wanted, f'{words} --lines on a terminal: {got}')
-        wanted = (0, 'refused BadName\n', LINE_EXPLAINED if elsewhere else '')
-        got = captured(program, [*words, '--lines'], BAD_STEP + '\n')
-        counts.check(got == wanted, f'{words} --lines captured: {got}')
+@pytest.mark.parametrize(
+    ("words", "on_terminal", "elsewhere"), CHOICES, ids=[" ".join(words) or "no option" for words, _, _ in CHOICES]
+)
+def test_a_refused_line(program: Path, words: list[str], on_terminal: bool, elsewhere: bool) -> None:
+    words = [*words, "--lines"]
+    refused = "refused BadName\n"
+    assert with_terminal_error(program, words, BAD_STEP + "\n") == Ended(0, refused, LINE_EXPLAINED if on_terminal else "")
+    assert run(program, *words, given=BAD_STEP + "\n") == Ended(0, refused, LINE_EXPLAINED if elsewhere else "")
 
 
-def check_command_line(program: str, counts: Counts) -> None:
-    """A refused command line has its remedy after clap's message."""
-    words = ['--kill-on-debugger-exit', '0']
-    status, out, err = captured(program, words, '')
-    got = with_terminal_error(program, words, '')
-    remedy = '  --kill-on-debugger-exit: a scenario has a key for it, {"kill_on_debugger_exit":0,"steps":[..]}\n'
-    counts.check(status == 2 and 'kill_on_debugger_exit' not in err, f'the setting of a scenario, captured: {err}')
-    counts.check(got == (2, out, err + remedy), f'the setting of a scenario on a terminal: {got}')
-    status, out, err = captured(program, [*words, '--explain'], '')
-    counts.check((status, out) == (2, '') and err.endswith(remedy), f'the setting of a scenario, explained: {err}')
+def test_a_refused_command_line_has_its_remedy_after_the_message(program: Path) -> None:
+    words = ["--kill-on-debugger-exit", "0"]
+    captured = run(program, *words)
+    assert captured.status == 2
+    assert "kill_on_debugger_exit" not in captured.err
+    assert with_terminal_error(program, words, "") == captured._replace(err=captured.err + REMEDY)
+    explained = run(program, *words, "--explain")
+    assert explained[:2] == (2, "")
+    assert explained.err.endswith(REMEDY)
 
 
-def check_prompt(program: str, counts: Counts) -> None:
-    """A first line says what is typed, if it is read from a terminal and errors go there."""
-    status, out, shown = with_terminal(program, ['--lines'], STEP + '\n')
-    counts.check((status, out) == (0, '1001 1 new 1000 100000\n'), f'--lines from a terminal: {status}, {out}')
-    counts.check('type one step a line as JSON, for example ' + STEP in shown, f'--lines from a terminal: {shown}')
-    status, out, shown = with_terminal(program, [], '{"steps":[' + STEP + ']}\n')
-    counts.check((status, out) == (0, '1001 1 new 1000 100000\n'), f'a scenario from a terminal: {status}, {out}')
-    wanted = 'type a scenario as JSON, for example {"steps":[' + STEP + ']}'
-    counts.check(wanted in shown, f'a scenario from a terminal: {shown}')
-    for words, error in [(['--lines', '--explain=never'], True), (['--lines'], False)]:
-        _, _, shown = with_terminal(program, words, STEP + '\n', error)
-        counts.check('type one step' not in shown, f'{words} asks for nothing: {shown}')
-    got = with_terminal_error(program, ['--lines'], STEP + '\n')
-    counts.check(got == (0, '1001 1 new 1000 100000\n', ''), f'--lines from a pipe: {got}')
+@pytest.mark.parametrize(
+    ("words", "text", "wanted"),
+    [
+        (["--lines"], STEP, "type one step a line as JSON, for example " + STEP),
+        ([], '{"steps":[' + STEP + "]}", 'type a scenario as JSON, for example {"steps":[' + STEP + "]}"),
+    ],
+    ids=["lines", "a scenario"],
+)
+def test_a_first_line_says_what_is_typed(program: Path, words: list[str], text: str, wanted: str) -> None:
+    ran = with_terminal(program, words, text + "\n")
+    assert ran[:2] == (0, NEW)
+    assert wanted in ran.err
 
 
-def main() -> None:
-    counts = Counts()
-    program = sys.argv[1]
-    check_choice(program, counts)
-    check_command_line(program, counts)
-    check_prompt(program, counts)
-    counts.end()
+@pytest.mark.parametrize(("words", "error"), [(["--lines", "--explain=never"], True), (["--lines"], False)])
+def test_nothing_is_asked_for(program: Path, words: list[str], error: bool) -> None:
+    """If nothing is explained, and if errors don't go to the terminal."""
+    assert "type one step" not in with_terminal(program, words, STEP + "\n", error).err
 
 
-if __name__ == '__main__':
-    main()
+def test_nothing_is_asked_for_at_a_pipe(program: Path) -> None:
+    assert with_terminal_error(program, ["--lines"], STEP + "\n") == Ended(0, NEW, "")

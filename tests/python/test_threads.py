@@ -1,36 +1,26 @@
-"""Runs scenarios with --threads, ten times those of several users, and compares the lines with the plain run's.
+"""A thread for each user changes no line: each scenario of tests/rows and examples with --threads, ten times if it has
+several users, prints the plain run's lines, user by user; with --user too."""
 
-    python3 tests/python/test_threads.py PROGRAM SCENARIO..
-"""
+from __future__ import annotations
 
-import subprocess
-import sys
+from pathlib import Path
 
-from counting import Counts
-
-program, files = sys.argv[1], sys.argv[2:]
-
-
-def ran(file: str, *options: str) -> tuple[int, str, str]:
-    """The exit status, standard output and standard error of the program on the file."""
-    it = subprocess.run([program, *options, file], capture_output=True, text=True, errors='replace')
-    return it.returncode, it.stdout, it.stderr
+from checking import TOP, Checks, for_each_scenario, run, scenario_files
 
 
 def grouped(text: str) -> str:
     """The lines user by user, by rising user, each user's in their order."""
-    return ''.join(sorted(text.splitlines(keepends=True), key=lambda line: int(line.split(' ', 1)[0])))
+    return "".join(sorted(text.splitlines(keepends=True), key=lambda line: int(line.split(" ", 1)[0])))
 
 
-counts = Counts()
-for file in files:
-    status, plain, trouble = ran(file)
-    wanted = (status, grouped(plain), trouble)
-    users = sorted({int(line.split(' ', 1)[0]) for line in plain.splitlines()})
-    for _ in range(10 if len(users) > 1 and plain.count('\n') < 100 else 1):
-        counts.check(ran(file, '--threads') == wanted, f'{file}: the lines with --threads are others')
+@for_each_scenario(scenario_files())
+def test_lines_with_threads(program: Path, file: Path, checks: Checks) -> None:
+    plain = run(program, file, cwd=TOP)
+    wanted = plain._replace(out=grouped(plain.out))
+    users = sorted({int(line.split(" ", 1)[0]) for line in plain.out.splitlines()})
+    for _ in range(10 if len(users) > 1 and plain.out.count("\n") < 100 else 1):
+        checks.check(run(program, "--threads", file, cwd=TOP) == wanted, "the lines with --threads are others")
     for user in users:
-        alone = '--user', str(user)
-        is_same = ran(file, '--threads', *alone) == ran(file, *alone)
-        counts.check(is_same, f'{file}: the lines of user {user} with --threads are others')
-counts.end()
+        alone = "--user", str(user)
+        is_same = run(program, "--threads", *alone, file, cwd=TOP) == run(program, *alone, file, cwd=TOP)
+        checks.check(is_same, f"the lines of user {user} with --threads are others")

@@ -1,5 +1,4 @@
-#!/usr/bin/env python3
-"""Tests of the viewer's pages: test_viewer.py PROGRAM [CHROMIUM]. Without a browser only viewer/make is tested.
+"""Tests of the viewer's pages. Without a browser only viewer/make is tested.
 
 What a page shows is read from the document that the browser has made of it, and compared with the program's lines.
 """
@@ -22,19 +21,30 @@ from typing import Any
 
 import viewer_runs as runs
 from viewer_browser import Document, Tab
-from viewer_pages import EXAMPLES, HAS_BROWSER, MAKE, NO_BROWSER, PROGRAM, TOP, Pages, browser, lines_of, run, run_make
+from viewer_pages import EXAMPLES, MAKE, TOP, Pages, browser, lines_of, needs_browser, run_make, viewed
 
-ALARM = "document.body.dataset.executed = 1"
+__all__ = ["viewed"]  # a fixture
 # files that nothing can be drawn of: the name, the bytes, what is said of it, and what the program explains
 NO_RUNS = (
-    ("elf", b"\x7fELF\x02\n\x1b[31m", "neither lines of --json nor a scenario: \\x7fELF\\x02\\n\\x1b[31m",
-     r"line 1, column 1: `\u{7f}ELF\u{2}` is no value of JSON; texts stand in double quotes"),
+    (
+        "elf",
+        b"\x7fELF\x02\n\x1b[31m",
+        "neither lines of --json nor a scenario: \\x7fELF\\x02\\n\\x1b[31m",
+        r"line 1, column 1: `\u{7f}ELF\u{2}` is not a JSON value; texts go in double quotes",
+    ),
     ("empty", b"\n", "there is nothing in it", "line 2, column 1: expected a value, but the text ends"),
-    ("plain", (TOP / "examples" / "first.out").read_bytes(),
-     "these are lines of the plain text; run tracehost with --json",
-     "line 1: this is a line that tracehost printed; run the scenario that it came from"),
-    ("cut", b'{"steps":[{"user', "this scenario is cut short, or no JSON",
-     "line 1, column 17: the text that begins at line 1, column 12 has no quotes at its end"),
+    (
+        "plain",
+        (TOP / "examples" / "first.out").read_bytes(),
+        "these are lines of the plain text; run tracehost with --json",
+        "line 1: this is a line that tracehost printed; run the scenario that it came from",
+    ),
+    (
+        "cut",
+        b'{"steps":[{"user',
+        "this scenario is cut short, or no JSON",
+        "line 1, column 17: the text that begins at line 1, column 12 has no quotes at its end",
+    ),
     ("no array", b'{"steps":7}', '"steps" is no array', "steps: expected an array of steps, got 7"),
 )
 
@@ -74,11 +84,12 @@ class Make(unittest.TestCase):
         steps = '{"steps":[{"user":1001,"op":"kill","caller":1,"which":1,"signal":1}, "</script>"]}'
         made = run_make(self.pages.file("a.lines", line.encode()), self.pages.file("b.json", steps.encode()))
         data, scripts = self.embedded(made.stdout)
-        self.assertEqual(data, {"title": "b.json", "files": [{"name": "a.lines", "text": line},
-                                                             {"name": "b.json", "text": steps}]})
+        self.assertEqual(data, {"title": "b.json", "files": [{"name": "a.lines", "text": line}, {"name": "b.json", "text": steps}]})
         self.assertEqual((scripts, made.returncode), (2, 1))
-        self.assertEqual(made.stderr.decode().splitlines(), ['viewer/make: b.json, step 2: no step: "</script>"',
-                                                             '  steps[1]: expected an object, got "</script>"'])
+        self.assertEqual(
+            made.stderr.decode().splitlines(),
+            ['viewer/make: b.json, step 2: no step: "</script>"', '  steps[1]: expected an object, got "</script>"'],
+        )
 
     def test_only_the_data_differs_from_the_empty_page(self) -> None:
         lines = self.pages.file("a.lines", b'{"refused":"BadJson"}\n')
@@ -137,7 +148,7 @@ class Make(unittest.TestCase):
         name, data, fault, explanation = NO_RUNS[0]
         file, path = self.pages.file(name, data), self.pages.room / "bin"
         path.mkdir()
-        (path / "tracehost").symlink_to(pathlib.Path(PROGRAM).resolve())
+        (path / "tracehost").symlink_to(os.environ["TRACEHOST"])
         for words in ("echo usage >&2; echo more >&2; exit 2", "exit 1", "kill -9 $$"):
             silent = self.pages.file("silent", f"#!/bin/sh\n{words}\n".encode())
             silent.chmod(0o755)
@@ -151,8 +162,10 @@ class Make(unittest.TestCase):
         (text,), is_made = self.told(self.pages.file("half", lines[:-20]))
         self.assertTrue(is_made)
         self.assertRegex(text, r"^half, line \d+: no JSON: ")
-        self.assertEqual(self.told(self.pages.file("two", b"[]\n" + lines + b"{}\n")),
-                         (["two, line 1: no object: [] (and 1 more, which the page lists)"], True))
+        self.assertEqual(
+            self.told(self.pages.file("two", b"[]\n" + lines + b"{}\n")),
+            (["two, line 1: no object: [] (and 1 more, which the page lists)"], True),
+        )
         (text,), is_made = self.told(self.pages.file("lines", lines), TOP / "examples" / "sandbox.json")
         self.assertTrue(is_made)
         self.assertRegex(text, r"^sandbox.json isn't the scenario of these lines: its step \d+ of user \d+ can't be answered")
@@ -197,7 +210,7 @@ class Make(unittest.TestCase):
             self.assertNotIn(word, text)
 
 
-@unittest.skipUnless(HAS_BROWSER, NO_BROWSER)
+@needs_browser
 class Examples(unittest.TestCase):
     """Each example's page, its marks counted against its lines."""
 
@@ -234,12 +247,14 @@ class Examples(unittest.TestCase):
         file = cls.pages.file("each_step", "".join(json.dumps(step) + "\n" for step in steps).encode())
         lines = lines_of("--lines", file, "--kill-on-debugger-exit", 0)
         pages["steps"] = cls.pages.page("steps", lines, file)
-        pages["by_list"] = cls.pages.page("by_list", b"""{"user":1001,"step":1,"reply":"new","pid":1000,"lwp":100000}
+        pages["by_list"] = cls.pages.page(
+            "by_list",
+            b"""{"user":1001,"step":1,"reply":"new","pid":1000,"lwp":100000}
             {"user":1001,"step":2,"reply":"new","pid":1001,"lwp":100001}
             {"user":1001,"step":3,"reply":"ended","word":0,"exited":0}
-            {"user":1001,"step":4,"reply":"pids","pids":[1000]}""")
-        scenarios = {"threads_of_one": runs.thread_steps(), "two_forks": runs.fork_steps(),
-                     "by_turn": runs.untold_end()}
+            {"user":1001,"step":4,"reply":"pids","pids":[1000]}""",
+        )
+        scenarios = {"threads_of_one": runs.thread_steps(), "two_forks": runs.fork_steps(), "by_turn": runs.untold_end()}
         for name, scenario in scenarios.items():
             file = cls.pages.file(f"{name}.json", json.dumps(scenario).encode())
             pages[name] = cls.pages.page(name, lines_of(file), file)
@@ -269,8 +284,16 @@ class Examples(unittest.TestCase):
                 words = collections.Counter(reply["reply"] for reply in replies)
                 self.assertEqual(kinds["birth"] + kinds["lwp-birth"], words["new"])
                 self.assertEqual(kinds["birth"], len({reply["pid"] for reply in replies if reply["reply"] == "new"}))
-                for kind, word in (("stop", "stopped"), ("wait", "status"), ("handled", "handled"), ("end", "ended"),
-                                   ("error", "error"), ("held", "held"), ("nothing", "nothing"), ("caught", "caught")):
+                for kind, word in (
+                    ("stop", "stopped"),
+                    ("wait", "status"),
+                    ("handled", "handled"),
+                    ("end", "ended"),
+                    ("error", "error"),
+                    ("held", "held"),
+                    ("nothing", "nothing"),
+                    ("caught", "caught"),
+                ):
                     self.assertEqual(kinds[kind], words[word], kind)
                 asked = [step for step, reply in zip(steps, replies) if reply["reply"] == "ok" and step.get("signal")]
                 self.assertEqual(kinds["post"], sum(step["op"] in ("kill", "turn") for step in asked))
@@ -320,13 +343,18 @@ class Examples(unittest.TestCase):
     def test_the_children_of_two_followed_forks(self) -> None:
         document = self.documents["two_forks"]
         self.assertEqual(document.steps("followed"), [(1003, 14), (1004, 15)])
-        self.assertEqual(document.traces, [("1000 1001", 4, None), ("1000 1002", 5, None), ("1000 1003", 14, None),
-                                           ("1000 1004", 15, None)])
+        self.assertEqual(
+            document.traces, [("1000 1001", 4, None), ("1000 1002", 5, None), ("1000 1003", 14, None), ("1000 1004", 15, None)]
+        )
 
     def test_a_mark_tells_its_step_and_its_reply(self) -> None:
         stop = self.documents["follow_a_fork"].primary()[7]
-        for words in ("user 1001, step 8", "LWP 100001: leave", "5 is SIGTRAP",
-                      "stopped 100001 5 flags=PL_FLAG_SCX+PL_FLAG_FORKED"):
+        for words in (
+            "user 1001, step 8",
+            "LWP 100001: leave",
+            "5 is SIGTRAP",
+            "stopped 100001 5 flags=PL_FLAG_SCX+PL_FLAG_FORKED",
+        ):
             self.assertIn(words, stop["aria-label"])
         self.assertIn("SIGTRAP SCX FORKED", self.documents["follow_a_fork"].texts)
 
@@ -359,20 +387,23 @@ class Examples(unittest.TestCase):
     def test_one_users_lines_give_the_same_picture(self) -> None:
         for user in (1001, 1002):
             alone, only = self.documents[user], self.documents[f"only {user}"]
-            shown = [[(mark["data-mark"], mark["lane"], mark["data-step"]) for mark in one.primary()]
-                     for one in (alone, only)]
+            shown = [[(mark["data-mark"], mark["lane"], mark["data-step"]) for mark in one.primary()] for one in (alone, only)]
             self.assertEqual(*shown)
             self.assertEqual(alone.traces, only.traces)
 
     def test_lines_of_threads_stand_in_the_scenarios_order(self) -> None:
-        shown = [[(mark["data-mark"], mark["data-user"], mark["data-step"]) for mark in self.documents[name].primary()]
-                 for name in ("threads", "two_users")]
+        shown = [
+            [(mark["data-mark"], mark["data-user"], mark["data-step"]) for mark in self.documents[name].primary()]
+            for name in ("threads", "two_users")
+        ]
         self.assertEqual(*shown)
 
     def test_a_trace_needs_no_scenario(self) -> None:
         wanted = self.documents["two_users"]
-        shown = [[(mark["data-mark"], mark["lane"], mark["data-user"], mark["data-step"]) for mark in one.primary()]
-                 for one in (wanted, self.documents["trace"], self.documents["trace by user"])]
+        shown = [
+            [(mark["data-mark"], mark["lane"], mark["data-user"], mark["data-step"]) for mark in one.primary()]
+            for one in (wanted, self.documents["trace"], self.documents["trace by user"])
+        ]
         self.assertEqual(shown, [shown[0]] * 3)
         for name in ("trace", "trace by user"):
             self.assertEqual((self.documents[name].faults, self.documents[name].traces), ([], wanted.traces))
@@ -383,113 +414,3 @@ class Examples(unittest.TestCase):
         self.assertEqual(len(document.primary()), 18)
         found = {("birth", ("process", 1000)), ("stop", ("lwp", 100001)), ("wait", ("process", 1002))}
         self.assertLessEqual(found, {(mark["data-mark"], mark["lane"]) for mark in document.primary()})
-
-
-@unittest.skipUnless(HAS_BROWSER, NO_BROWSER)
-class Page(unittest.TestCase):
-    """What is hostile, long, or done by hand."""
-
-    pages: Pages
-    example: pathlib.Path
-    lines: bytes
-    bad: list[str]
-    documents: dict[str, Document]
-
-    @classmethod
-    def setUpClass(cls) -> None:
-        cls.pages = Pages()
-        cls.addClassCleanup(cls.pages.folder.cleanup)
-        cls.example = TOP / "examples" / "two_users.json"
-        cls.lines = lines_of(cls.example)
-        cls.documents = {name: cls.pages.open(page) for name, page in cls.hostile().items()}
-
-    @classmethod
-    def hostile(cls) -> dict[str, pathlib.Path]:
-        good = b'{"user":1001,"step":1,"reply":"new","pid":1000,"lwp":100000}\n'
-        bad = [
-            f'</script><script>{ALARM}</script>',
-            f'{{"user":1001,"step":2,"reply":"<img src=x onerror=\'{ALARM}\'>"}}',
-            '{"user":1001,"step":2,"reply":"stopped","lwp":100000,"signal":"<b onclick=x>","number":5,"flags":[]}',
-            '{"user":1001,"step":2,"reply":"error","errno":"<i>","number":3}',
-            '{"user":1001,"step":2,"reply":"new","pid":"1000","lwp":100000}',
-            '{"user":1001,"step":2,"reply":"status","pid":1000,"word":0}',
-            '{"user":"__proto__","step":2,"reply":"ok"}',
-            '{"user":1001,"step":2,"reply":"constructor"}',
-            '{"refused":"<script>"}', "[]", "null", "1001 2 ok",
-        ]
-        cls.bad = bad
-        steps: list[runs.Step] = [{"op": "spawn"}, {"op": "ptrace", "caller": 1000, "request": f"<img onerror='{ALARM}'>"}]
-        text = json.dumps({"steps": [{"user": 1001, **step} for step in steps]})
-        scenario = cls.pages.file("hostile.json", text.encode())
-        truncated = cls.lines[:-20]
-        page = cls.pages.page
-        return {
-            "bad": page("bad", good + "\n".join(bad).encode() + b"\n", status=1),
-            "bad scenario": page("scenario", good + b'{"user":1001,"step":2,"reply":"ok"}\n', scenario, status=1),
-            "truncated": page("truncated", truncated, cls.example, status=1),
-            "other scenario": page("other", cls.lines, TOP / "examples" / "sandbox.json", status=1),
-            "plain": cls.pages.unread("plain", (TOP / "examples" / "first.out").read_text()),
-            "injected": cls.injected(page("injected", cls.lines, cls.example)),
-            "refused": page("refused", good + b'{"refused":"BadName"}\n{"user":1001,"step":2,"reply":"ok"}\n'),
-            "empty": cls.pages.empty(),
-        }
-
-    def test_bad_lines_are_shown_and_not_executed(self) -> None:
-        document = self.documents["bad"]
-        self.assertEqual(len(document.faults), len(self.bad))
-        for number, (fault, line) in enumerate(zip(document.faults, self.bad), 2):
-            self.assertIn(f"bad.lines, line {number}: ", fault)
-            self.assertIn(line[:150], fault)
-        self.assertEqual(len(document.primary()), 1)
-        self.is_harmless(document)
-
-    @classmethod
-    def injected(cls, page: pathlib.Path) -> pathlib.Path:
-        """A page with scripts of somebody else in it, as if its data had ended its element."""
-        scripts = f"<script>{ALARM}</script><img src=x onerror='{ALARM}'><a id=a href='javascript:{ALARM}'></a></body>"
-        text = page.read_text()
-        assert text.count("</body>") == 1
-        page.write_text(text.replace("</body>", scripts))
-        return page
-
-    def test_the_policy_stops_other_scripts(self) -> None:
-        """The page's own script runs: its marks are there."""
-        document = self.documents["injected"]
-        self.assertNotIn("data-executed", document.body)
-        self.assertEqual(len(document.primary()), 16)
-
-    def test_a_bad_scenario_is_told(self) -> None:
-        document = self.documents["bad scenario"]
-        self.assertIn("<img onerror=", document.faults[0])
-        self.assertEqual(len(document.primary()), 2)
-        self.is_harmless(document)
-
-    def is_harmless(self, document: Document) -> None:
-        self.assertNotIn("data-executed", document.body)
-        self.assertEqual([tag for tag, _ in document.elements if tag in ("img", "b", "i")], [])
-        self.assertEqual(sum(tag == "script" for tag, _ in document.elements), 2)
-
-    def test_a_truncated_file(self) -> None:
-        document = self.documents["truncated"]
-        self.assertEqual(len(document.faults), 1)
-        self.assertIn("line 16: no JSON: ", document.faults[0])
-        self.assertEqual(len(document.primary()), 15)
-
-    def test_another_scenario_is_told_and_left_out(self) -> None:
-        document = self.documents["other scenario"]
-        self.assertIn("isn't the scenario of these lines", document.faults[0])
-        self.assertEqual((len(document.primary()), document.traces), (16, []))
-
-    def test_plain_text_is_told(self) -> None:
-        self.assertIn("run tracehost with --json", self.documents["plain"].faults[0])
-
-    def test_refused_lines_have_a_lane(self) -> None:
-        found = [(mark["data-mark"], mark["lane"][0]) for mark in self.documents["refused"].primary()]
-        self.assertEqual(found, [("birth", "process"), ("refused", "input"), ("ok", "user")])
-
-    def test_the_empty_page(self) -> None:
-        self.assertEqual((self.documents["empty"].marks, self.documents["empty"].faults), ([], []))
-
-
-if __name__ == "__main__":
-    run()

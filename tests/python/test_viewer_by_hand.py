@@ -1,5 +1,4 @@
-#!/usr/bin/env python3
-"""Tests of what is done by hand with a page of the viewer: test_viewer_by_hand.py PROGRAM [CHROMIUM]."""
+"""Tests of what is done by hand with a page of the viewer."""
 
 from __future__ import annotations
 
@@ -9,12 +8,12 @@ import pathlib
 import re
 import unittest
 import xml.etree.ElementTree
-from typing import Any
 
 import viewer_runs as runs
 from viewer_browser import Tab
-from viewer_pages import HAS_BROWSER, NO_BROWSER, TOP, Pages, browser, lines_of, run
+from viewer_pages import TOP, Pages, browser, lines_of, needs_browser, viewed
 
+__all__ = ["viewed"]  # a fixture
 EXAMPLE = TOP / "examples" / "two_users.json"
 LENGTHS = (300, 5000)
 ACTIVE = "document.getElementById('active')?.dataset.line"
@@ -22,7 +21,7 @@ CHOSEN = "document.querySelector('#list [aria-selected=true]')?.dataset.line"
 MOST_MILLISECONDS = 10000  # of a page of 5,000 steps on a machine with much other work
 
 
-@unittest.skipUnless(HAS_BROWSER, NO_BROWSER)
+@needs_browser
 class ByHand(unittest.TestCase):
     """Keys, the pointer, fields, buttons, links."""
 
@@ -93,8 +92,7 @@ class ByHand(unittest.TestCase):
         tab.mouse("mouseMoved", x, y)
         for count in (1, 2, 3):
             for kind, buttons in (("mousePressed", 1), ("mouseReleased", 0)):
-                tab.ask("Input.dispatchMouseEvent", type=kind, x=x, y=y, button="left", buttons=buttons,
-                        clickCount=count)
+                tab.ask("Input.dispatchMouseEvent", type=kind, x=x, y=y, button="left", buttons=buttons, clickCount=count)
         self.assertEqual(tab.value("getSelection().toString().trim()"), "→ ok")
         self.assertFalse(tab.value("card.hidden"))
         tab.point("[data-mark=wait]")
@@ -175,8 +173,9 @@ class ByHand(unittest.TestCase):
 
     def test_the_list(self) -> None:
         tab = self.open(self.page)
-        rows = tab.value("[...document.querySelectorAll('.row')].map(row =>"
-                         "[row.dataset.line, row.querySelector('.reply').textContent])")
+        rows = tab.value(
+            "[...document.querySelectorAll('.row')].map(row =>" "[row.dataset.line, row.querySelector('.reply').textContent])"
+        )
         self.assertEqual([number for number, _ in rows], [str(number) for number in range(1, 17)])
         plain = EXAMPLE.with_suffix(".out").read_text().splitlines()
         self.assertEqual([text for _, text in rows], [line.split(" ", 2)[2] for line in plain])
@@ -300,26 +299,37 @@ class ByHand(unittest.TestCase):
         }})()"""
         self.assertEqual(tab.value(dropped), 2)
         self.assertEqual(len([mark for mark in tab.document().marks if "data-more" not in mark]), 16)
-        tab.value("""(() => {
+        tab.value(
+            """(() => {
             const data = new DataTransfer();
             data.setData("text/plain", '{"user":1007,"step":1,"reply":"new","pid":7000,"lwp":124000}');
-            dispatchEvent(new ClipboardEvent("paste", { clipboardData: data }));
-        })()""")
+            document.body.dispatchEvent(new ClipboardEvent("paste", { clipboardData: data, bubbles: true }));
+        })()"""
+        )
         self.assertEqual([mark["data-user"] for mark in tab.document().marks], ["1007"])
 
     def test_each_line_of_a_random_run_has_its_mark(self) -> None:
         for count in LENGTHS:
             with self.subTest(count):
                 tab = self.open(self.random[count], "draw=all")
-                marks = tab.value("[...document.querySelectorAll('[data-mark]:not([data-more])')].map(({ dataset }) =>"
-                                  "[Number(dataset.line), Number(dataset.user), Number(dataset.step), dataset.mark])")
+                marks = tab.value(
+                    "[...document.querySelectorAll('[data-mark]:not([data-more])')].map(({ dataset }) =>"
+                    "[Number(dataset.line), Number(dataset.user), Number(dataset.step), dataset.mark])"
+                )
                 wanted = [(line, reply["user"], reply["step"]) for line, reply in enumerate(self.replies[count], 1)]
                 self.assertEqual(sorted(tuple(mark[:3]) for mark in marks), wanted)
                 words = collections.Counter(reply["reply"] for reply in self.replies[count])
                 kinds = collections.Counter(kind for *_, kind in marks)
                 self.assertEqual(kinds["birth"] + kinds["lwp-birth"], words["new"])
-                for kind, word in (("stop", "stopped"), ("wait", "status"), ("end", "ended"), ("error", "error"),
-                                   ("held", "held"), ("nothing", "nothing"), ("caught", "caught")):
+                for kind, word in (
+                    ("stop", "stopped"),
+                    ("wait", "status"),
+                    ("end", "ended"),
+                    ("error", "error"),
+                    ("held", "held"),
+                    ("nothing", "nothing"),
+                    ("caught", "caught"),
+                ):
                     self.assertEqual(kinds[kind], words[word], kind)
                 self.assertEqual(tab.value("document.querySelectorAll('[data-mark]:not([aria-label])').length"), 0)
                 self.assertEqual(tab.value("faults.children.length"), 0)
@@ -334,7 +344,3 @@ class ByHand(unittest.TestCase):
         self.assertLess(len(part.marks), 1000)
         print(f"5000 lines are read and drawn in {part.body['data-milliseconds']} ms, {len(part.marks)} marks in view")
         self.assertLess(int(part.body["data-milliseconds"]), MOST_MILLISECONDS)
-
-
-if __name__ == "__main__":
-    run()

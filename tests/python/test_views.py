@@ -1,16 +1,12 @@
 """The instructions of a view by the library, include/tracehost.h: a user's view takes no time by other users' rows.
 
-    python3 -m pytest tests/python/test_views.py
-
-The library is that of $TRACEHOST_LIB_DIR, else the release's. callgrind counts, so each run has the same result. A
-look-up may meet another number in its group of the index, and then takes some instructions more.
+callgrind counts, so each run has the same result. A look-up may meet another number in its group of the index, and then
+takes some instructions more.
 """
 
 from __future__ import annotations
 
-import os
 import pathlib
-import platform
 import shutil
 import sys
 
@@ -28,10 +24,8 @@ pytestmark = pytest.mark.skipif(not (shutil.which("valgrind") and shutil.which("
 
 
 @pytest.fixture(scope="module")
-def views(tmp_path_factory: pytest.TempPathFactory) -> pathlib.Path:
-    release = TOP / f"release/{platform.machine()}-linux"
-    library = pathlib.Path(os.environ.get("TRACEHOST_LIB_DIR", release)).resolve() / "libtracehost.a"
-    return compile_views(tmp_path_factory.mktemp("views"), library)
+def views(library: pathlib.Path, tmp_path_factory: pytest.TempPathFactory) -> pathlib.Path:
+    return compile_views(tmp_path_factory.mktemp("views"), library / "libtracehost.a")
 
 
 def test_a_view_takes_no_time_by_the_rows_of_others(views: pathlib.Path) -> None:

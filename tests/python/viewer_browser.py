@@ -20,7 +20,7 @@ COVERAGE = os.environ.get("VIEWER_COVERAGE")
 
 
 class Document(html.parser.HTMLParser):
-    """The elements of a document with their attributes, and of a mark the lane that it stands on."""
+    """The elements of a document with their attributes, and of a mark its lane."""
 
     VOID = {"meta", "input", "br", "link", "img"}
 
@@ -79,7 +79,7 @@ class Document(html.parser.HTMLParser):
         return sorted((mark for mark in self.marks if "data-more" not in mark), key=lambda mark: int(mark["data-line"]))
 
     def steps(self, kind: str) -> list[tuple[int, int]]:
-        """The processes and steps of the marks of a kind that stand beside those of steps."""
+        """The processes and steps of the marks of a kind beside those of steps."""
         return sorted((mark["lane"][1], int(mark["data-line"])) for mark in self.marks if mark["data-mark"] == kind)
 
 
@@ -91,12 +91,24 @@ class Browser:
 
     def __init__(self, program: str) -> None:
         self.profile = tempfile.TemporaryDirectory(ignore_cleanup_errors=True)
-        words = ["--headless", "--no-sandbox", "--disable-gpu", "--disable-dev-shm-usage", "--no-first-run",
-                 "--disable-extensions", "--disable-component-update", f"--user-data-dir={self.profile.name}"]
+        words = [
+            "--headless",
+            "--no-sandbox",
+            "--disable-gpu",
+            "--disable-dev-shm-usage",
+            "--no-first-run",
+            "--disable-extensions",
+            "--disable-component-update",
+            f"--user-data-dir={self.profile.name}",
+        ]
         (heard, self.to), (self.from_, said) = os.pipe(), os.pipe()
         script = f'exec "$@" --remote-debugging-pipe 3<&{heard} 4>&{said}'
-        self.process = subprocess.Popen(["bash", "-c", script, "bash", program, *words], pass_fds=(heard, said),
-                                        stdout=subprocess.DEVNULL, stderr=subprocess.DEVNULL)
+        self.process = subprocess.Popen(
+            ["bash", "-c", script, "bash", program, *words],
+            pass_fds=(heard, said),
+            stdout=subprocess.DEVNULL,
+            stderr=subprocess.DEVNULL,
+        )
         os.close(heard)
         os.close(said)
         self.timer = threading.Timer(MOST_SECONDS, self.process.kill)
@@ -128,7 +140,7 @@ class Browser:
             message["sessionId"] = session
         data = json.dumps(message).encode() + b"\0"
         while data:
-            data = data[os.write(self.to, data):]
+            data = data[os.write(self.to, data) :]
         while (answer := self.message()).get("id") != self.count:
             self.events.append((answer.get("sessionId"), answer.get("method")))
         if "error" in answer:
@@ -152,8 +164,7 @@ class Tab:
         self.target = browser.ask("Target.createTarget", url="about:blank")["targetId"]
         self.session = browser.ask("Target.attachToTarget", targetId=self.target, flatten=True)["sessionId"]
         self.ask("Page.enable")
-        self.ask("Emulation.setDeviceMetricsOverride", width=width, height=height, deviceScaleFactor=1,
-                 mobile=False)
+        self.ask("Emulation.setDeviceMetricsOverride", width=width, height=height, deviceScaleFactor=1, mobile=False)
         if COVERAGE:
             self.ask("Profiler.enable")
             self.ask("Profiler.startPreciseCoverage", callCount=True, detailed=True)
@@ -176,14 +187,17 @@ class Tab:
 
     def middle(self, selector: str) -> tuple[float, float]:
         """The middle of an element in the window."""
-        x, y = self.value(f"(box => [box.x + box.width / 2, box.y + box.height / 2])"
-                          f"(document.querySelector({json.dumps(selector)}).getBoundingClientRect())")
+        x, y = self.value(
+            f"(box => [box.x + box.width / 2, box.y + box.height / 2])"
+            f"(document.querySelector({json.dumps(selector)}).getBoundingClientRect())"
+        )
         return x, y
 
     def mouse(self, kind: str, x: float, y: float, buttons: int = 0) -> None:
         button = "left" if buttons or kind == "mouseReleased" else "none"
-        self.ask("Input.dispatchMouseEvent", type=kind, x=x, y=y, button=button, buttons=buttons,
-                 clickCount=int(kind != "mouseMoved"))
+        self.ask(
+            "Input.dispatchMouseEvent", type=kind, x=x, y=y, button=button, buttons=buttons, clickCount=int(kind != "mouseMoved")
+        )
 
     def point(self, selector: str, click: bool = False) -> None:
         """Moves the pointer to the middle of an element, and clicks there."""
@@ -207,8 +221,9 @@ class Tab:
 
     def settle(self, seconds: float = 0.05) -> None:
         """Waits so long, and until the page has then drawn two frames."""
-        self.value(f"new Promise(done => setTimeout(() => requestAnimationFrame(() => requestAnimationFrame(done)),"
-                   f"{1000 * seconds}))")
+        self.value(
+            f"new Promise(done => setTimeout(() => requestAnimationFrame(() => requestAnimationFrame(done))," f"{1000 * seconds}))"
+        )
 
     def document(self) -> Document:
         return Document(self.value("document.documentElement.outerHTML"))
@@ -216,7 +231,9 @@ class Tab:
     def keep_coverage(self) -> None:
         """Leaves V8's counts of the page's script: the one with the most functions."""
         scripts = self.ask("Profiler.takePreciseCoverage")["result"]
-        functions: list[dict[str, Any]] = max((one["functions"] for one in scripts if one["url"].startswith("file:")), key=len, default=[])
+        functions: list[dict[str, Any]] = max(
+            (one["functions"] for one in scripts if one["url"].startswith("file:")), key=len, default=[]
+        )
         with tempfile.NamedTemporaryFile("w", prefix="page-", suffix=".json", dir=COVERAGE, delete=False) as file:
             json.dump(functions, file)
 

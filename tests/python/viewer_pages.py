@@ -5,49 +5,52 @@ from __future__ import annotations
 import importlib.machinery
 import os
 import pathlib
+import shutil
 import subprocess
 import sys
 import tempfile
-from typing import Any, NoReturn, Optional
+from collections.abc import Iterator
+from typing import Any, Optional
 
-from counting import run_unit_tests
+import pytest
 from viewer_browser import Browser, Document, Tab
 
 TOP = pathlib.Path(__file__).resolve().parents[2]
 MAKE = TOP / "viewer" / "make"
 MAKER = importlib.machinery.SourceFileLoader("viewer_make", str(MAKE)).load_module()
 EXAMPLES = [path for path in sorted((TOP / "examples").glob("*.json")) if not path.with_suffix(".err").exists()]
-PROGRAM = sys.argv[1]
-HAS_BROWSER = len(sys.argv) > 2
-NO_BROWSER = "Chromium isn't installed, so no page is opened"
-_browser = Browser(sys.argv[2]) if HAS_BROWSER else None
+CHROMIUM = shutil.which("chromium") or shutil.which("chromium-browser") or shutil.which("google-chrome")
+needs_browser = pytest.mark.skipif(CHROMIUM is None, reason="Chromium isn't installed, so no page is opened")
+_browsers: list[Browser] = []
+
+
+@pytest.fixture(scope="module", autouse=True)
+def viewed(program: pathlib.Path) -> Iterator[None]:
+    """The program that the pages' lines come from is in the environment. The browser is closed at the end."""
+    with pytest.MonkeyPatch.context() as patch:
+        patch.setenv("TRACEHOST", str(program))
+        yield
+    while _browsers:
+        _browsers.pop().close()
 
 
 def browser() -> Browser:
     """The browser; only tests that are skipped without one ask for it."""
-    assert _browser is not None, NO_BROWSER
-    return _browser
+    if not _browsers:
+        assert CHROMIUM
+        _browsers.append(Browser(CHROMIUM))
+    return _browsers[0]
 
 
 def run_make(*words: object, make: pathlib.Path = MAKE, **how: Any) -> subprocess.CompletedProcess[bytes]:
     """viewer/make with these words; it asks the program that is tested, unless `env` names another one."""
-    how.setdefault("env", {**os.environ, "TRACEHOST": PROGRAM})
     return subprocess.run([sys.executable, str(make), *map(str, words)], capture_output=True, **how)
 
 
 def lines_of(*words: object) -> bytes:
     """What the program prints with --json, or with `--json=trace` if the words say so."""
     options = [] if "--json=trace" in words else ["--json"]
-    return subprocess.run([PROGRAM, *options, *map(str, words)], capture_output=True, check=True).stdout
-
-
-def run() -> NoReturn:
-    """Runs the tests of the program that calls this."""
-    try:
-        run_unit_tests()
-    finally:
-        if _browser:
-            _browser.close()
+    return subprocess.run([os.environ["TRACEHOST"], *options, *map(str, words)], capture_output=True, check=True).stdout
 
 
 class Pages:

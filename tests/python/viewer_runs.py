@@ -12,12 +12,12 @@ import random
 import sys
 from typing import Any, Optional
 
-Step = dict[str, Any]  # a step of docs/FORMAT.md, or a reply of docs/JSON.md
+Step = dict[str, Any]  # a step of docs/FORMAT.md, or a reply of it
 Scenario = dict[str, list[Step]]
 Lane = tuple[str, int]
 Mark = tuple[str, tuple[str, Any]]
 
-# who traces whom, from which step to which, by the rules of docs/MACHINE.md; None if tracing goes on
+# who traces whom, from which step to which, by the rules of docs/internals/MACHINE.md; None if tracing goes on
 TRACES: dict[str, list[tuple[str, int, Optional[int]]]] = {
     "attach_and_continue": [("1000 1001", 3, 11)],
     "crash_collector": [("1000 1001", 3, 19), ("1000 1002", 6, 23)],
@@ -43,6 +43,7 @@ FOLLOWED = {"follow_a_fork": [(1002, 8)], "vfork_and_exec": [(1002, 8)]}
 
 def thread_steps() -> Scenario:
     """A program is started by PT_TRACE_ME; one of its two LWPs is suspended, the other ends; then all is killed."""
+
     def turn(lwp: int, act: str, **more: Any) -> Step:
         return {"op": "turn", "lwp": lwp, "act": act, **more}
 
@@ -52,23 +53,45 @@ def thread_steps() -> Scenario:
     first, second = 100001, 100002
     wait, go = {"op": "wait4", "caller": 1000, "which": -1}, ptrace("PT_CONTINUE", 1001)
     steps: list[Step] = [
-        {"op": "spawn"}, turn(100000, "enter", call="fork"), turn(100000, "leave"),
+        {"op": "spawn"},
+        turn(100000, "enter", call="fork"),
+        turn(100000, "leave"),
         {"op": "ptrace", "caller": 1001, "request": "PT_TRACE_ME"},
-        turn(first, "enter", call="exec"), turn(first, "leave"), wait,
-        ptrace("PT_SET_EVENT_MASK", 1001, mask=["PTRACE_LWP"]), go,
-        turn(first, "enter", call="thr_new"), turn(first, "leave"), turn(second, "compute"), wait,
-        ptrace("PT_SUSPEND", first), go, turn(first, "compute"),
-        turn(second, "raise", signal=15), turn(second, "compute"), wait, ptrace("PT_RESUME", first), go,
-        turn(second, "enter", call="thr_exit"), turn(second, "leave"), wait, go, turn(second, "compute"),
-        {"op": "kill", "caller": 1000, "which": -1, "signal": 9}, wait,
+        turn(first, "enter", call="exec"),
+        turn(first, "leave"),
+        wait,
+        ptrace("PT_SET_EVENT_MASK", 1001, mask=["PTRACE_LWP"]),
+        go,
+        turn(first, "enter", call="thr_new"),
+        turn(first, "leave"),
+        turn(second, "compute"),
+        wait,
+        ptrace("PT_SUSPEND", first),
+        go,
+        turn(first, "compute"),
+        turn(second, "raise", signal=15),
+        turn(second, "compute"),
+        wait,
+        ptrace("PT_RESUME", first),
+        go,
+        turn(second, "enter", call="thr_exit"),
+        turn(second, "leave"),
+        wait,
+        go,
+        turn(second, "compute"),
+        {"op": "kill", "caller": 1000, "which": -1, "signal": 9},
+        wait,
     ]
     return {"steps": [{"user": 1001, **step} for step in steps]}
 
 
 # what its page says along the lanes: what, from which step to which
 THREAD_STRETCHES = {
-    "in fork, from step 2 to 3", "in exec, from step 5 to 6", "in thr_new, from step 10 to 11",
-    "in thr_exit, from step 22 to 23", "suspended, from step 14 to 20",
+    "in fork, from step 2 to 3",
+    "in exec, from step 5 to 6",
+    "in thr_new, from step 10 to 11",
+    "in thr_exit, from step 22 to 23",
+    "suspended, from step 14 to 20",
     "stopped: SIGTRAP SCX EXEC, from step 6 to 9, reported at 7",
     "stopped: SIGTRAP SCX BORN, from step 12 to 15, reported at 13",
     "stopped: SIGTERM, from step 18 to 21, reported at 19",
@@ -78,15 +101,20 @@ THREAD_STRETCHES = {
 
 # its LWPs and processes, from which step to which they live
 THREAD_LIVES = {
-    ("process", 1000): (1, None), ("lwp", 100000): (1, None), ("process", 1001): (3, 27), ("lwp", 100001): (3, 27),
+    ("process", 1000): (1, None),
+    ("lwp", 100000): (1, None),
+    ("process", 1001): (3, 27),
+    ("lwp", 100001): (3, 27),
     ("lwp", 100002): (11, 25),
 }
 
 
 def untold_end() -> Scenario:
-    """A process ends by the signal that it is detached with, of which no wait tells; a turn is answered ESRCH."""
+    """A process ends by the signal that it is detached with, and no wait reports it; a turn is answered ESRCH."""
     steps: list[Step] = [
-        {"op": "spawn"}, {"op": "spawn"}, {"op": "ptrace", "caller": 1000, "request": "PT_ATTACH", "target": 1001},
+        {"op": "spawn"},
+        {"op": "spawn"},
+        {"op": "ptrace", "caller": 1000, "request": "PT_ATTACH", "target": 1001},
         {"op": "wait4", "caller": 1000, "which": -1},
         {"op": "ptrace", "caller": 1000, "request": "PT_DETACH", "target": 1001, "data": 15},
         {"op": "turn", "lwp": 100001, "act": "compute"},
@@ -95,13 +123,12 @@ def untold_end() -> Scenario:
 
 
 def fork_steps() -> Scenario:
-    """Two followed forks, of both of which the child is known only later, that of the second first."""
+    """Two followed forks. The child of each is known only later, that of the second first."""
     steps: list[Step] = [{"op": "spawn"}] * 3
 
     def ptrace(request: str, *targets: int) -> None:
         data = int(request == "PT_FOLLOW_FORK")
-        steps.extend({"op": "ptrace", "caller": 1000, "request": request, "target": target, "data": data}
-                     for target in targets)
+        steps.extend({"op": "ptrace", "caller": 1000, "request": request, "target": target, "data": data} for target in targets)
 
     def wait(*pids: int) -> None:
         steps.extend({"op": "wait4", "caller": 1000, "which": pid} for pid in pids)
@@ -141,7 +168,7 @@ def long_scenario(count: int) -> Scenario:
                 stopped(at)
                 own.append({"op": "turn", "lwp": lwp + at, "act": "leave"})
                 stopped(at)
-        steps.append([{"user": user, **step} for step in own[:count // 4]])
+        steps.append([{"user": user, **step} for step in own[: count // 4]])
     return {"steps": [step for four in zip(*steps) for step in four]}
 
 
@@ -153,8 +180,15 @@ def expected_mark(step: Step, reply: Step, known: dict[int, int]) -> Mark:
     home: tuple[str, Any] = ("process", step["caller"]) if "caller" in step else ("lwp", step.get("lwp"))
     if word == "ended":
         return "end", ("process", known[step["lwp"]])
-    fixed = {"status": "wait", "stopped": "stop", "nothing": "nothing", "handled": "handled", "caught": "caught",
-             "error": "error", "held": "held"}
+    fixed = {
+        "status": "wait",
+        "stopped": "stop",
+        "nothing": "nothing",
+        "handled": "handled",
+        "caught": "caught",
+        "error": "error",
+        "held": "held",
+    }
     if word in fixed:
         return fixed[word], home
     if word != "ok":
@@ -165,9 +199,17 @@ def expected_mark(step: Step, reply: Step, known: dict[int, int]) -> Mark:
         return ("post", ("process", target)) if step["signal"] else ("request", home)
     if step["op"] == "turn":
         return {"raise": "post", "enter": "call", "leave": "leave"}.get(step["act"], "run"), home
-    requests = {"PT_ATTACH": "attach", "PT_TRACE_ME": "attach", "PT_DETACH": "detach", "PT_KILL": "kill",
-                "PT_CONTINUE": "resume", "PT_STEP": "resume", "PT_TO_SCE": "resume", "PT_TO_SCX": "resume",
-                "PT_SYSCALL": "resume"}
+    requests = {
+        "PT_ATTACH": "attach",
+        "PT_TRACE_ME": "attach",
+        "PT_DETACH": "detach",
+        "PT_KILL": "kill",
+        "PT_CONTINUE": "resume",
+        "PT_STEP": "resume",
+        "PT_TO_SCE": "resume",
+        "PT_TO_SCX": "resume",
+        "PT_SYSCALL": "resume",
+    }
     return requests.get(step.get("request", ""), "request"), home
 
 
@@ -200,8 +242,17 @@ def expected_lanes(steps: list[Step], replies: list[Step]) -> set[Lane]:
 
 CALLS = ["exec", "exit", "thr_exit", "other"]  # those that make nothing
 SIGNALS = [2, 5, 9, 15, 17, 18, 19, 20, 30]
-REQUESTS = ["PT_CONTINUE", "PT_STEP", "PT_SYSCALL", "PT_DETACH", "PT_LWPINFO", "PT_GETLWPLIST", "PT_SUSPEND",
-            "PT_RESUME", "PT_KILL"]
+REQUESTS = [
+    "PT_CONTINUE",
+    "PT_STEP",
+    "PT_SYSCALL",
+    "PT_DETACH",
+    "PT_LWPINFO",
+    "PT_GETLWPLIST",
+    "PT_SUSPEND",
+    "PT_RESUME",
+    "PT_KILL",
+]
 KEPT = 10  # processes of a user, about
 
 
@@ -238,7 +289,7 @@ class RandomUser:
     def spawn(self) -> tuple[int, int, list[Step]]:
         """A new process ends the old ones, so that there are never too many."""
         pid = self.new_pid()
-        old = self.pids[self.killed:-KEPT]
+        old = self.pids[self.killed : -KEPT]
         self.killed += len(old)
         kills: list[Step] = [{"op": "kill", "caller": pid, "which": other, "signal": 9} for other in old]
         return pid, self.new_lwp(), [{"op": "spawn"}, *kills]
@@ -262,23 +313,41 @@ class RandomUser:
         mask = ["PTRACE_FORK", *self.dice.sample(["PTRACE_VFORK", "PTRACE_LWP", "PTRACE_EXEC", "PTRACE_SCX"], 2)]
         child = self.new_pid()
         self.new_lwp()
-        return steps + more + [
-            self.ptrace(debugger, "PT_ATTACH", target), self.wait(debugger),
-            self.ptrace(debugger, "PT_SET_EVENT_MASK", target, mask=mask), self.ptrace(debugger, "PT_CONTINUE", target),
-            *self.calls(lwp, self.dice.choice(["fork", "vfork"])), self.wait(debugger), self.wait(debugger),
-            self.ptrace(debugger, self.dice.choice(["PT_LWPINFO", "PT_SUSPEND"]), target),
-            self.ptrace(debugger, "PT_CONTINUE", target),
-            self.ptrace(debugger, self.dice.choice(["PT_CONTINUE", "PT_SYSCALL", "PT_DETACH"]), child)]
+        return (
+            steps
+            + more
+            + [
+                self.ptrace(debugger, "PT_ATTACH", target),
+                self.wait(debugger),
+                self.ptrace(debugger, "PT_SET_EVENT_MASK", target, mask=mask),
+                self.ptrace(debugger, "PT_CONTINUE", target),
+                *self.calls(lwp, self.dice.choice(["fork", "vfork"])),
+                self.wait(debugger),
+                self.wait(debugger),
+                self.ptrace(debugger, self.dice.choice(["PT_LWPINFO", "PT_SUSPEND"]), target),
+                self.ptrace(debugger, "PT_CONTINUE", target),
+                self.ptrace(debugger, self.dice.choice(["PT_CONTINUE", "PT_SYSCALL", "PT_DETACH"]), child),
+            ]
+        )
 
     def other(self) -> list[Step]:
         dice = self.dice
         call, signal = dice.choice(CALLS), dice.choice(SIGNALS)
         code: dict[str, Any] = {"code": dice.randrange(4)} if call in ("exit", "other") else {}
-        return dice.choice([
-            [self.turn("enter", call=call, **code)], [self.turn("leave")], [self.turn("compute")],
-            [self.turn("compute")], [self.turn("raise", signal=signal)], [self.wait()], [self.wait()],
-            [{"op": "kill", "caller": self.pid(), "which": self.pid(), "signal": signal}],
-            [self.ptrace(self.pid(), dice.choice(REQUESTS), self.pid())], [{"op": "list", "caller": self.pid()}]])
+        return dice.choice(
+            [
+                [self.turn("enter", call=call, **code)],
+                [self.turn("leave")],
+                [self.turn("compute")],
+                [self.turn("compute")],
+                [self.turn("raise", signal=signal)],
+                [self.wait()],
+                [self.wait()],
+                [{"op": "kill", "caller": self.pid(), "which": self.pid(), "signal": signal}],
+                [self.ptrace(self.pid(), dice.choice(REQUESTS), self.pid())],
+                [{"op": "list", "caller": self.pid()}],
+            ]
+        )
 
     def step(self) -> Step:
         if not self.planned:
@@ -293,7 +362,11 @@ def random_scenario(seed: int, count: int) -> Scenario:
     return {"steps": [dice.choice(users).step() for _ in range(count)]}
 
 
-if __name__ == "__main__":
+def write(folder: pathlib.Path) -> None:
+    """Writes the scenarios that node's tests read."""
     for count in (300, 5000):
-        path = pathlib.Path(sys.argv[1]) / f"random{count}.json"
-        path.write_text(json.dumps(random_scenario(count, count)))
+        (folder / f"random{count}.json").write_text(json.dumps(random_scenario(count, count)))
+
+
+if __name__ == "__main__":
+    write(pathlib.Path(sys.argv[1]))

@@ -104,16 +104,14 @@ def python_class(head: str, about: str, members: list[str]) -> str:
 
 def python_bits(entries: tuple[Entry, ...]) -> list[str]:
     return [
-        f"{entry.name} = {' | '.join(entry.both)}" if entry.both else f"{entry.name} = 0x{entry.number:04X}"
-        for entry in entries
+        f"{entry.name} = {' | '.join(entry.both)}" if entry.both else f"{entry.name} = 0x{entry.number:04X}" for entry in entries
     ]
 
 
 def python_requests(form: Format) -> str:
     members = [f"{entry.name} = {entry.number}" for entry in by_number(form.requests)]
-    return python_class(
-        "Request(enum.IntEnum)", "The requests of ptrace(2), with the numbers of <sys/ptrace.h>.", members
-    )
+    made = python_class("Request(enum.IntEnum)", "The requests of ptrace(2), with the numbers of <sys/ptrace.h>.", members)
+    return f"{made}\n\n"
 
 
 def python_flags(form: Format) -> str:
@@ -127,15 +125,16 @@ def python_flags(form: Format) -> str:
         "What a stop is about: ``pl_flags``, with the bits of <sys/ptrace.h>.",
         python_bits(form.stop_flags),
     )
-    return f"{events}\n\n{flags}"
+    return f"{events}\n\n{flags}\n\n"
 
 
 def python_names(form: Format) -> str:
     actions = [f'{action.client} = "{action.name}"' for action in form.actions]
     calls = [f'{call.name.upper()} = "{call.name}"' for call in form.calls]
     decisions = [f'{decision.name.upper()} = "{decision.name}"' for decision in form.decisions]
-    return "\n\n".join(
-        [
+    return "".join(
+        f"{made}\n\n"
+        for made in [
             python_class(
                 "Action(enum.Enum)",
                 "What a process does with a signal, as ``sa_handler`` of sigaction(2) says it.",
@@ -196,7 +195,7 @@ def taken(request: Entry) -> Taken:
 
 def rust_about(request: Entry) -> str:
     """What a request does, without the words of the prompt."""
-    text = re.sub("^PID [^:]*: ", "", request.help)
+    text = re.sub("^ptrace PID [^:]*: ", "", request.help)
     text = text.replace(" if DATA is 0", "").replace("the first DATA", "at most so many")
     if text[1].islower():
         text = text[0].lower() + text[1:]
@@ -244,8 +243,12 @@ def viewer_python_map(name: str, about: str, rows: list[tuple[str, list[str]]]) 
 def viewer_python_ops(form: Format) -> str:
     """The replies of each op, and its keys."""
     return (
-        viewer_python_map("ANSWERS", "the replies of each op, beside error and held", [(op.name, op.reply_names) for op in form.ops])
-        + viewer_python_map("NEEDED", "the keys that a step of each op has, beside user and op", [(op.name, op.needed) for op in form.ops])
+        viewer_python_map(
+            "ANSWERS", "the replies of each op, beside error and held", [(op.name, op.reply_names) for op in form.ops]
+        )
+        + viewer_python_map(
+            "NEEDED", "the keys that a step of each op has, beside user and op", [(op.name, op.needed) for op in form.ops]
+        )
         + viewer_python_map("NEEDED_BY_ACT", "the keys that an act has", [(act.name, act.needed) for act in form.acts])
     )
 

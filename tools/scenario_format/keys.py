@@ -4,8 +4,7 @@ from __future__ import annotations
 
 import textwrap
 
-from .rattle import rows
-from .tables import Format, NamedKey
+from .tables import Format, NamedKey, wrapped
 
 # what a value comes to by its kind: the parser's function, and the definition
 ATOMS = {
@@ -18,6 +17,12 @@ ATOMS = {
     "request": ("request_in", "name_in request_named"),
     "action": ("disposition_in", "name_in disposition_named"),
 }
+
+
+def rows(items: list[str]) -> str:
+    """A list of a definition, over several lines."""
+    links = [f"({items[0]})", *(f" ∷ ({item})" for item in items[1:]), " ∷ [])"]
+    return "\n".join(wrapped(links, 122, "    (", "    "))
 
 
 def constants(form: Format) -> str:
@@ -48,9 +53,11 @@ def name_rows(form: Format) -> str:
 
 
 def set_rows(form: Format) -> str:
-    return "abbrev pub key_set : Key → Keys\n" + "".join(
-        f"key_set key.{key.variant} = keys.{key.name.upper()}\n" for key in form.keys
-    ) + "\n"
+    return (
+        "abbrev pub key_set : Key → Keys\n"
+        + "".join(f"key_set key.{key.variant} = keys.{key.name.upper()}\n" for key in form.keys)
+        + "\n"
+    )
 
 
 def places(form: Format) -> str:
@@ -67,9 +74,7 @@ def atoms(form: Format) -> list[NamedKey]:
 
 def settings(form: Format) -> str:
     """What each key sets, in crates/scenario_text/src/members.rt"""
-    return "".join(
-        f"        Key::{key.variant} => fields.{key.name} = {ATOMS[key.kind][0]}(atom),\n" for key in atoms(form)
-    )
+    return "".join(f"        Key::{key.variant} => fields.{key.name} = {ATOMS[key.kind][0]}(atom),\n" for key in atoms(form))
 
 
 def set_definition(form: Format) -> str:

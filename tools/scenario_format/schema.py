@@ -15,7 +15,7 @@ TARGET = "A process (up to 99999) or an LWP (greater)."
 
 
 def laid_out(value: Any, indent: int = 0, before: int = 0) -> str:
-    """JSON in lines of at most WIDTH characters; `before` is what stands before the value on its line."""
+    """JSON in lines of at most WIDTH characters; `before` is the text before the value on its line."""
     line = one_line(value)
     if not isinstance(value, dict | list) or before + len(line) <= WIDTH and indent > 0:
         return line
@@ -24,10 +24,7 @@ def laid_out(value: Any, indent: int = 0, before: int = 0) -> str:
         items = [laid_out(item, indent + 2, indent + 3) for item in value]
         return "[\n" + ",\n".join(space + item for item in items) + "\n" + " " * indent + "]"
     members = [f"{json.dumps(name)}: " for name in value]
-    items = [
-        name + laid_out(item, indent + 2, indent + 3 + len(name))
-        for name, item in zip(members, value.values(), strict=True)
-    ]
+    items = [name + laid_out(item, indent + 2, indent + 3 + len(name)) for name, item in zip(members, value.values(), strict=True)]
     return "{\n" + ",\n".join(space + item for item in items) + "\n" + " " * indent + "}"
 
 

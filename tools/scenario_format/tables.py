@@ -42,7 +42,6 @@ class Entry:
     number: int | None = None
     library: int | None = None
     keys: tuple[Key, ...] = ()
-    has_data: bool = False
     data: str | None = None
     code: str | None = None
     client: str = ""

@@ -30,7 +30,7 @@ export class Card {
     this.place(mark);
   }
 
-  /** Where the picture has moved: a kept card goes with its mark, another one closes. */
+  /** The picture has moved: a kept card goes with its mark, another one closes. */
   moved() {
     if (!this.kept) return this.close();
     if (!this.picture.shows(this.kept)) this.element.hidden = true;

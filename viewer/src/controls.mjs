@@ -32,7 +32,7 @@ export function listenForFiles(page) {
     if (files.length) takeFiles(files);
     else page.take([{ name: "what was dropped", text: event.dataTransfer.getData("text/plain") }]);
   });
-  addEventListener("paste", (event) => {
+  document.addEventListener("paste", (event) => {
     if (isField(event.target)) return;
     page.take([{ name: "what was pasted", text: event.clipboardData.getData("text/plain") }]);
   });
@@ -170,7 +170,7 @@ export function listenToKeys(page) {
   addEventListener("keydown", (event) => {
     if (event.altKey || event.ctrlKey || event.metaKey || !page.session) return;
     if (isField(event.target)) {
-      if (event.key === "Escape") event.target.blur();
+      if (event.key === "Escape") /** @type {HTMLElement} */ (event.target).blur();
       return;
     }
     if (Object.hasOwn(keys, event.key)) {
@@ -200,7 +200,7 @@ export function showLegend() {
   const paths = { span: "M-8-2V2H8V-2", zombie: "M-9 0H9" };
   const stretch = ([name, words]) => row(words, paths[name] ? shape("path", { class: name, d: paths[name] })
     : shape("rect", { class: `band ${name}`, x: -8, y: -5, width: 16, height: 10, rx: 2 }));
-  const box = document.querySelector("#legend > div");
+  const box = /** @type {HTMLElement} */ (document.querySelector("#legend > div"));
   box.style.setProperty("--user", colourOf(1001));
   box.append(...[...SIGNS.values()].map(sign), ...STRETCHES.map(stretch));
 }

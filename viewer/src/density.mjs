@@ -44,6 +44,7 @@ export function countBars(marks, { step, first, last }) {
 export function barPaths(marks, part) {
   const columns = columnsOfBar(part.step);
   const width = columns * part.step;
+  /** @type {[string, string, string]} */
   const paths = ["", "", ""];
   for (const [bar, counts] of countBars(marks, part)) {
     counts.forEach((count, level) => {

@@ -27,9 +27,11 @@ export class Drawing {
    * @param {Part} part
    */
   constructor(plan, part) {
-    Object.assign(this, { plan, part });
+    this.plan = plan;
+    this.part = part;
     const [first, last] = columnsBetween(plan, part);
-    [this.first, this.last] = [Math.max(0, first - 1), Math.min(plan.columns - 1, last + 1)];
+    this.first = Math.max(0, first - 1);
+    this.last = Math.min(plan.columns - 1, last + 1);
     this.lanes = plan.lanesBetween(part.top, part.bottom);
     this.elements = new Map(); // of each mark
   }

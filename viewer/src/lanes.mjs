@@ -6,7 +6,17 @@ import { firstFrom } from "./sorted.mjs";
 /**
  * A mark: what a step did, on the lane where it did it. A step has one primary mark, and may have more.
  *
- * @typedef {{kind: string, lane: Lane, label: string, at: number, primary: boolean, entry: Entry, source: Entry}} Mark
+ * @typedef {object} Mark
+ * @property {string} kind
+ * @property {Lane} lane
+ * @property {string} label
+ * @property {number} at  the index of its entry
+ * @property {boolean} primary
+ * @property {Entry} entry
+ * @property {Entry} source
+ * @property {number} [column]  by the plan, as the next two
+ * @property {number} [shift]
+ * @property {number} [x]
  *
  * A reply with the step that it answers.
  *
@@ -20,7 +30,11 @@ import { firstFrom } from "./sorted.mjs";
 /** A row of the picture: a user, a process, an LWP, or the lines that were no step. */
 export class Lane {
   constructor(kind, number, user, from, owner = null) {
-    Object.assign(this, { kind, number, user, from, owner });
+    this.kind = kind;
+    this.number = number;
+    this.user = user;
+    this.from = from;
+    this.owner = owner;
     this.to = null; // the entry where its life ends, null if no reply says so
     this.seenTo = null; // the last entry that reports it as a zombie
     this.concluded = false; // whether its end follows from a step, without `ended`
@@ -39,6 +53,8 @@ export class Lane {
     this.waiting = null; // the wait of an LWP for the child of its vfork
     this.maker = null; // the LWP whose fork or vfork made a process
     this.exiting = false;
+    /** @type {Mark[]} by the plan */
+    this.seen = [];
   }
 
   get name() {

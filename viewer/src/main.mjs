@@ -21,4 +21,4 @@ if (embedded) {
   document.querySelector("h1").textContent = embedded.title;
   page.take(embedded.files);
 }
-document.body.dataset.milliseconds = Math.round(performance.now() - began);
+document.body.dataset.milliseconds = String(Math.round(performance.now() - began));

@@ -1,6 +1,6 @@
 /** The window over the picture: what of it is drawn, and which mark is the current one. */
 
-import { element, LETTER, tag } from "./dom.mjs";
+import { element, tag } from "./dom.mjs";
 import { columnsBetween, Drawing } from "./drawing.mjs";
 import { colourOf } from "./signs.mjs";
 import { firstFrom } from "./sorted.mjs";
@@ -23,7 +23,9 @@ export class Picture {
    * @param {{drawsAll: boolean, onUser: (user: number) => void, onMark: (mark: Mark) => void}} how
    */
   constructor({ drawsAll, onUser, onMark }) {
-    Object.assign(this, { drawsAll, onUser, onMark });
+    this.drawsAll = drawsAll;
+    this.onUser = onUser;
+    this.onMark = onMark;
     this.hidesOthers = false; // whether lanes without anything in the window are left out
     this.plan = null;
     /** @type {Mark | null} */
@@ -140,7 +142,7 @@ export class Picture {
     return this.drawing?.elements.get(mark);
   }
 
-  /** Makes a mark the current one. Where its lane is drawn as bars it is drawn on them. */
+  /** Makes a mark the current one. If its lane is drawn as bars, it is drawn on them. */
   activate(mark) {
     this.current = mark;
     this.svg.removeAttribute("aria-activedescendant");

@@ -29,7 +29,12 @@ export class Plan {
    * @param {View} view
    */
   constructor(session, { user = null, step, hidden = new Set(), room = 0, letter = 6.6 }) {
-    Object.assign(this, { session, user, step, hidden, room, letter });
+    this.session = session;
+    this.user = user;
+    this.step = step;
+    this.hidden = hidden;
+    this.room = room;
+    this.letter = letter;
     this.isDense = step < NARROWEST_MARK;
     this.scale = Math.min(1, Math.max(0.4, step / WIDTH_OF_FULL_SIGNS));
     this.all = session.entries.filter(({ reply }) => user === null || reply.user === user);

@@ -14,7 +14,11 @@ const oneOf = (...values) => (value) => values.includes(value);
 const FLAGS = { flags: listOf(isName), child: isWord, code: isWord };
 const STATUS = { word: isWord };
 const SIGNAL = { signal: isSignal, number: isWord };
-/** The members of each reply, and of which form they are. */
+/**
+ * The members of each reply, with their forms.
+ *
+ * @type {Map<string, Record<string, (value: any) => boolean>>}
+ */
 const REPLIES = new Map(Object.entries({
   ok: {}, nothing: {}, held: {},
   new: { pid: isWord, lwp: isWord },
@@ -34,7 +38,7 @@ const REPLIES = new Map(Object.entries({
   ended: STATUS,
   error: { errno: isName, number: isWord },
 }));
-/** The members of a status, one of which says what its word means. */
+/** The members of a status; one of them says what its word means. */
 const MEANINGS = { exited: isWord, signaled: isSignal, stopped: isSignal, continued: oneOf(true) };
 // tools/format ops
 /** The replies of each op, beside `error` and `held`. */
@@ -170,7 +174,7 @@ function traced(replies) {
 }
 
 /**
- * Each reply with the step that it answers, in the order of the scenario. Where no scenario is given, a trace has the
+ * Each reply with the step that it answers, in the order of the scenario. If no scenario is given, a trace has the
  * steps, and other replies are alone.
  */
 export function pair(replies, scenario, faults) {
@@ -193,7 +197,7 @@ export function pair(replies, scenario, faults) {
 
 /** The place of a reply's step: by its user and number, or line by line if lines were refused. */
 function placesOf(replies, steps) {
-  if (replies.some((reply) => reply.refused)) return (reply, index) => index;
+  if (replies.some((reply) => reply.refused)) return (_reply, index) => index;
   const places = new Map();
   const counts = new Map();
   steps.forEach((step, index) => {

@@ -46,7 +46,11 @@ export const SIGNS = new Map(Object.entries({
   refused: sign("M-4-4H4V4H-4ZM-4-4L4 4M4-4L-4 4", "pale", "a line that is no step", 3),
 }));
 
-/** The kinds of stretches along a lane: class and words. */
+/**
+ * The kinds of stretches along a lane: class and words.
+ *
+ * @type {[string, string][]}
+ */
 export const STRETCHES = [
   ["stopped", "stopped, and not reported to a wait yet"], ["reported", "stopped and reported: requests are answered"],
   ["call", "in a system call"], ["waiting", "after vfork, until the child's exec or end"], ["suspended", "suspended"],

@@ -39,8 +39,12 @@ static int request(struct collector *c, int number, th_pid pid, void *addr, int 
 static void install(struct collector *c)
 {
     static const struct th_rule crashes[] = {
-        {TH_SIGILL, 0, TH_LEAVE, 0}, {TH_SIGABRT, 0, TH_LEAVE, 0}, {TH_SIGFPE, 0, TH_LEAVE, 0},
-        {TH_SIGBUS, 0, TH_LEAVE, 0}, {TH_SIGSEGV, 0, TH_LEAVE, 0}, {TH_SIGSYS, 0, TH_LEAVE, 0},
+        {TH_SIGILL, 0, TH_LEAVE, 0},
+        {TH_SIGABRT, 0, TH_LEAVE, 0},
+        {TH_SIGFPE, 0, TH_LEAVE, 0},
+        {TH_SIGBUS, 0, TH_LEAVE, 0},
+        {TH_SIGSEGV, 0, TH_LEAVE, 0},
+        {TH_SIGSYS, 0, TH_LEAVE, 0},
     };
     static const struct th_rule requests_to_end[] = {
         {TH_SIGHUP, 0, TH_CONTINUE, TH_SIGHUP},

@@ -39,7 +39,7 @@ static void note(struct debugger *d, const char *what)
     snprintf(d->log + length, sizeof d->log - length, "%s%s", length > 0 ? ", " : "", what);
 }
 
-/* A signal is logged and passed on, but for SIGSTOP and SIGTRAP, which are the debugger's own. */
+/* A signal is logged and passed on, except SIGSTOP and SIGTRAP, which are the debugger's own. */
 static int stopped(struct debugger *d, th_pid pid, int sig)
 {
     char flags[160];
@@ -110,10 +110,7 @@ static void check(struct world *w, const char *what, int result)
 }
 
 /* The debugger has done what it could: it is in its wait. */
-static void settle(struct world *w)
-{
-    check(w, "th_until_blocked", th_until_blocked(w->host, 1, 10 * SECONDS));
-}
+static void settle(struct world *w) { check(w, "th_until_blocked", th_until_blocked(w->host, 1, 10 * SECONDS)); }
 
 static void compute(struct world *w)
 {
@@ -137,17 +134,11 @@ static void calls(struct world *w, enum th_call call, unsigned code)
     check(w, "leave", th_turn_leave(w->host, USER, w->lwp, NULL));
 }
 
-static void exits(struct world *w, unsigned code)
-{
-    calls(w, TH_CALL_EXIT, code);
-}
+static void exits(struct world *w, unsigned code) { calls(w, TH_CALL_EXIT, code); }
 
 /* ---------------------------------------------------------------- the tests */
 
-static void exit_code(struct world *w)
-{
-    exits(w, 3);
-}
+static void exit_code(struct world *w) { exits(w, 3); }
 
 static void signal_twice(struct world *w)
 {
@@ -156,10 +147,7 @@ static void signal_twice(struct world *w)
     exits(w, 0);
 }
 
-static void fatal_signal(struct world *w)
-{
-    raises(w, TH_SIGSEGV);
-}
+static void fatal_signal(struct world *w) { raises(w, TH_SIGSEGV); }
 
 static void kill_signal(struct world *w)
 {

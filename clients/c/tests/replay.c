@@ -62,8 +62,13 @@ static void print_numbers(const char *kind, const int32_t *numbers, long count)
 
 static void print_refusal(void)
 {
-    static const char *const names[] = {[TH_EPERM] = "EPERM", [TH_ESRCH] = "ESRCH", [TH_ECHILD] = "ECHILD",
-        [TH_ENOMEM] = "ENOMEM", [TH_EBUSY] = "EBUSY", [TH_EINVAL] = "EINVAL", [TH_EAGAIN] = "EAGAIN"};
+    static const char *const names[] = {[TH_EPERM] = "EPERM",
+        [TH_ESRCH] = "ESRCH",
+        [TH_ECHILD] = "ECHILD",
+        [TH_ENOMEM] = "ENOMEM",
+        [TH_EBUSY] = "EBUSY",
+        [TH_EINVAL] = "EINVAL",
+        [TH_EAGAIN] = "EAGAIN"};
     int error = th_freebsd_errno(errno);
     if (errno == TH_EHELD)
         printf("held\n");

@@ -1,7 +1,4 @@
-"""The client in C: fork(2) with an open session, and records that can't be written. With the compiler's sanitizers.
-
-TRACEHOST names the program, TRACEHOST_LIBRARY the library, whose folder has libtracehost.a.
-"""
+"""The client in C: fork(2) with an open session, and records that can't be written. With the compiler's sanitizers."""
 
 from __future__ import annotations
 
@@ -17,22 +14,24 @@ import pytest
 
 TOP = pathlib.Path(__file__).resolve().parents[3]
 CLIENT = TOP / "clients/c"
-PROGRAM = os.environ["TRACEHOST"]
-ARCHIVE = pathlib.Path(os.environ["TRACEHOST_LIBRARY"]).parent / "libtracehost.a"
 SPAWN = '{"user":1001,"op":"spawn"}'
 LINE = "1001 1 new 1000 100000\n"
 SANITIZERS = ["-fsanitize=address,undefined", "-fno-sanitize-recover=all"]
 WARNINGS = ["-Wall", "-Wextra", "-Wpedantic", "-Wconversion", "-Werror"]
 
 
+def named_program() -> str:
+    return os.environ["TRACEHOST"]
+
+
 @pytest.fixture(scope="module", params=["pipe", "in process"])
-def faults(request: pytest.FixtureRequest, tmp_path_factory: pytest.TempPathFactory) -> str:
+def faults(request: pytest.FixtureRequest, library: pathlib.Path, tmp_path_factory: pytest.TempPathFactory) -> str:
     """The program of these tests, over a pipe or with the library."""
     built = tmp_path_factory.mktemp("faults") / "faults"
     inside = ["-DTRACEHOST_IN_PROCESS", f"-I{TOP / 'include'}"] if request.param == "in process" else []
     command = ["cc", "-std=c11", "-g", "-pthread", *WARNINGS, *SANITIZERS, *inside, "-Dpwrite=pwrite_of_a_small_disk"]
     command += ["-o", str(built), str(CLIENT / "tests/faults/faults.c"), str(CLIENT / "tracehost_client.c")]
-    subprocess.run([*command, *([str(ARCHIVE)] if inside else [])], check=True)
+    subprocess.run([*command, *([str(library / "libtracehost.a")] if inside else [])], check=True)
     return str(built)
 
 
@@ -46,20 +45,20 @@ def recorded(scenario: pathlib.Path, lines: pathlib.Path) -> int:
     """How many steps are left, with their lines."""
     steps = len(json.loads(scenario.read_bytes())["steps"])
     assert lines.read_text() == "".join(f"1001 {n + 1} new {1000 + n} {100000 + n}\n" for n in range(steps))
-    subprocess.run([PROGRAM, scenario, "--expect", lines], check=True)
+    subprocess.run([named_program(), scenario, "--expect", lines], check=True)
     return steps
 
 
 def test_a_fork(faults: str) -> None:
     """Over a pipe the child's calls are refused and its th_close does nothing to the parent's session; a session in the
     process is copied. A thread of the parent sleeps in a wait meanwhile."""
-    run(faults, "fork", PROGRAM)
+    run(faults, "fork", named_program())
 
 
 def test_a_disk_that_is_full_at_each_byte(faults: str, tmp_path: pathlib.Path) -> None:
     for room in range(150):
         scenario, lines = tmp_path / f"{room}.json", tmp_path / f"{room}.out"
-        made = int(run(faults, "disk", PROGRAM, scenario, lines, room))
+        made = int(run(faults, "disk", named_program(), scenario, lines, room))
         assert recorded(scenario, lines) == made == (room + len(",")) // len(LINE + ",\n" + SPAWN)
 
 
@@ -67,7 +66,7 @@ def test_a_file_that_may_not_grow(faults: str, tmp_path: pathlib.Path) -> None:
     """SIGXFSZ, which would end the program, isn't raised."""
     for size in (*range(45, 120), 4095, 4096, 4097):
         scenario, lines = tmp_path / f"{size}.json", tmp_path / f"{size}.out"
-        made = int(run(faults, "limit", PROGRAM, scenario, lines, size))
+        made = int(run(faults, "limit", named_program(), scenario, lines, size))
         assert recorded(scenario, lines) == made
 
 
@@ -97,7 +96,7 @@ def test_a_program_that_is_killed(tmp_path: pathlib.Path) -> None:
     sources = [str(tmp_path / "recorder.c"), str(CLIENT / "tracehost_client.c")]
     subprocess.run(["cc", "-O1", "-pthread", f"-I{CLIENT}", "-o", str(recorder), *sources], check=True)
     for _ in range(40):
-        process = subprocess.Popen([recorder, PROGRAM, scenario, lines], stdout=subprocess.PIPE)
+        process = subprocess.Popen([recorder, named_program(), scenario, lines], stdout=subprocess.PIPE)
         assert process.stdout is not None
         process.stdout.readline()
         time.sleep(chance.random() * 0.02)

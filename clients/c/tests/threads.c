@@ -139,7 +139,7 @@ static void two_threads(const char *program)
     CHECK(th_turn_leave(h, 1001, p.lwp, NULL) == 0);
     pthread_join(thread, NULL);
     CHECK(th_close(h) == 0);
-    /* a wait is asked when it begins, and after each step of the other thread, but for the one that is refused */
+    /* a wait is asked when it begins, and after each step of the other thread, except the one that is refused */
     has_recorded("1001 1 new 1000 100000\n1001 2 new 1001 100001\n"
                  "1001 3 ok\n1001 4 status 1001 4479\n1001 5 ok\n1001 6 nothing\n"
                  "1001 7 ok\n1001 8 nothing\n"

@@ -4,7 +4,7 @@
     python3 words.py FOLDER NAME.json ..
 
 In FOLDER, with - in place of the slashes of its name, NAME.text has each step on a line of its own, NAME.calls the words of a
-typed call for each step (but for a step whose numbers C's int can't hold, which stands as it is), and NAME.setting 1 or 0 for
+typed call for each step (except for a step whose numbers C's int can't hold, which stays as it is), and NAME.setting 1 or 0 for
 kern.kill_on_debugger_exit.
 """
 
@@ -27,7 +27,7 @@ def bits(flags: Any, names: list[str]) -> int:
 
 
 def place(kind: Any, value: str) -> int:
-    """Where a name stands in its enum, as C numbers it."""
+    """The place of a name in its enum, as C numbers it."""
     return [member.value for member in kind].index(value)
 
 

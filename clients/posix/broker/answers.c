@@ -1,4 +1,4 @@
-/* What a reply of the model is for the runtime. answers.py in C. */
+/* What a reply of the model is for the runtime. */
 #include <errno.h>
 #include <stdarg.h>
 #include <stdio.h>

@@ -1,5 +1,4 @@
-/* What a call means in steps: the bodies of the table in questions.c. Each is in the file that is named as its module in
- * Python, and has the same name there, unless C has that name already. */
+/* What a call means in steps: the bodies of the table in questions.c. */
 #ifndef CALLS_H
 #define CALLS_H
 #include "run.h"

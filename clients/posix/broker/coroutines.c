@@ -12,7 +12,11 @@ enum { STACK = 1 << 20, GUARD = 4096, LOW = 64 << 10 };
 
 static ucontext_t home;
 static LIST(char *) unused; /* stacks */
-static LIST(struct lwp *) owners; /* of stacks */
+static LIST(struct {
+	struct lwp *of;
+	char *stack;
+}) owned;
+static struct info deeper; /* what a handler's new stack begins with */
 static struct lwp *running, *leaving; /* leaving: its stack is in use until the switch is made */
 static void (*life_of)(struct lwp *l);
 
@@ -27,12 +31,29 @@ static char *new_stack(void)
 	return stack;
 }
 
+static char *stack_for(struct lwp *l)
+{
+	char *stack = new_stack();
+	APPEND(&owned, (typeof(*owned.at)){l, stack});
+	return stack;
+}
+
+static size_t place_of(const char *stack)
+{
+	size_t place = 0;
+	while (owned.at[place].stack != stack)
+		place++;
+	return place;
+}
+
+/* All of its stacks. */
 static void give_back(struct lwp *l)
 {
-	for (size_t i = owners.count; i-- > 0;)
-		if (owners.at[i] == l)
-			TAKE_OUT(&owners, i);
-	APPEND(&unused, l->stack);
+	for (size_t i = owned.count; i-- > 0;)
+		if (owned.at[i].of == l) {
+			APPEND(&unused, owned.at[i].stack);
+			TAKE_OUT(&owned, i);
+		}
 	l->stack = NULL;
 }
 
@@ -50,16 +71,20 @@ static void begin(void)
 	abort(); /* a life ends in vanish() */
 }
 
+static void prepare_context(ucontext_t *context, char *stack, void (*function)(void), ucontext_t *after)
+{
+	getcontext(context);
+	context->uc_stack.ss_sp = stack + GUARD;
+	context->uc_stack.ss_size = STACK;
+	context->uc_link = after;
+	makecontext(context, function, 0);
+}
+
 static void prepare(struct lwp *l)
 {
 	l->started = true;
-	l->stack = new_stack();
-	APPEND(&owners, l);
-	getcontext(&l->context);
-	l->context.uc_stack.ss_sp = l->stack + GUARD;
-	l->context.uc_stack.ss_size = STACK;
-	l->context.uc_link = NULL;
-	makecontext(&l->context, begin, 0);
+	l->stack = stack_for(l);
+	prepare_context(&l->context, l->stack, begin, NULL);
 }
 
 void switch_to(struct lwp *from, struct lwp *to)
@@ -102,12 +127,27 @@ void retire(struct lwp *l)
 void coroutines_end(void)
 {
 	leaving = NULL;
-	while (owners.count > 0)
-		give_back(owners.at[owners.count - 1]);
+	while (owned.count > 0)
+		give_back(owned.at[owned.count - 1].of);
 }
 
-/* Handlers within handlers may use it up. */
-bool stack_is_low(const struct lwp *l)
+/* ---- handlers within handlers may use up a stack: then the next one begins another */
+
+static void begin_handler(void) { run_handler(running, deeper); }
+
+/* Whether the handler has run, on a stack of its own. */
+bool ran_on_another_stack(struct lwp *l, struct info info)
 {
-	return (char *)__builtin_frame_address(0) - (l->stack + GUARD) < LOW;
+	ucontext_t here, there;
+	char *at = __builtin_frame_address(0), *former = l->stack;
+	if (at - (former + GUARD) >= LOW)
+		return false;
+	l->stack = stack_for(l);
+	deeper = info;
+	prepare_context(&there, l->stack, begin_handler, &here);
+	swapcontext(&here, &there);
+	APPEND(&unused, l->stack);
+	TAKE_OUT(&owned, place_of(l->stack));
+	l->stack = former;
+	return true;
 }

@@ -1,4 +1,4 @@
-/* Ends of LWPs and processes: of run.py the part about ends. */
+/* Ends of LWPs and processes. */
 #include <errno.h>
 #include <stdlib.h>
 #include <sys/socket.h>

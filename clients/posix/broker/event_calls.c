@@ -1,6 +1,5 @@
 /* What kqueue(2) and process descriptors need: which processes have forked, become another image, or ended; which signals
- * came. Filters and their states are the runtime's, which asks for what has happened since it has asked last.
- * event_calls.py in C. */
+ * came. Filters and their states are the runtime's, which asks for what has happened since it has asked last. */
 #include <errno.h>
 #include <stdlib.h>
 #include <string.h>
@@ -102,8 +101,8 @@ BODY(news_call)
 	say("ok %lld %d %zu ", (long long)table.now, lists->happened.count > told, told);
 	for (size_t i = 0, at = strlen(answer); i < told; i++) {
 		const struct happening *h = &lists->happened.at[i];
-		at += snprintf(answer + at, sizeof answer - at, "%s%lld %lld %lld %lld", i > 0 ? " " : "", (long long)h->kind, (long long)h->number,
-			(long long)h->first, (long long)h->second);
+		at += snprintf(answer + at, sizeof answer - at, "%s%lld %lld %lld %lld", i > 0 ? " " : "", (long long)h->kind,
+			(long long)h->number, (long long)h->first, (long long)h->second);
 	}
 	lists->happened.count -= told;
 	memmove(lists->happened.at, lists->happened.at + told, lists->happened.count * sizeof lists->happened.at[0]);

@@ -1,4 +1,4 @@
-/* What a thread says, and what it is answered: of run.py the part about sockets. */
+/* What a thread says, and what it is answered. */
 #include <errno.h>
 #include <string.h>
 #include <sys/socket.h>
@@ -87,10 +87,8 @@ static enum reading receive(struct lwp *l, bool amid, struct question *q)
 		line[got] = 0;
 		memcpy(copy, line, got + 1);
 		enum reading reading = strlen(line) == (size_t)got ? read_question(line, q) : FOREIGN_TEXT;
-		if (reading == FOREIGN_TEXT)
+		if (reading == FOREIGN_TEXT || reading == UNKNOWN)
 			foreign_text(l->process, copy, got);
-		if (reading == UNKNOWN)
-			unable("question %s", q->text);
 		if (reading == BROKEN)
 			broken("told %d %s", l->process->pid, q->words);
 		if (!amid || reading != ASKS || q->call->body != poke)
@@ -232,12 +230,12 @@ static void wait_for_turn(struct lwp *l)
 void run_handler(struct lwp *l, struct info info)
 {
 	char line[160];
-	if (stack_is_low(l))
-		unable("so many handlers within handlers");
+	if (ran_on_another_stack(l, info))
+		return;
 	l->waits = false, l->until = NEVER;
 	end_leg(l);
-	snprintf(line, sizeof line, "handler %lld %lld %lld %lld %lld", (long long)info.signal, (long long)info.code, (long long)info.sender,
-		(long long)info.status, (long long)info.address);
+	snprintf(line, sizeof line, "handler %lld %lld %lld %lld %lld", (long long)info.signal, (long long)info.code,
+		(long long)info.sender, (long long)info.status, (long long)info.address);
 	send_line(l, line);
 	for (bool asks = hear(l, false); asks; asks = reply_to(l)) {
 		wait_for_turn(l);
@@ -260,8 +258,11 @@ void live(struct lwp *l)
 		meet(l);
 		give_way(l);
 	}
-	if (setjmp(l->base) != 0)
+	char *stack = l->stack;
+	if (setjmp(l->base) != 0) {
+		l->stack = stack;
 		give_way(l);
+	}
 	for (;;) {
 		act(l);
 		if (!reply_to(l))

@@ -1,15 +1,17 @@
 /* tracehost-broker: runs schedules of a program that tracehost-cc made, for tracehost-run, with the model in the process.
  *
- *   tracehost-broker REQUESTS ANSWERS OUTPUT CALLS STRICT LIMIT PATIENCE OUTPUT_LIMIT KILL_ON_DEBUGGER_EXIT PROGRAM [ARGUMENT..]
+ *   tracehost-broker REQUESTS ANSWERS OUTPUT CALLS STRICT LIMIT PATIENCE OUTPUT_LIMIT KILL_ON_DEBUGGER_EXIT
+ *     STAYS PROGRAM [ARGUMENT..]
  *
- * REQUESTS and ANSWERS are descriptors of pipes. OUTPUT is that of a file for what a run prints, or -1. A request is a line
- * of two parts. The first asks for more than the last line of the answer, or is `-`: t asks for the steps, p for the points
- * of choice, l for places, and with h the run halts if it fails. The second is a schedule: `plain`, `seed N EARLY`,
+ * REQUESTS and ANSWERS are descriptors of pipes. OUTPUT is that of a file for what a run prints, or -1. If STAYS is 1 it
+ * stays on the processor on which it begins. A request is a line of two parts. The first asks for more than the last line of the answer, or is `-`: t asks for the steps, p for the points
+ * of choice, l for places, c for the calls at which another could go on, and with h the run halts if it fails. The second is a schedule: `plain`, `seed N EARLY`,
  * `pct N DEPTH LENGTH` or `switches LIST`. The broker answers a request as soon as it has run it. After a failure it ignores
  * all requests up to the line `on`. The answers are in outcome.c. `--calls` prints the table of calls. */
 #include <errno.h>
 #include <fcntl.h>
 #include <poll.h>
+#include <sched.h>
 #include <signal.h>
 #include <stdlib.h>
 #include <string.h>
@@ -17,7 +19,7 @@
 #include <unistd.h>
 #include "run.h"
 
-enum { USAGE = 2, NUMBERS = 9 };
+enum { USAGE = 2, NUMBERS = 10 };
 static LIST(char) unread;
 static bool plain_is_known, plain_passes;
 static choices plain_choices;
@@ -92,8 +94,11 @@ static void read_request(char *line)
 {
 	char *wants = strsep(&line, " "), *name = strsep(&line, " ");
 	int early = 1;
-	run.wants = (struct wants){.trace = strchr(wants, 't') != NULL, .points = strchr(wants, 'p') != NULL,
-		.places = strchr(wants, 'l') != NULL, .halts = strchr(wants, 'h') != NULL};
+	run.wants = (struct wants){.trace = strchr(wants, 't') != NULL,
+		.points = strchr(wants, 'p') != NULL,
+		.places = strchr(wants, 'l') != NULL,
+		.covers = strchr(wants, 'c') != NULL,
+		.halts = strchr(wants, 'h') != NULL};
 	schedule.strategy = PLAIN;
 	if (name == NULL)
 		broken("request %s", wants);
@@ -106,7 +111,7 @@ static void read_request(char *line)
 		schedule.strategy = SEEDED;
 		schedule.early = early;
 	} else if (strcmp(name, "pct") == 0 && line != NULL &&
-		sscanf(line, "%lu %ld %ld", &schedule.seed, &schedule.depth, &schedule.length) == 3)
+			   sscanf(line, "%lu %ld %ld", &schedule.seed, &schedule.depth, &schedule.length) == 3)
 		schedule.strategy = PRIORITIES;
 	else
 		broken("request %s", name);
@@ -142,7 +147,7 @@ static void run_plain(void)
 static bool goes_plain(void)
 {
 	const struct wants *w = &run.wants;
-	if (schedule.strategy != SEEDED || w->trace || w->points || w->places || w->halts)
+	if (schedule.strategy != SEEDED || w->trace || w->points || w->places || w->covers || w->halts)
 		return false;
 	if (!plain_is_known)
 		run_plain();
@@ -180,9 +185,28 @@ static bool read_options(char **words)
 		if (end == words[i] || *end != 0)
 			return false;
 	}
-	options = (struct options){.requests = numbers[0], .answers = numbers[1], .output = numbers[2], .calls = numbers[3],
-		.strict = numbers[4], .limit = numbers[5], .patience = numbers[6], .output_limit = numbers[7], .kill_on_debugger_exit = numbers[8]};
+	options = (struct options){.requests = numbers[0],
+		.answers = numbers[1],
+		.output = numbers[2],
+		.calls = numbers[3],
+		.strict = numbers[4],
+		.limit = numbers[5],
+		.patience = numbers[6],
+		.output_limit = numbers[7],
+		.kill_on_debugger_exit = numbers[8],
+		.stays = numbers[9]};
 	return true;
+}
+
+/* Of a run one thread goes on at a time: another processor would have to wake up for each. */
+static void stay_on_processor(void)
+{
+	cpu_set_t here;
+	int number = sched_getcpu();
+	CPU_ZERO(&here);
+	if (number >= 0 && number < CPU_SETSIZE)
+		CPU_SET(number, &here);
+	sched_setaffinity(0, sizeof here, &here); /* if it can't it goes where the host puts it */
 }
 
 int main(int count, char **words)
@@ -210,6 +234,8 @@ int main(int count, char **words)
 		fcntl(options.output, F_SETFD, FD_CLOEXEC);
 	signal(SIGINT, SIG_IGN); /* of the terminal: tracehost-run ends */
 	signal(SIGPIPE, SIG_IGN);
+	if (options.stays)
+		stay_on_processor();
 	program_start(words + 1 + NUMBERS);
 	serve();
 }

@@ -58,19 +58,33 @@ void write_last_reply(char *text, size_t room)
 
 /* ---- a step as text */
 
-static const char *const requests[] = {[TRACEHOST_PT_TRACE_ME] = "PT_TRACE_ME", [TRACEHOST_PT_CONTINUE] = "PT_CONTINUE",
-	[TRACEHOST_PT_KILL] = "PT_KILL", [TRACEHOST_PT_STEP] = "PT_STEP", [TRACEHOST_PT_ATTACH] = "PT_ATTACH",
-	[TRACEHOST_PT_DETACH] = "PT_DETACH", [TRACEHOST_PT_LWPINFO] = "PT_LWPINFO", [TRACEHOST_PT_GETNUMLWPS] = "PT_GETNUMLWPS",
-	[TRACEHOST_PT_GETLWPLIST] = "PT_GETLWPLIST", [TRACEHOST_PT_SUSPEND] = "PT_SUSPEND", [TRACEHOST_PT_RESUME] = "PT_RESUME",
-	[TRACEHOST_PT_TO_SCE] = "PT_TO_SCE", [TRACEHOST_PT_TO_SCX] = "PT_TO_SCX", [TRACEHOST_PT_SYSCALL] = "PT_SYSCALL",
-	[TRACEHOST_PT_FOLLOW_FORK] = "PT_FOLLOW_FORK", [TRACEHOST_PT_LWP_EVENTS] = "PT_LWP_EVENTS",
-	[TRACEHOST_PT_GET_EVENT_MASK] = "PT_GET_EVENT_MASK", [TRACEHOST_PT_SET_EVENT_MASK] = "PT_SET_EVENT_MASK"};
+static const char *const requests[] = {[TRACEHOST_PT_TRACE_ME] = "PT_TRACE_ME",
+	[TRACEHOST_PT_CONTINUE] = "PT_CONTINUE",
+	[TRACEHOST_PT_KILL] = "PT_KILL",
+	[TRACEHOST_PT_STEP] = "PT_STEP",
+	[TRACEHOST_PT_ATTACH] = "PT_ATTACH",
+	[TRACEHOST_PT_DETACH] = "PT_DETACH",
+	[TRACEHOST_PT_LWPINFO] = "PT_LWPINFO",
+	[TRACEHOST_PT_GETNUMLWPS] = "PT_GETNUMLWPS",
+	[TRACEHOST_PT_GETLWPLIST] = "PT_GETLWPLIST",
+	[TRACEHOST_PT_SUSPEND] = "PT_SUSPEND",
+	[TRACEHOST_PT_RESUME] = "PT_RESUME",
+	[TRACEHOST_PT_TO_SCE] = "PT_TO_SCE",
+	[TRACEHOST_PT_TO_SCX] = "PT_TO_SCX",
+	[TRACEHOST_PT_SYSCALL] = "PT_SYSCALL",
+	[TRACEHOST_PT_FOLLOW_FORK] = "PT_FOLLOW_FORK",
+	[TRACEHOST_PT_LWP_EVENTS] = "PT_LWP_EVENTS",
+	[TRACEHOST_PT_GET_EVENT_MASK] = "PT_GET_EVENT_MASK",
+	[TRACEHOST_PT_SET_EVENT_MASK] = "PT_SET_EVENT_MASK"};
 static const char *const call_names[] = {"fork", "vfork", "exec", "thr_new", "thr_exit", "exit", "other"};
 static const char *const actions[] = {"default", "ignore", "catch"};
 static const char *const option_names[] = {"WNOHANG", "WUNTRACED", "WCONTINUED"};
 static const char *const events[] = {"PTRACE_EXEC", "PTRACE_SCE", "PTRACE_SCX", "PTRACE_FORK", "PTRACE_LWP", "PTRACE_VFORK"};
 
-struct text { char *at; size_t room; };
+struct text {
+	char *at;
+	size_t room;
+};
 
 static void put(struct text *t, const char *format, ...)
 {

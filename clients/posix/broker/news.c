@@ -1,4 +1,4 @@
-/* Who hears of a signal, and of a process's status: of turns.py the part about news. */
+/* Who hears of a signal, and of a process's status. */
 #include "run.h"
 
 static const signals stopping = BIT(STOP) | BIT(18) | BIT(21) | BIT(22);
@@ -29,7 +29,11 @@ void count_signal(struct process *p, int64_t signal)
 void end_news(struct process *p, int status)
 {
 	int signal = status & 0x7F;
-	child_news(p, signal == 0 ? BSD_CLD_EXITED : status & 0x80 ? BSD_CLD_DUMPED : BSD_CLD_KILLED, signal != 0 ? signal : status >> 8);
+	child_news(p,
+		signal == 0     ? BSD_CLD_EXITED
+		: status & 0x80 ? BSD_CLD_DUMPED
+						: BSD_CLD_KILLED,
+		signal != 0 ? signal : status >> 8);
 }
 
 /* The status is the tracer's news, or without one the parent's. */
@@ -39,7 +43,8 @@ static void post_news(const struct process *p, const struct process *receiver, i
 	if (receiver == NULL)
 		forget_news(p->pid);
 	else if (receiver->pid == p->tracer)
-		*news_of(p->pid) = (struct news){.pid = p->pid, .to = receiver->pid, .heir = has_ended && p->parent != p->tracer ? p->parent : 0};
+		*news_of(p->pid) =
+			(struct news){.pid = p->pid, .to = receiver->pid, .heir = has_ended && p->parent != p->tracer ? p->parent : 0};
 	else if (code != BSD_CLD_CONTINUED)
 		*news_of(p->pid) = (struct news){.pid = p->pid, .to = p->parent, .job = !has_ended};
 }

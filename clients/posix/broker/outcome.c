@@ -6,7 +6,7 @@
 
 static LIST(char) notes, plain; /* plain: the last line of the plain schedule */
 static char failure[MESSAGE + 64]; /* its kind, and what Python makes a sentence of; empty if there is none */
-static enum { PASSED, FAILED, UNABLE } how;
+static bool is_failure;
 static int gone_real; /* of a process that has ended outside of the model */
 
 /* ---- lines */
@@ -91,42 +91,32 @@ void halt(const struct process *p)
 void outcome_begin(void)
 {
 	failure[0] = 0;
-	how = PASSED;
+	is_failure = false;
 	gone_real = 0;
 }
 
-bool has_failed(void) { return how != PASSED; }
+bool has_failed(void) { return is_failure; }
 
-static void describe(const char *format, va_list arguments)
-{
-	vsnprintf(failure, sizeof failure, format, arguments);
-}
+static void describe(const char *format, va_list arguments) { vsnprintf(failure, sizeof failure, format, arguments); }
 
-#define DESCRIBE(format) \
-	do { \
-		va_list arguments; \
+#define DESCRIBE(format)             \
+	do {                             \
+		va_list arguments;           \
 		va_start(arguments, format); \
 		describe(format, arguments); \
-		va_end(arguments); \
+		va_end(arguments);           \
 	} while (0)
 
 void set_failure(const char *format, ...)
 {
 	DESCRIBE(format);
-	how = FAILED;
+	is_failure = true;
 }
 
 void failed(const char *format, ...)
 {
 	DESCRIBE(format);
-	how = FAILED;
-	leave_run();
-}
-
-void unable(const char *format, ...)
-{
-	DESCRIBE(format);
-	how = UNABLE;
+	is_failure = true;
 	leave_run();
 }
 
@@ -160,7 +150,8 @@ static void note_waiting(const struct lwp *l)
 	for (size_t i = p->lists.lwps.count; i-- > 0;)
 		if (p->lists.lwps.at[i]->real == owner)
 			holder = p->lists.lwps.at[i];
-	note("waits\t%d\t%d\t%d\t%d\t%d\t%d\t", p->pid, l->tid, stopped, p->tracer, p->reporting != NULL, holder != NULL ? holder->tid : 0);
+	note("waits\t%d\t%d\t%d\t%d\t%d\t%d\t", p->pid, l->tid, stopped, p->tracer, p->reporting != NULL,
+		holder != NULL ? holder->tid : 0);
 	note_text(l->asked);
 	note("\n");
 }
@@ -199,7 +190,7 @@ void outcome_end(const struct ends *ends)
 	for (int i = 0; i < ends->count && gone_real != 0; i++)
 		if (ends->at[i].real == gone_real)
 			snprintf(failure + length, sizeof failure - length, " %d", ends->at[i].status);
-	if (how == PASSED)
+	if (!is_failure)
 		look_at_ends(ends);
 }
 
@@ -216,10 +207,10 @@ static void note_steps(void)
 /* The run's last line: how it has ended, figures, its switches, what has failed. */
 void note_outcome(void)
 {
-	static const char *const names[] = {"passed", "failed", "unable"};
 	note_steps();
 	size_t first = notes.count;
-	note("%s %ld %ld %ld %ld %ld %ld ", names[how], run.questions, run.steps, run.choices, run.passed, run.skipped, run.examined);
+	note("%s %ld %ld %ld %ld %ld %ld ", is_failure ? "failed" : "passed", run.questions, run.steps, run.choices, run.passed,
+		run.skipped, run.examined);
 	for (size_t i = 0; i < run.switches.count; i++) {
 		const struct switch_to *to = &run.switches.at[i];
 		note("%s%d.%ld:%d", i > 0 ? "," : "", to->tid, to->point, to->to);
@@ -238,4 +229,3 @@ void note_outcome(void)
 void note_plain_outcome(void) { put(plain.at, plain.count); }
 
 void forget_notes(void) { notes.count = 0; }
-

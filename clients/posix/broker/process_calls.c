@@ -1,10 +1,10 @@
-/* Processes and threads: fork, exec, threads, ends. process_calls.py in C. */
+/* Processes and threads: fork, exec, threads, ends. */
 #include <errno.h>
 #include <string.h>
 #include "calls.h"
 
 enum { COMPUTED = 50000000 }; /* nanoseconds that a thread has computed that asks `poke` */
-enum { MAX_PROCESSES = 250, MAX_LWPS = 1000 }; /* of a user: docs/MACHINE.md */
+enum { MAX_PROCESSES = 250, MAX_LWPS = 1000 }; /* of a user: docs/internals/MACHINE.md */
 
 /* A new thread, process or image: it goes on once it may run. An image learns which signals it ignores. One that is in a
  * call, and traced, asks again as that returns. */
@@ -277,7 +277,7 @@ BODY(simple)
 {
 	expect_others();
 	bare_call(l, call->code != 0 ? call->code : (int)arguments[0]);
-	if (call->wakes == IO)
+	if (call->wakes & FILES)
 		change(IO);
 	say("ok");
 }
@@ -348,5 +348,6 @@ BODY(stat_call)
 	else if (p == NULL)
 		say("ok 5 0 0 0 0 0");
 	else
-		say("ok 2 %d %d %zu %d %d", p->parent, p->tracer, p->lists.lwps.count, p->real, p->lists.lwps.count > 0 ? p->lists.lwps.at[0]->tid : 0);
+		say("ok 2 %d %d %zu %d %d", p->parent, p->tracer, p->lists.lwps.count, p->real,
+			p->lists.lwps.count > 0 ? p->lists.lwps.at[0]->tid : 0);
 }

@@ -1,10 +1,11 @@
-/* A program as a server of processes: it is started once, and forks a process for each run. program.py in C. */
+/* A program as a server of processes: it is started once, and forks a process for each run. */
 #include <errno.h>
 #include <fcntl.h>
 #include <signal.h>
 #include <spawn.h>
 #include <stdlib.h>
 #include <string.h>
+#include <sys/personality.h>
 #include <sys/socket.h>
 #include <sys/stat.h>
 #include <sys/time.h>
@@ -31,7 +32,10 @@ int socket_pair(int *given)
 /* Sends a message with a descriptor, which is closed here. */
 bool send_with(int to, const char *text, int fd)
 {
-	union { char space[CMSG_SPACE(sizeof(int))]; struct cmsghdr align; } u = {{0}};
+	union {
+		char space[CMSG_SPACE(sizeof(int))];
+		struct cmsghdr align;
+	} u = {{0}};
 	struct iovec part = {(void *)text, strlen(text)};
 	struct msghdr message = {.msg_iov = &part, .msg_iovlen = 1, .msg_control = u.space, .msg_controllen = sizeof u.space};
 	struct cmsghdr *header = CMSG_FIRSTHDR(&message);
@@ -119,6 +123,7 @@ void program_start(char **argv)
 	char line[4097];
 	int given;
 	control = socket_pair(&given);
+	personality(ADDR_NO_RANDOMIZE); /* addresses are the same in each run */
 	int error = spawn(argv, given);
 	if (error != 0) {
 		note("unstarted %d\n", error);

@@ -1,81 +1,107 @@
-/* What the runtime asks: the address of the program's call, a name, and numbers. questions.py in C. */
+/* What the runtime asks: the address of the program's call, a name, and numbers. */
 #include <stdlib.h>
 #include <string.h>
 #include "calls.h"
 #include "run.h"
 
-#define NEWS (-1) /* of the process: a child's status, a signal */
-#define RUNS (-2) /* the process may run again */
-#define ENDS (-3) /* an LWP's end */
 #define N_CALLS (sizeof calls / sizeof calls[0])
 
+/* clang-format off */
 static const struct call calls[] = {
-	/* name         body              code least most steps                       waits wakes at once */
-	{"hello",       hello,            0,   4, 4, "compute",                       0, 0, false},
-	{"fork",        fork_call,        2,   0, 0, "enter leave",                   0, 0, false},
-	{"vfork",       vfork_call,       66,  0, 0, "enter leave",                   0, 0, false},
-	{"pdfork",      pdfork_call,      2,   1, 1, "enter leave",                   0, 0, false},
-	{"thr_new",     thr_new,          455, 0, 0, "enter leave",                   0, 0, false},
-	{"thr_exit",    thr_exit,         0,   0, 0, "enter leave",                   RUNS, ENDS, false},
-	{"exec",        exec_image,       0,   0, 0, "enter leave",                   0, ENDS, false},
-	{"foreign",     foreign,          0,   0, 0, "compute",                       0, 0, false},
-	{"exit",        exit_process,     0,   1, 1, "enter leave",                   0, IO, false},
-	{"user",        user_call,        0,   0, 0, "compute",                       0, 0, false},
-	{"poke",        poke,             0,   1, 1, "compute",                       SYNC, 0, false},
-	{"point",       point,            0,   0, 0, "",                              0, SYNC, false},
-	{"cancel",      cancel,           0,   1, 1, "",                              0, NEWS, false},
-	{"call",        simple,           0,   1, 1, "enter leave compute",           0, 0, false},
-	{"yield",       sched_yield_call, 331, 0, 0, "enter leave compute",           0, 0, false},
-	{"getppid",     getppid_call,     39,  0, 0, "enter leave compute",           0, 0, false},
-	{"join",        join,             454, 2, 2, "enter leave compute",           ENDS, 0, false},
-	{"stat",        stat_call,        202, 1, 1, "enter leave compute",           0, 0, false},
-	{"kill",        kill_call,        37,  2, 2, "enter kill leave compute",      0, NEWS, false},
-	{"thr_kill",    thr_kill,         433, 2, 2, "enter leave raise compute",     0, NEWS, false},
-	{"fault",       fault_call,       0,   3, 3, "raise compute",                 0, 0, true},
-	{"trace",       trace_call,       0,   1, 1, "compute compute",               0, 0, true},
-	{"action",      action,           416, 5, 5, "enter sigaction leave compute", 0, 0, false},
-	{"mask",        mask_call,        340, 2, 2, "enter leave block compute",     0, 0, false},
-	{"suspend",     suspend,          341, 1, 1, "block enter leave compute block compute", NEWS, 0, false},
-	{"pause",       pause_call,       29,  0, 0, "enter leave compute",           NEWS, 0, false},
-	{"masked",      masked,           0,   2, 2, "block enter",                   0, 0, false},
-	{"restore",     restore,          0,   0, 0, "leave block compute",           0, 0, false},
-	{"sigwait",     sigwait_call,     345, 2, 2, "sigaction block compute block sigaction compute", NEWS, 0, false},
-	{"pending",     pending,          343, 0, 0, "sigaction block compute block kill sigaction", 0, 0, false},
-	{"sleep",       sleep_call,       240, 1, 1, "enter leave compute",           NEWS, 0, false},
-	{"clock",       clock_call,       0,   0, 0, "",                              0, 0, false},
-	{"timer",       timer_call,       0,   4, 4, "enter leave compute",           0, 0, false},
-	{"timer_left",  timer_left,       0,   1, 1, "enter leave compute",           0, 0, false},
-	{"overrun",     overrun,          239, 1, 1, "enter leave compute",           0, 0, false},
-	{"ptrace",      ptrace_call,      26,  3, 4, "enter ptrace leave compute",    0, RUNS, false},
-	{"memory",      memory,           26,  1, 2, "",                              0, 0, false},
-	{"registers",   registers_call,   26,  1, 1, "",                              0, 0, false},
-	{"apply",       apply,            26,  2, 2, "",                              0, 0, false},
-	{"setstep",     setstep,          26,  2, 2, "",                              0, 0, false},
-	{"thread",      thread,           26,  1, 1, "",                              0, 0, false},
-	{"wait",        wait_call,        7,   2, 2, "enter wait4 leave compute",     NEWS, 0, false},
-	{"enter",       enter_only,       0,   1, 1, "enter",                         0, 0, false},
-	{"leave",       leave_only,       0,   0, 0, "leave compute",                 0, IO, false},
-	{"io",          simple,           0,   1, 1, "enter leave compute",           0, IO, false},
-	{"again",       again,            0,   3, 3, "",                              IO, 0, true},
-	{"watch",       watch_call,       560, 2, 2, "",                              0, 0, false},
-	{"unwatch",     unwatch,          560, 1, 1, "",                              0, 0, false},
-	{"count",       count_call,       560, 2, 2, "",                              0, 0, false},
-	{"news",        news_call,        560, 0, 0, "",                              0, 0, false},
-	{"undescribed", undescribed,      6,   1, 1, "",                              0, 0, false},
+	/* name      body              code least most steps               waits, wakes, at once, of */
+	{"hello",     hello,           0,  4, 4, "compute",                      0, 0, false,
+		"a new thread or image"},
+	{"fork",      fork_call,       2,  0, 0, "enter leave",                  0, NEWS, false, "fork"},
+	{"vfork",     vfork_call,      66, 0, 0, "enter leave",                  RUNS, NEWS, false, "vfork, posix_spawn"},
+	{"pdfork",    pdfork_call,     2,  1, 1, "enter leave",                  0, NEWS, false, "pdfork"},
+	{"thr_new",   thr_new,         455, 0, 0, "enter leave",                  0, 0, false, "pthread_create"},
+	{"thr_exit",  thr_exit,        0,  0, 0, "enter leave",                  RUNS, ENDS, false, "pthread_exit"},
+	{"exec",      exec_image,      0,  0, 0, "enter leave",                  0, NEWS | RUNS | ENDS, false,
+		"execve's family, fexecve"},
+	{"foreign",   foreign,         0,  0, 0, "compute",                      0, 0, false, "a program without the runtime"},
+	{"exit",      exit_process,    0,  1, 1, "enter leave",                  0, NEWS | RUNS | ENDS | FILES, false,
+		"exit, _exit, quick_exit"},
+	{"user",      user_call,       0,  0, 0, "compute",                      0, 0, false,
+		"a call's return"},
+	{"poke",      poke,            0,  1, 1, "compute",                      FILES | LOCKS, 0, false,
+		"a thread that computes, or sleeps in the host"},
+	{"point",     point,           0,  0, 0, "",                             0, LOCKS, false,
+		"locks, semaphores, barriers, pthread_testcancel"},
+	{"cancel",    cancel,          0,  1, 1, "",                             0, NEWS | LOCKS, false, "pthread_cancel"},
+	{"call",      simple,          0,  1, 1, "enter leave compute",          0, 0, false,
+		"getpid, getpgrp, getpgid, getsid, thr_self, dup, pipe, socketpair, sigaltstack, timer_create, kqueue, procctl, pdgetpid"},
+	{"yield",     sched_yield_call, 331, 0, 0, "enter leave compute",          0, 0, false, "sched_yield, pthread_yield_np"},
+	{"getppid",   getppid_call,    39, 0, 0, "enter leave compute",          0, 0, false, "getppid"},
+	{"join",      join,            454, 2, 2, "enter leave compute",          ENDS | TIME, 0, false,
+		"pthread_join, pthread_timedjoin_np"},
+	{"stat",      stat_call,       202, 1, 1, "enter leave compute",          0, 0, false,
+		"sysctl kern.proc, kinfo_getproc, kinfo_getvmmap"},
+	{"kill",      kill_call,       37, 2, 2, "enter kill leave compute",     0, NEWS | RUNS, false, "kill, pdkill"},
+	{"thr_kill",  thr_kill,        433, 2, 2, "enter leave raise compute",    0, NEWS, false,
+		"raise, pthread_kill, thr_kill, abort, SIGPIPE"},
+	{"fault",     fault_call,      0,  3, 3, "raise compute",                0, 0, true, "a trap"},
+	{"trace",     trace_call,      0,  1, 1, "compute compute",              0, 0, true, "an instruction under PT_STEP"},
+	{"action",    action,          416, 5, 5, "enter sigaction leave compute", 0, 0, false,
+		"sigaction, signal, sigignore, siginterrupt, sigset"},
+	{"mask",      mask_call,       340, 2, 2, "enter leave block compute",    0, 0, false,
+		"sigprocmask, pthread_sigmask, sighold, sigrelse, sigblock, sigsetmask, setjmp, longjmp"},
+	{"suspend",   suspend,         341, 1, 1, "block enter leave compute block compute", NEWS, 0, false, "sigsuspend, sigpause"},
+	{"pause",     pause_call,      29, 0, 0, "enter leave compute",          NEWS, 0, false, "pause"},
+	{"masked",    masked,          0,  2, 2, "block enter",                  0, 0, false, "ppoll, pselect: begin"},
+	{"restore",   restore,         0,  0, 0, "leave block compute",          0, 0, false, "ppoll, pselect: end"},
+	{"sigwait",   sigwait_call,    345, 2, 2, "sigaction block compute block sigaction compute", NEWS | TIME, 0, false,
+		"sigwait, sigwaitinfo, sigtimedwait"},
+	{"pending",   pending,         343, 0, 0, "sigaction block compute block kill sigaction", 0, NEWS, false, "sigpending"},
+	{"sleep",     sleep_call,      240, 1, 1, "enter leave compute",          NEWS | TIME, 0, false,
+		"sleep, usleep, nanosleep, clock_nanosleep"},
+	{"clock",     clock_call,      0,  0, 0, "",                             0, 0, false, "clock_gettime, gettimeofday, time"},
+	{"timer",     timer_call,      0,  4, 4, "enter leave compute",          0, NEWS, false,
+		"alarm, ualarm, setitimer, timer_settime, timer_delete"},
+	{"timer_left", timer_left,      0,  1, 1, "enter leave compute",          0, 0, false, "getitimer, timer_gettime"},
+	{"overrun",   overrun,         239, 1, 1, "enter leave compute",          0, 0, false, "timer_getoverrun"},
+	{"ptrace",    ptrace_call,     26, 3, 4, "enter ptrace leave compute",   0, NEWS | RUNS, false, "ptrace"},
+	{"memory",    memory,          26, 1, 2, "",                             0, 0, false,
+		"PT_READ_D, PT_WRITE_D, PT_IO, PT_VM_ENTRY and their kin"},
+	{"registers", registers_call,  26, 1, 1, "",                             0, 0, false,
+		"PT_GETREGS and its kin, PT_GET_SC_ARGS, PT_GET_SC_RET"},
+	{"apply",     apply,           26, 2, 2, "",                             0, 0, false, "PT_SETREGS and its kin"},
+	{"setstep",   setstep,         26, 2, 2, "",                             0, 0, false, "PT_SETSTEP, PT_CLEARSTEP"},
+	{"thread",    thread,          26, 1, 1, "",                             0, 0, false, "PT_LWPINFO's pl_tdname"},
+	{"wait",      wait_call,       7,  2, 2, "enter wait4 leave compute",    NEWS, NEWS, false,
+		"wait, waitpid, wait3, wait4, wait6, waitid"},
+	{"enter",     enter_only,      0,  1, 1, "enter",                        0, 0, false,
+		"read, readv, write, writev, poll, select, kevent: begin"},
+	{"leave",     leave_only,      0,  0, 0, "leave compute",                0, FILES, false, "these: end"},
+	{"io",        simple,          0,  1, 1, "enter leave compute",          0, FILES, false,
+		"close, closefrom, close_range, dup2, dup3"},
+	{"again",     again,           0,  3, 3, "",                             FILES | LOCKS | TIME, 0, true,
+		"these, and locks: wait"},
+	{"watch",     watch_call,      560, 2, 2, "",                             0, 0, false,
+		"EVFILT_PROC, EVFILT_PROCDESC, pdfork"},
+	{"unwatch",   unwatch,         560, 1, 1, "",                             0, 0, false, "these, deleted"},
+	{"count",     count_call,      560, 2, 2, "",                             0, 0, false, "EVFILT_SIGNAL"},
+	{"news",      news_call,       560, 0, 0, "",                             0, 0, false, "kevent: looks"},
+	{"undescribed", undescribed,     6,  1, 1, "",                             0, NEWS, false, "close of a process descriptor"},
 };
+/* clang-format on */
 
-/* The table: of each call its name, its code, its steps, for what it waits, and what it changes. */
+static void print_topics(int topics)
+{
+	static const char *const names[] = {"news", "runs", "ends", "files", "locks", "time"};
+	for (int i = 0; topics >> i != 0; i++)
+		if (topics >> i & 1)
+			printf("%s%s", topics & ((1 << i) - 1) ? " " : "", names[i]);
+}
+
+/* The table: of each call its name, its code, its steps, for what it waits, what it changes, and what asks it. */
 void print_calls(void)
 {
-	static const struct { int topic; const char *name; } topics[] = {{NEWS, "news"}, {RUNS, "runs"}, {ENDS, "ends"}, {IO, "io"},
-		{SYNC, "sync"}};
 	for (size_t i = 0; i < N_CALLS; i++) {
-		const char *waits = "", *wakes = "";
-		for (size_t k = 0; k < sizeof topics / sizeof topics[0]; k++) {
-			waits = calls[i].waits == topics[k].topic ? topics[k].name : waits;
-			wakes = calls[i].wakes == topics[k].topic ? topics[k].name : wakes;
-		}
-		printf("%s\t%d\t%s\t%s\t%s\n", calls[i].name, calls[i].code, calls[i].steps, waits, wakes);
+		printf("%s\t%d\t%s\t", calls[i].name, calls[i].code, calls[i].steps);
+		print_topics(calls[i].waits);
+		printf("\t");
+		print_topics(calls[i].wakes);
+		printf("\t%s\n", calls[i].of);
 	}
 }
 
@@ -123,7 +149,8 @@ static bool is_word(const char *from, const char *to, const char *word)
 
 static enum kind kind_of(const char *from, const char *to)
 {
-	static const char *const kinds[] = {[READ] = "read", [WRITE] = "write", [POLL] = "poll", [KEVENT] = "kevent", [SEMAPHORE] = "semaphore"};
+	static const char *const kinds[] = {
+		[READ] = "read", [WRITE] = "write", [POLL] = "poll", [KEVENT] = "kevent", [SEMAPHORE] = "semaphore"};
 	for (size_t i = 0; i < sizeof kinds / sizeof kinds[0]; i++)
 		if (is_word(from, to, kinds[i]))
 			return i;
@@ -176,7 +203,10 @@ static enum reading read_call(const char *at, struct question *q)
 
 static enum reading read_text(struct question *q, const char *name_end)
 {
-	static const struct { const char *name; enum reading reading; } names[] = {{"broken", BROKEN}, {"refused", REFUSED}, {"outside", OUTSIDE}};
+	static const struct {
+		const char *name;
+		enum reading reading;
+	} names[] = {{"broken", BROKEN}, {"refused", REFUSED}, {"outside", OUTSIDE}};
 	for (size_t i = 0; i < sizeof names / sizeof names[0]; i++)
 		if (is_word(q->text, name_end, names[i].name))
 			return *name_end == ' ' && name_end[1] != 0 && strchr(name_end, '\n') == NULL ? names[i].reading : FOREIGN_TEXT;

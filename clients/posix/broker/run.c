@@ -59,6 +59,8 @@ static bool simply_goes_on(const struct lwp *current, long point)
 		return false;
 	if (run.wants.made)
 		APPEND(&run.made, STAYED);
+	if (run.wants.covers)
+		cover(current, current);
 	return true;
 }
 
@@ -137,7 +139,8 @@ static void note_switch(const struct lwp *chosen, long point)
 	if (chosen == current)
 		snprintf(then, sizeof then, "its sleep is over");
 	else
-		snprintf(then, sizeof then, chosen->is_timer ? "the timer of %d goes on" : "%d/%d goes on", chosen->process->pid, chosen->tid);
+		snprintf(
+			then, sizeof then, chosen->is_timer ? "the timer of %d goes on" : "%d/%d goes on", chosen->process->pid, chosen->tid);
 	note_place("switch", current, then, run.kept.count + 1);
 }
 
@@ -209,6 +212,8 @@ static struct lwp *choose(long point)
 	find_sleepers();
 	struct lwp *plain = plain_choice(&can, run.current);
 	struct lwp *chosen = schedule_choose(&can, &asleep, run.current, point, plain);
+	if (run.wants.covers && chosen != NULL && run.current != NULL && !run.current->yields && is_among(&can, run.current))
+		cover(run.current, chosen);
 	if (run.wants.made)
 		note_made(chosen);
 	if (run.wants.points)
@@ -312,6 +317,7 @@ static void begin(void)
 	outcome_begin();
 	table_begin();
 	turns_begin();
+	coverage_begin();
 	schedule_begin();
 	program_forget_output();
 	model_begin(options.kill_on_debugger_exit != 0);

@@ -1,4 +1,4 @@
-/* A run: who goes on, what the threads ask, and how it ends. run.py, program.py and watch.py in C. */
+/* A run: who goes on, what the threads ask, and how it ends. */
 #ifndef RUN_H
 #define RUN_H
 #include <stdarg.h>
@@ -14,15 +14,27 @@ struct options { /* of all runs */
 	int kill_on_debugger_exit;
 	int requests, answers; /* the pipes */
 	int output; /* the file of what a run prints, or -1 */
+	bool stays; /* on the processor on which it begins */
 };
 extern struct options options;
 
-struct wants { bool trace, points, places, made, halts; }; /* what an answer has besides its line */
+struct wants {
+	bool trace, points, places, made, halts, covers;
+}; /* what an answer has besides its line */
 
 /* Of processes that have ended otherwise than with status 0, or killed, how: the host's numbers. */
-struct ends { int count; struct { int real, status; } at[512]; };
+struct ends {
+	int count;
+	struct {
+		int real, status;
+	} at[512];
+};
 
-struct kept { struct step step; reply reply; char *text; }; /* text: of both, if the trace is wanted */
+struct kept {
+	struct step step;
+	reply reply;
+	char *text;
+}; /* text: of both, if the trace is wanted */
 struct run {
 	struct process *first;
 	struct lwp *current;
@@ -47,8 +59,7 @@ void others(struct lwp *l); /* others may go on: returns when this LWP is chosen
 void give_way(struct lwp *l); /* the same, behind an answer */
 void end_leg(struct lwp *l);
 void await(struct lwp *l, int64_t until, int count, const int64_t *topics);
-#define AWAIT(l, until, ...) \
-	await(l, until, sizeof (int64_t[]){__VA_ARGS__} / sizeof(int64_t), (int64_t[]){__VA_ARGS__})
+#define AWAIT(l, until, ...) await(l, until, sizeof(int64_t[]){__VA_ARGS__} / sizeof(int64_t), (int64_t[]){__VA_ARGS__})
 _Noreturn void vanish(struct lwp *l); /* of the LWP at its turn, which has ended */
 struct lwp *next_lwp(void);
 long stays_ahead(const struct lwp *l, long count);
@@ -60,7 +71,7 @@ void switch_to(struct lwp *from, struct lwp *to); /* NULL is the loop of runs */
 void start_with(struct lwp *first, void (*life)(struct lwp *l));
 void retire(struct lwp *l); /* it never goes on again */
 void coroutines_end(void);
-bool stack_is_low(const struct lwp *l);
+bool ran_on_another_stack(struct lwp *l, struct info info);
 _Noreturn void leave_run(void);
 
 /* ---- questions.c and hearing.c */
@@ -71,9 +82,11 @@ struct call {
 	int code; /* FreeBSD's number of the call; 0 if there is none, or the question has it */
 	int least, most; /* arguments */
 	const char *steps; /* that it makes if it doesn't wait, and nothing comes between */
-	int waits, wakes; /* topics: for which it waits, besides its process's news; that it changes */
+	int waits, wakes; /* topics: for which it waits, besides that its process may run; that it changes */
 	bool at_once; /* nobody goes on between the question and its first step */
+	const char *of; /* the program's calls that ask it */
 };
+enum { NEWS = 1, RUNS = 2, ENDS = 4, FILES = 8, LOCKS = 16, TIME = 32 }; /* of waits and wakes */
 void print_calls(void);
 
 enum kind { READ, WRITE, POLL, KEVENT, SEMAPHORE, OTHER }; /* of `again` */
@@ -100,7 +113,7 @@ void forget_lwp(struct lwp *l);
 void replace_lwp(struct lwp *l);
 const struct process *process_that_ended(int real);
 
-/* ---- outcome.c: what is answered to Python */
+/* ---- outcome.c: what is answered to tracehost-run */
 
 void note(const char *format, ...) __attribute__((format(printf, 1, 2)));
 void note_text(const char *text); /* tabs, line feeds and % as %XX */
@@ -108,11 +121,10 @@ void note_place(const char *kind, const struct lwp *l, const char *then, size_t 
 void blame(const struct lwp *l, const char *then);
 void halt(const struct process *p);
 void flush_notes(void);
-/* How a run ends: the program has failed; the broker, the runtime or the host has, and nothing is known of the program; or
- * this broker can't do what Python's does. The words are those of outcome.py. */
+/* How a run ends: the program has failed; or the broker, the runtime or the host has, and nothing is known of the program.
+ * outcome.py has the words. */
 _Noreturn void failed(const char *format, ...) __attribute__((format(printf, 1, 2)));
 _Noreturn void broken(const char *format, ...) __attribute__((format(printf, 1, 2)));
-_Noreturn void unable(const char *format, ...) __attribute__((format(printf, 1, 2)));
 _Noreturn void gone(const struct process *p);
 void set_failure(const char *format, ...) __attribute__((format(printf, 1, 2)));
 bool has_failed(void);
@@ -145,9 +157,19 @@ void end_if_python_is_gone(void);
 _Noreturn void leave_python(void); /* nobody hears any more: all is ended */
 void wait_for_python(void);
 
+/* ---- coverage.c */
+
+void coverage_begin(void);
+void cover(const struct lwp *current, const struct lwp *chosen); /* a choice of an LWP that could go on itself */
+
 /* ---- watch.c */
 
-struct watch { double left; int asleep; char letter; long used; };
+struct watch {
+	double left;
+	int asleep;
+	char letter;
+	long used;
+};
 void watch_begin(struct watch *w);
 bool watch_look(struct watch *w, const struct lwp *l); /* whether the thread hangs */
 #endif

@@ -14,9 +14,19 @@ static size_t n_taken;
 /* Of priorities. */
 static long n_choices;
 static double lowest;
-static LIST(struct { long choice; int place; }) fallen;
-static LIST(struct { int tid; double priority; }) priorities;
-static LIST(struct { int tid; int64_t until; bool is; }) sleeps; /* which take part */
+static LIST(struct {
+	long choice;
+	int place;
+}) fallen;
+static LIST(struct {
+	int tid;
+	double priority;
+}) priorities;
+static LIST(struct {
+	int tid;
+	int64_t until;
+	bool is;
+}) sleeps; /* which take part */
 
 /* ---- seeds */
 
@@ -28,7 +38,7 @@ static void begin_twister(struct twister *t, uint64_t seed)
 
 static int draw_child(const int *children, int count)
 {
-	if (!draws_children) { /* of Python's number SEED << 1 | 1 << 64 */
+	if (!draws_children) { /* by the number 2 * SEED + 2^64 */
 		uint64_t twice = schedule.seed << 1;
 		uint32_t key[] = {(uint32_t)twice, (uint32_t)(twice >> 32), 1};
 		seed_twister(&reporting, key, 3);
@@ -48,7 +58,7 @@ void schedule_begin(void)
 		return;
 	begin_twister(&choosing, schedule.seed);
 	if (schedule.strategy == SEEDED) {
-		begin_twister(&staying, schedule.seed + 1); /* Python's ~SEED, without its sign */
+		begin_twister(&staying, schedule.seed + 1);
 		often = how_often[draw_below(&choosing, 4)];
 		return;
 	}
@@ -76,17 +86,14 @@ static bool draw_stay(void) { return draw(&staying) >= often; }
 bool schedule_stays(const struct lwp *current, long point)
 {
 	switch (schedule.strategy) {
-	case PLAIN:
-		return true;
-	case SWITCHED:
-		return given_at(current->tid, point) == NULL;
+	case PLAIN: return true;
+	case SWITCHED: return given_at(current->tid, point) == NULL;
 	case SEEDED:
 		if (n_taken < drawn.count)
 			return drawn.at[n_taken++];
 		drawn.count = n_taken = 0;
 		return draw_stay();
-	default:
-		return false;
+	default: return false;
 	}
 }
 

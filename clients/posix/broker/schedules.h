@@ -1,11 +1,14 @@
-/* The choices: who goes on if several can. schedules.py in C, with the random numbers of Python: a seed is the same
- * schedule in both. */
+/* The choices: who goes on if several can. A seed is the same schedule on each machine: its numbers are those of twister.h. */
 #ifndef SCHEDULES_H
 #define SCHEDULES_H
 #include "table.h"
 
 /* A choice that isn't the plain schedule's: at this point of this LWP, another goes on. */
-struct switch_to { int tid; long point; int to; };
+struct switch_to {
+	int tid;
+	long point;
+	int to;
+};
 typedef LIST(struct switch_to) switches;
 typedef LIST(struct lwp *) lwps;
 

@@ -1,4 +1,4 @@
-/* Signals: kill, dispositions, masks, and waiting for signals. signal_calls.py in C; time is in timer_calls.c. */
+/* Signals: kill, dispositions, masks, and waiting for signals. Time is in timer_calls.c. */
 #include <errno.h>
 #include <string.h>
 #include "calls.h"
@@ -302,8 +302,8 @@ BODY(sigwait_call)
 	if (got < 0)
 		say_error(-got);
 	else
-		say("ok %lld %lld %lld %lld %lld", (long long)info.signal, (long long)info.code, (long long)info.sender, (long long)info.status,
-			(long long)info.address);
+		say("ok %lld %lld %lld %lld %lld", (long long)info.signal, (long long)info.code, (long long)info.sender,
+			(long long)info.status, (long long)info.address);
 }
 
 /* sigpending(2): the model has no such question, so that the signals are met, and posted again. */

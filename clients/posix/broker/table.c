@@ -4,7 +4,9 @@
 #include <string.h>
 
 struct table table;
-static struct { uint64_t io, sync, news[PROCESSES], runs[PROCESSES], lwps[LWPS], none; } changes;
+static struct {
+	uint64_t io, sync, news[PROCESSES], runs[PROCESSES], lwps[LWPS], none;
+} changes;
 static struct process *by_number[PROCESSES];
 static int next_process, next_lwp;
 static bool wrapped, lwps_wrapped;

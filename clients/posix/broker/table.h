@@ -1,4 +1,4 @@
-/* The processes and LWPs of a run, and who waits for what: table.py in C. There is one run at a time. */
+/* The processes and LWPs of a run, and who waits for what. There is one run at a time. */
 #ifndef TABLE_H
 #define TABLE_H
 #include <setjmp.h>
@@ -11,7 +11,10 @@
 typedef tracehost_reply reply;
 typedef uint32_t signals; /* signal n is bit n; in the model's sets it is bit n - 1 */
 #define BIT(number) ((signals)1 << (number))
-#define EACH_SIGNAL(number) int number = 1; number < 32; number++
+#define EACH_SIGNAL(number) \
+	int number = 1;         \
+	number < 32;            \
+	number++
 
 enum { TRAP = 5, KILL = 9, SEGV = 11, STOP = 17, CONT = 19, CHLD = 20 };
 enum { USER = 1001, FIRST_PROCESS = 1000, PROCESSES = 1000, FIRST_LWP = 100000, LWPS = 4000 };
@@ -21,24 +24,56 @@ enum { IO = 1, SYNC = 2 };
 enum { NEVER = -1 }; /* no time */
 
 /* A list that grows. One that belongs to a process keeps its memory for the next run. */
-#define LIST(type) struct { type *at; size_t count, room; }
-#define APPEND(list, ...) \
+#define LIST(type)          \
+	struct {                \
+		type *at;           \
+		size_t count, room; \
+	}
+#define APPEND(list, ...)                                                                      \
 	((list)->at = with_room((list)->at, (list)->count + 1, &(list)->room, sizeof *(list)->at), \
-	(list)->at[(list)->count++] = (__VA_ARGS__))
+		(list)->at[(list)->count++] = (__VA_ARGS__))
 #define TAKE_OUT(list, place) take_out((list)->at, &(list)->count, place, sizeof *(list)->at)
 void *with_room(void *at, size_t count, size_t *room, size_t size);
 void take_out(void *at, size_t *count, size_t place, size_t size);
 
-struct info { int64_t signal, code, sender, status, address; }; /* of a signal, what siginfo_t has */
-struct caught { bool restart, no_defer, reset; signals mask; };
-struct awaited { int signal, count; uint32_t action; }; /* caught while `count` LWPs wait for it in sigwait(2) */
-struct put_back { int signal; uint32_t action; };
-struct rung { int64_t number, at, every, overruns, topic; int signal; bool due; }; /* a timer while its signal is pending */
-struct watched { int64_t pid; bool tracks; };
-struct counted { int64_t signal, number; };
-struct happening { int64_t kind, number, first, second; };
-struct described { int pid; bool daemon; };
-struct news { int pid, to, heir; bool job; }; /* a status that no wait has reported */
+struct info {
+	int64_t signal, code, sender, status, address;
+}; /* of a signal, what siginfo_t has */
+struct caught {
+	bool restart, no_defer, reset;
+	signals mask;
+};
+struct awaited {
+	int signal, count;
+	uint32_t action;
+}; /* caught while `count` LWPs wait for it in sigwait(2) */
+struct put_back {
+	int signal;
+	uint32_t action;
+};
+struct rung {
+	int64_t number, at, every, overruns, topic;
+	int signal;
+	bool due;
+}; /* a timer while its signal is pending */
+struct watched {
+	int64_t pid;
+	bool tracks;
+};
+struct counted {
+	int64_t signal, number;
+};
+struct happening {
+	int64_t kind, number, first, second;
+};
+struct described {
+	int pid;
+	bool daemon;
+};
+struct news {
+	int pid, to, heir;
+	bool job;
+}; /* a status that no wait has reported */
 
 struct lwp;
 struct process {
@@ -130,7 +165,10 @@ struct table {
 };
 extern struct table table;
 
-#define EACH_PROCESS(p) size_t p##_at = 0; p##_at < table.processes.count; p##_at++
+#define EACH_PROCESS(p)             \
+	size_t p##_at = 0;              \
+	p##_at < table.processes.count; \
+	p##_at++
 
 void table_begin(void);
 void change(int64_t topic);

@@ -1,4 +1,4 @@
-/* Time: sleeps, clocks and timers. Of signal_calls.py the part about time. */
+/* Time: sleeps, clocks and timers. */
 #include <errno.h>
 #include "calls.h"
 
@@ -49,7 +49,9 @@ static struct rung *rung_of(struct process *p, int64_t number)
 	return NULL;
 }
 
-struct left { int64_t time, period; };
+struct left {
+	int64_t time, period;
+};
 
 static struct left left_of(struct process *p, int64_t number)
 {
@@ -100,7 +102,8 @@ static struct rung *begin_rung(struct lwp *timer, int64_t until)
 		APPEND(&p->lists.rung, (struct rung){0});
 		rung = &p->lists.rung.at[p->lists.rung.count - 1];
 	}
-	*rung = (struct rung){.number = timer->number, .signal = timer->signal, .at = until, .every = timer->every, .topic = timer->tid};
+	*rung =
+		(struct rung){.number = timer->number, .signal = timer->signal, .at = until, .every = timer->every, .topic = timer->tid};
 	rung->due = stays_pending(p, timer->signal);
 	return rung;
 }

@@ -1,21 +1,21 @@
-/* ptrace(2), and what its requests change for others. trace_calls.py in C. */
+/* ptrace(2), and what its requests change for others. */
 #include <errno.h>
 #include "calls.h"
 
 static const uint32_t events = TRACEHOST_PTRACE_EXEC | TRACEHOST_PTRACE_SCE | TRACEHOST_PTRACE_SCX | TRACEHOST_PTRACE_FORK |
-	TRACEHOST_PTRACE_LWP | TRACEHOST_PTRACE_VFORK;
+							   TRACEHOST_PTRACE_LWP | TRACEHOST_PTRACE_VFORK;
 
 static bool is_request(int64_t number)
 {
 	return number == TRACEHOST_PT_TRACE_ME || (number >= TRACEHOST_PT_CONTINUE && number <= TRACEHOST_PT_DETACH) ||
-		(number >= TRACEHOST_PT_LWPINFO && number <= TRACEHOST_PT_GETLWPLIST) ||
-		(number >= TRACEHOST_PT_SUSPEND && number <= TRACEHOST_PT_SET_EVENT_MASK);
+		   (number >= TRACEHOST_PT_LWPINFO && number <= TRACEHOST_PT_GETLWPLIST) ||
+		   (number >= TRACEHOST_PT_SUSPEND && number <= TRACEHOST_PT_SET_EVENT_MASK);
 }
 
 static bool resumes(int64_t request)
 {
 	return request == TRACEHOST_PT_CONTINUE || request == TRACEHOST_PT_STEP || request == TRACEHOST_PT_DETACH ||
-		(request >= TRACEHOST_PT_TO_SCE && request <= TRACEHOST_PT_SYSCALL);
+		   (request >= TRACEHOST_PT_TO_SCE && request <= TRACEHOST_PT_SYSCALL);
 }
 
 /* What PT_CONTINUE is after PT_SETSTEP. */
@@ -91,7 +91,8 @@ static void changed_by(struct process *caller, int64_t request, int64_t target, 
 
 static void expect_call(const struct lwp *l, struct step s)
 {
-	const struct step steps[] = {entry_of(l, TRACEHOST_OTHER, 26), s, act_of(l, TRACEHOST_LEAVE_CALL, 0), act_of(l, TRACEHOST_COMPUTE, 0)};
+	const struct step steps[] = {
+		entry_of(l, TRACEHOST_OTHER, 26), s, act_of(l, TRACEHOST_LEAVE_CALL, 0), act_of(l, TRACEHOST_COMPUTE, 0)};
 	expect(l, steps, lands(l) ? 3 : 4);
 }
 
@@ -147,7 +148,8 @@ BODY(memory)
 /* The stopped LWP that a debugger means, and how the model describes it; else NULL, and the answer is said. */
 static struct lwp *stopped_lwp(struct lwp *l, int64_t target, reply *r)
 {
-	*r = step_of_call(l, (struct step){.op = PTRACE, .actor = l->process->pid, .a = TRACEHOST_PT_LWPINFO, .which = (uint32_t)target}, false);
+	*r = step_of_call(
+		l, (struct step){.op = PTRACE, .actor = l->process->pid, .a = TRACEHOST_PT_LWPINFO, .which = (uint32_t)target}, false);
 	if (r->kind == TRACEHOST_ERROR) {
 		say_reply(r);
 		return NULL;

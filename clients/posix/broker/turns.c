@@ -17,17 +17,20 @@ struct step entry_of(const struct lwp *l, int call, uint32_t argument)
 	return (struct step){.op = TURN, .act = TRACEHOST_ENTER, .call = call, .actor = l->tid, .a = argument};
 }
 
-/* Python's broker sends steps together if the schedule lets the LWP go on at each of them; and the call that has made its
- * process a traced one doesn't land if its `compute` was among them. For a seed to be the same schedule here, it is
- * counted which steps those would be: there is one plan, which each call that has one replaces. No step is made before its
- * turn. */
+/* Steps of a call that come next for certain are counted as one decision: the schedule is asked at once whether it lets the
+ * LWP go on at each of them (`ahead`). The call that has made its process a traced one doesn't land if its `compute` was
+ * among them. There is one plan, which each call that has one replaces. No step is made before its turn. */
 enum { EXPECTED = 4 };
-static struct { const struct lwp *of; int count; struct step at[EXPECTED]; } plan, ahead;
+static struct {
+	const struct lwp *of;
+	int count;
+	struct step at[EXPECTED];
+} plan, ahead;
 
 static bool is_same(const struct step *a, const struct step *b)
 {
 	return a->op == b->op && a->act == b->act && a->call == b->call && a->actor == b->actor && a->a == b->a && a->b == b->b &&
-		a->which == b->which;
+		   a->which == b->which;
 }
 
 static void drop_first(struct step *at, int *count, int dropped)
@@ -124,8 +127,11 @@ static void pass_over(struct lwp *l, int signal)
 	for (size_t i = p->lists.lwps.count; i-- > 0;)
 		if (p->lists.lwps.at[i]->stepping)
 			stepping = p->lists.lwps.at[i]->tid;
-	const struct step steps[] = {{.op = WAIT4, .actor = tracer->pid, .which = p->pid},
-		{.op = PTRACE, .actor = tracer->pid, .a = stepping ? TRACEHOST_PT_STEP : TRACEHOST_PT_CONTINUE, .which = stepping ? stepping : p->pid}};
+	const struct step steps[] = {
+		{.op = WAIT4, .actor = tracer->pid, .which = p->pid}, {.op = PTRACE,
+																  .actor = tracer->pid,
+																  .a = stepping ? TRACEHOST_PT_STEP : TRACEHOST_PT_CONTINUE,
+																  .which = stepping ? stepping : p->pid}};
 	for (size_t i = 0; i < sizeof steps / sizeof steps[0]; i++)
 		while (make(steps[i], true).kind == TRACEHOST_HELD) {
 			AWAIT(l, NEVER, -tracer->pid, -p->pid);
@@ -270,16 +276,14 @@ static void before_turn(struct lwp *l, const struct step *wanted, struct met *me
 static bool is_clean(const struct lwp *l, const struct step *s, const reply *r)
 {
 	return r->kind == TRACEHOST_OK &&
-		(s->act == TRACEHOST_COMPUTE || s->act == TRACEHOST_LEAVE_CALL || (l->clean && s->act == TRACEHOST_ENTER));
+		   (s->act == TRACEHOST_COMPUTE || s->act == TRACEHOST_LEAVE_CALL || (l->clean && s->act == TRACEHOST_ENTER));
 }
 
 /* Of a turn that hasn't done its act: whether it ends here. */
 static bool is_over(struct lwp *l, const reply *r, const struct how *how)
 {
 	switch (r->kind) {
-	case TRACEHOST_HELD:
-		AWAIT(l, NEVER, -l->process->pid);
-		return false;
+	case TRACEHOST_HELD: AWAIT(l, NEVER, -l->process->pid); return false;
 	case TRACEHOST_STOPPED:
 		if (r->flags == 0 && is_discarded(l->process, r->signal)) {
 			pass_over(l, r->signal);
@@ -292,14 +296,12 @@ static bool is_over(struct lwp *l, const reply *r, const struct how *how)
 		if (!is_spurious(l->process, r->signal))
 			caught_signal(l, r->signal, how->met);
 		return false;
-	case TRACEHOST_ENDED:
-		ended(l, r->status);
+	case TRACEHOST_ENDED: ended(l, r->status);
 	case TRACEHOST_ERROR:
 		if (r->error == ESRCH_)
 			broken("LWP %d has ended unseen", l->tid);
 		return true;
-	default:
-		return true;
+	default: return true;
 	}
 }
 
@@ -389,10 +391,7 @@ signals user(struct lwp *l)
 }
 
 /* One that steps by an instruction has made it. */
-void stepped(struct lwp *l)
-{
-	turn(l, act_of(l, TRACEHOST_COMPUTE, 0), (struct how){.done = by_instruction, .at_once = true});
-}
+void stepped(struct lwp *l) { turn(l, act_of(l, TRACEHOST_COMPUTE, 0), (struct how){.done = by_instruction, .at_once = true}); }
 
 /* In user mode, and no call is made: the LWP stays here while its process is stopped. */
 void stay(struct lwp *l)

@@ -1,5 +1,5 @@
-/* How an LWP makes a step: at its turn, again and again until its act was done, waiting if it can't. turns.py in C; a
- * `yield` there is a call of others() or await() here. */
+/* How an LWP makes a step: at its turn, again and again until its act was done, waiting if it can't. Others go on in a call of
+ * others() or await(). */
 #ifndef TURNS_H
 #define TURNS_H
 #include "schedules.h"
@@ -25,7 +25,10 @@ struct step {
 void model_begin(bool kill_on_debugger_exit);
 void model_end(void);
 reply look(struct step s);
-struct numbers { size_t count; uint32_t at[1024]; };
+struct numbers {
+	size_t count;
+	uint32_t at[1024];
+};
 void numbers_of_last(struct numbers *numbers);
 void write_last_reply(char *text, size_t room);
 void write_step(char *text, size_t room, const struct step *s);
@@ -44,9 +47,16 @@ struct step entry_of(const struct lwp *l, int call, uint32_t argument);
 
 /* ---- turns */
 
-struct met { signals all; int accepted; }; /* signals that were caught; the first one that a sigwait(2) takes */
+struct met {
+	signals all;
+	int accepted;
+}; /* signals that were caught; the first one that a sigwait(2) takes */
 typedef bool done(struct lwp *l, const reply *r); /* whether the act ends in this stop */
-struct how { done *done; struct met *met; bool at_once, defers; };
+struct how {
+	done *done;
+	struct met *met;
+	bool at_once, defers;
+};
 reply turn(struct lwp *l, struct step s, struct how how);
 void enter(struct lwp *l, int code, struct met *met);
 void enter_call(struct lwp *l, int call, uint32_t argument, struct met *met);

@@ -3,7 +3,10 @@
 #define TWISTER_H
 #include <stdint.h>
 
-struct twister { uint32_t state[624]; int at; };
+struct twister {
+	uint32_t state[624];
+	int at;
+};
 
 void seed_twister(struct twister *t, const uint32_t *key, int length);
 double draw(struct twister *t); /* random() */

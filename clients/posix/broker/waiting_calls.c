@@ -1,4 +1,4 @@
-/* wait4, and the calls that wait for another thread's doing: pipes, locks. waiting_calls.py in C. */
+/* wait4, and the calls that wait for another thread's doing: pipes, locks. */
 #include <errno.h>
 #include "calls.h"
 
@@ -124,8 +124,8 @@ BODY(enter_only)
 /* Out of it again: others may read now, or write. */
 BODY(leave_only)
 {
-	(void)arguments;
-	change(call->wakes);
+	(void)call, (void)arguments;
+	change(IO);
 	finish(l);
 	say("ok");
 }

@@ -1,4 +1,4 @@
-/* A thread that has been asked to run, and hasn't asked anything yet: it is looked at each LOOK_MS. watch.py in C.
+/* A thread that has been asked to run, and hasn't asked anything yet: it is looked at each LOOK_MS.
  *
  * Patience is counted in looks, so that a host that is suspended takes none of it; a look at a thread that has no
  * processor, on a busy host, counts a tenth. */
@@ -27,7 +27,8 @@ static void look_at(const struct lwp *l, char *letter, long *used)
 	text[got > 0 ? got : 0] = 0;
 	const char *name_end = strrchr(text, ')');
 	*letter = 'Z', *used = 0;
-	if (name_end != NULL && sscanf(name_end + 1, " %c %*d %*d %*d %*d %*d %*u %*u %*u %*u %*u %ld %ld", letter, &user, &system) == 3)
+	if (name_end != NULL &&
+		sscanf(name_end + 1, " %c %*d %*d %*d %*d %*d %*u %*u %*u %*u %*u %ld %ld", letter, &user, &system) == 3)
 		*used = user + system;
 }
 

@@ -18,20 +18,20 @@ void *tracehost_host(const char *name)
 }
 
 #define FORWARD(name, parameters, arguments) \
-	int tracehost_##name parameters; \
+	int tracehost_##name parameters;         \
 	int name parameters { return tracehost_##name arguments; }
 
-FORWARD(pthread_create, (pthread_t *made, const pthread_attr_t *attributes, void *(*routine)(void *), void *argument),
+FORWARD(pthread_create, (pthread_t * made, const pthread_attr_t *attributes, void *(*routine)(void *), void *argument),
 	(made, attributes, routine, argument))
 FORWARD(pthread_join, (pthread_t thread, void **value), (thread, value))
 FORWARD(pthread_detach, (pthread_t thread), (thread))
-FORWARD(pthread_cond_init, (pthread_cond_t *condition, const pthread_condattr_t *attributes), (condition, attributes))
-FORWARD(pthread_cond_destroy, (pthread_cond_t *condition), (condition))
-FORWARD(pthread_cond_wait, (pthread_cond_t *condition, pthread_mutex_t *mutex), (condition, mutex))
-FORWARD(pthread_cond_timedwait, (pthread_cond_t *condition, pthread_mutex_t *mutex, const struct timespec *until),
+FORWARD(pthread_cond_init, (pthread_cond_t * condition, const pthread_condattr_t *attributes), (condition, attributes))
+FORWARD(pthread_cond_destroy, (pthread_cond_t * condition), (condition))
+FORWARD(pthread_cond_wait, (pthread_cond_t * condition, pthread_mutex_t *mutex), (condition, mutex))
+FORWARD(pthread_cond_timedwait, (pthread_cond_t * condition, pthread_mutex_t *mutex, const struct timespec *until),
 	(condition, mutex, until))
-FORWARD(pthread_cond_clockwait, (pthread_cond_t *condition, pthread_mutex_t *mutex, clockid_t clock, const struct timespec *until),
+FORWARD(pthread_cond_clockwait, (pthread_cond_t * condition, pthread_mutex_t *mutex, clockid_t clock, const struct timespec *until),
 	(condition, mutex, clock, until))
-FORWARD(pthread_cond_signal, (pthread_cond_t *condition), (condition))
-FORWARD(pthread_cond_broadcast, (pthread_cond_t *condition), (condition))
+FORWARD(pthread_cond_signal, (pthread_cond_t * condition), (condition))
+FORWARD(pthread_cond_broadcast, (pthread_cond_t * condition), (condition))
 FORWARD(nanosleep, (const struct timespec *time, struct timespec *left), (time, left))

@@ -35,8 +35,10 @@ int tracehost_watch_process(struct note *note, int pid)
 
 int tracehost_set_timer(struct note *note, long long now)
 {
-	static const struct { unsigned flag; long long ns; } units[] = {{NOTE_SECONDS, 1000000000}, {NOTE_MSECONDS, 1000000},
-		{NOTE_USECONDS, 1000}, {NOTE_NSECONDS, 1}};
+	static const struct {
+		unsigned flag;
+		long long ns;
+	} units[] = {{NOTE_SECONDS, 1000000000}, {NOTE_MSECONDS, 1000000}, {NOTE_USECONDS, 1000}, {NOTE_NSECONDS, 1}};
 	long long unit = 1000000;
 	for (size_t i = 0; i < sizeof units / sizeof units[0]; i++)
 		if (note->wanted & units[i].flag)
@@ -60,11 +62,8 @@ int tracehost_attach(struct note *note, long long now)
 	int ident = (int)note->event.ident;
 	switch (note->event.filter) {
 	case EVFILT_READ:
-	case EVFILT_WRITE:
-		note->seen = -1;
-		return tracehost_own_descriptor(ident) || fstat(ident, &st) != 0 ? EBADF : 0;
-	case EVFILT_PROC:
-		return tracehost_watch_process(note, ident);
+	case EVFILT_WRITE: note->seen = -1; return tracehost_own_descriptor(ident) || fstat(ident, &st) != 0 ? EBADF : 0;
+	case EVFILT_PROC: return tracehost_watch_process(note, ident);
 	case EVFILT_PROCDESC: {
 		int pid = tracehost_described(ident);
 		return pid == 0 ? EBADF : tracehost_watch_process(note, pid);
@@ -75,13 +74,9 @@ int tracehost_attach(struct note *note, long long now)
 		note->pid = ident;
 		note->event.flags |= EV_CLEAR;
 		return tracehost_ask(NULL, "count %d 1", ident) != 0 ? errno : 0;
-	case EVFILT_TIMER:
-		return tracehost_set_timer(note, now);
-	case EVFILT_USER:
-		return 0;
-	default:
-		tracehost_say("kevent: filter %d isn't among those of this runtime (EINVAL)", note->event.filter);
-		return EINVAL;
+	case EVFILT_TIMER: return tracehost_set_timer(note, now);
+	case EVFILT_USER: return 0;
+	default: tracehost_say("kevent: filter %d isn't among those of this runtime (EINVAL)", note->event.filter); return EINVAL;
 	}
 }
 

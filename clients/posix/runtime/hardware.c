@@ -19,8 +19,16 @@ static void *make_event(const struct dbreg *registers, int number)
 {
 	static const unsigned kinds[] = {HW_BREAKPOINT_X, HW_BREAKPOINT_W, 0, HW_BREAKPOINT_RW}, lengths[] = {1, 2, 8, 4};
 	const unsigned access = bits(registers, 16 + 4 * number, 3);
-	struct perf_event_attr event = {.type = PERF_TYPE_BREAKPOINT, .size = sizeof event, .sample_period = 1, .exclude_kernel = 1,
-		.exclude_hv = 1, .sigtrap = 1, .remove_on_exec = 1, .sig_data = number, .bp_addr = registers->dr[number], .bp_type = kinds[access],
+	struct perf_event_attr event = {.type = PERF_TYPE_BREAKPOINT,
+		.size = sizeof event,
+		.sample_period = 1,
+		.exclude_kernel = 1,
+		.exclude_hv = 1,
+		.sigtrap = 1,
+		.remove_on_exec = 1,
+		.sig_data = number,
+		.bp_addr = registers->dr[number],
+		.bp_type = kinds[access],
 		.bp_len = access == 0 ? sizeof(long) : lengths[bits(registers, 18 + 4 * number, 3)]};
 	int fd = (int)syscall(SYS_perf_event_open, &event, 0, -1, -1, PERF_FLAG_FD_CLOEXEC);
 	if (fd < 0)

@@ -15,7 +15,10 @@
 #include "runtime.h"
 
 /* The files that standard input, output and error were at the start are outside: a read there waits for the world. */
-static struct { dev_t device; ino_t inode; } outside[3];
+static struct {
+	dev_t device;
+	ino_t inode;
+} outside[3];
 
 __attribute__((constructor(102))) static void note_outside(void)
 {
@@ -38,10 +41,7 @@ static int is_outside(int fd)
 	return 0;
 }
 
-static int nonblocking(int fd)
-{
-	return fcntl(fd, F_GETFL) & O_NONBLOCK;
-}
+static int nonblocking(int fd) { return fcntl(fd, F_GETFL) & O_NONBLOCK; }
 
 /* One try that doesn't block; -1 with EAGAIN if it would. */
 static ssize_t try_read(int fd, void *to, size_t count)
@@ -173,7 +173,8 @@ int tracehost_pipe(int ends[2])
 int tracehost_pipe2(int ends[2], int flags)
 {
 	ask("call %d", SYSCALL_PIPE2);
-	return socketpair(AF_UNIX, SOCK_STREAM | (flags & O_CLOEXEC ? SOCK_CLOEXEC : 0) | (flags & O_NONBLOCK ? SOCK_NONBLOCK : 0), 0, ends);
+	return socketpair(
+		AF_UNIX, SOCK_STREAM | (flags & O_CLOEXEC ? SOCK_CLOEXEC : 0) | (flags & O_NONBLOCK ? SOCK_NONBLOCK : 0), 0, ends);
 }
 
 int tracehost_socketpair(int domain, int type, int protocol, int ends[2])
@@ -317,7 +318,10 @@ int tracehost_ppoll(struct pollfd *fds, nfds_t count, const struct timespec *tim
 	return poll_until(HERE, SYSCALL_PPOLL, fds, count, ns_of(timeout), mask);
 }
 
-struct sets { fd_set *given[3]; fd_set wanted[3]; };
+struct sets {
+	fd_set *given[3];
+	fd_set wanted[3];
+};
 
 /* One look, at the descriptors that were asked for. */
 static int look(int count, struct sets *sets)

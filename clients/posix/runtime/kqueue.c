@@ -10,7 +10,11 @@
 enum { FLAG_CHILD = 0x2000, FLAG_SYSTEM = EV_SYSFLAGS };
 enum { FORKED = 1, EXECED, ENDED, SIGNALLED }; /* kinds of news */
 
-struct queue { int fd; struct note *first; struct queue *after; };
+struct queue {
+	int fd;
+	struct note *first;
+	struct queue *after;
+};
 static struct queue *queues;
 
 static struct queue *queue_of(int fd)
@@ -50,7 +54,8 @@ int tracehost_kqueuex(unsigned flags)
 static struct note *find(const struct queue *queue, const struct kevent *event)
 {
 	struct note *note = queue->first;
-	while (note != NULL && (note->event.ident != event->ident || note->event.filter != event->filter || note->event.flags & FLAG_CHILD))
+	while (note != NULL &&
+		   (note->event.ident != event->ident || note->event.filter != event->filter || note->event.flags & FLAG_CHILD))
 		note = note->after;
 	return note;
 }
@@ -74,7 +79,8 @@ static void drop(struct queue *queue, struct note *note)
 	*place = note->after;
 	int number = note->pid, filter = note->event.filter;
 	free(note);
-	if ((filter == EVFILT_PROC || filter == EVFILT_PROCDESC) && !is_watched(EVFILT_PROC, number) && !is_watched(EVFILT_PROCDESC, number))
+	if ((filter == EVFILT_PROC || filter == EVFILT_PROCDESC) && !is_watched(EVFILT_PROC, number) &&
+		!is_watched(EVFILT_PROCDESC, number))
 		tracehost_ask(NULL, "unwatch %d", number);
 	if (filter == EVFILT_SIGNAL && !is_watched(EVFILT_SIGNAL, number))
 		tracehost_ask(NULL, "count %d 0", number);
@@ -100,14 +106,9 @@ static void touch_user(struct note *note, const struct kevent *change)
 {
 	unsigned flags = change->fflags & NOTE_FFLAGSMASK;
 	switch (change->fflags & NOTE_FFCTRLMASK) {
-	case NOTE_FFAND:
-		note->wanted &= flags;
-		break;
-	case NOTE_FFOR:
-		note->wanted |= flags;
-		break;
-	case NOTE_FFCOPY:
-		note->wanted = flags;
+	case NOTE_FFAND: note->wanted &= flags; break;
+	case NOTE_FFOR: note->wanted |= flags; break;
+	case NOTE_FFCOPY: note->wanted = flags;
 	}
 	note->given = change->data;
 	note->active |= (change->fflags & NOTE_TRIGGER) != 0;
@@ -207,7 +208,7 @@ static void hear(int kind, int number, int first, int second)
 			if (kind == SIGNALLED && note->event.filter == EVFILT_SIGNAL && note->pid == number)
 				note->event.data += first, note->active = 1;
 			else if (kind != SIGNALLED && !note->gone && note->pid == number &&
-				(note->event.filter == EVFILT_PROC || note->event.filter == EVFILT_PROCDESC))
+					 (note->event.filter == EVFILT_PROC || note->event.filter == EVFILT_PROCDESC))
 				hear_of(queue, note, kind, first, second);
 		}
 	if (kind == ENDED)

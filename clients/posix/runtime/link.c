@@ -23,7 +23,8 @@ static char no_answer[1];
 static char first_stack[16384]; /* of a thread that isn't the runtime's */
 __thread struct own own = {.now = {.top = first_stack + sizeof first_stack}, .fd = -1, .passed = -1, .at = no_answer};
 _Static_assert(offsetof(struct now, top) == 8 && offsetof(struct now, inside) == 16 && offsetof(struct now, lands) == 20 &&
-	offsetof(struct own, now) == 0 && sizeof(struct frame) == 160, "as entry.S has them");
+				   offsetof(struct own, now) == 0 && sizeof(struct frame) == 160,
+	"as entry.S has them");
 int own_pid;
 pid_t own_real;
 int own_fds[THREADS];
@@ -146,8 +147,8 @@ static void receive_line(void)
 /* Questions of calls at which a cancelled thread ends: pthread_testcancel(3). */
 static int is_cancellation_point(const char *question)
 {
-	static const char *const points[] = {"sleep ", "wait ", "suspend ", "pause", "sigwait ", "join ", "enter ", "masked ", "again read",
-		"again write", "again poll", "again kevent", "again semaphore"};
+	static const char *const points[] = {"sleep ", "wait ", "suspend ", "pause", "sigwait ", "join ", "enter ", "masked ",
+		"again read", "again write", "again poll", "again kevent", "again semaphore"};
 	for (size_t i = 0; i < sizeof points / sizeof points[0]; i++)
 		if (strncmp(question, points[i], strlen(points[i])) == 0)
 			return 1;
@@ -237,7 +238,4 @@ int tracehost_ask(const void *where, const char *format, ...)
 	return result;
 }
 
-long tracehost_number(void)
-{
-	return strtol(own.at, &own.at, 10);
-}
+long tracehost_number(void) { return strtol(own.at, &own.at, 10); }

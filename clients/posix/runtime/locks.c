@@ -15,12 +15,12 @@ static int again(const void *where, const char *kind, int number, long long unti
 }
 
 /* One look after the other at a lock of the host's, until it isn't busy. */
-#define LOOK_UNTIL(where, look, kind, until) \
-	({ \
-		int error_, late_ = 0; \
+#define LOOK_UNTIL(where, look, kind, until)             \
+	({                                                   \
+		int error_, late_ = 0;                           \
 		while ((error_ = (look)) == EBUSY && late_ == 0) \
-			late_ = again(where, kind, 0, until); \
-		error_ == EBUSY ? late_ : error_; \
+			late_ = again(where, kind, 0, until);        \
+		error_ == EBUSY ? late_ : error_;                \
 	})
 
 /* ---- mutexes */
@@ -158,15 +158,17 @@ int tracehost_pthread_cond_wait(pthread_cond_t *condition, pthread_mutex_t *mute
 	return wait_condition(HERE, condition, mutex, -1);
 }
 
-int tracehost_pthread_cond_clockwait(pthread_cond_t *condition, pthread_mutex_t *mutex, clockid_t clock, const struct timespec *until)
+int tracehost_pthread_cond_clockwait(
+	pthread_cond_t *condition, pthread_mutex_t *mutex, clockid_t clock, const struct timespec *until)
 {
 	return tracehost_no_time(until) ? EINVAL : wait_condition(HERE, condition, mutex, tracehost_moment(clock, until));
 }
 
 int tracehost_pthread_cond_timedwait(pthread_cond_t *condition, pthread_mutex_t *mutex, const struct timespec *until)
 {
-	return tracehost_no_time(until) ? EINVAL
-		: wait_condition(HERE, condition, mutex, tracehost_moment(condition_of(condition)->clock, until));
+	return tracehost_no_time(until)
+			   ? EINVAL
+			   : wait_condition(HERE, condition, mutex, tracehost_moment(condition_of(condition)->clock, until));
 }
 
 int tracehost_pthread_cond_signal(pthread_cond_t *given)
@@ -187,7 +189,9 @@ int tracehost_pthread_cond_broadcast(pthread_cond_t *given)
 
 /* ---- barriers */
 
-struct barrier { unsigned count, waiting, round, inside; };
+struct barrier {
+	unsigned count, waiting, round, inside;
+};
 _Static_assert(sizeof(struct barrier) <= sizeof(pthread_barrier_t), "a barrier has room for ours");
 
 int tracehost_pthread_barrier_init(pthread_barrier_t *barrier, const pthread_barrierattr_t *attributes, unsigned count)
@@ -225,10 +229,7 @@ int tracehost_pthread_barrier_wait(pthread_barrier_t *given)
 
 /* ---- semaphores */
 
-static int try_semaphore(sem_t *semaphore)
-{
-	return sem_trywait(semaphore) == 0 ? 0 : errno == EAGAIN ? EBUSY : errno;
-}
+static int try_semaphore(sem_t *semaphore) { return sem_trywait(semaphore) == 0 ? 0 : errno == EAGAIN ? EBUSY : errno; }
 
 static int take(const void *where, sem_t *semaphore, long long until)
 {
@@ -303,7 +304,7 @@ static int timed(const void *where, pthread_rwlock_t *rwlock, attempt *attempt, 
 	if (error != EBUSY)
 		return error;
 	return tracehost_no_time(until) ? EINVAL
-		: LOOK_UNTIL(where, attempt(rwlock), "rwlock", tracehost_moment(CLOCK_REALTIME, until));
+									: LOOK_UNTIL(where, attempt(rwlock), "rwlock", tracehost_moment(CLOCK_REALTIME, until));
 }
 
 int tracehost_pthread_rwlock_rdlock(pthread_rwlock_t *rwlock)

@@ -56,7 +56,12 @@ static char *read_file(long real, const char *name, size_t *size)
 
 /* ---- the map of its memory */
 
-struct range { unsigned long start, end, offset, file; unsigned prot; int shared; char path[PATH_MAX]; };
+struct range {
+	unsigned long start, end, offset, file;
+	unsigned prot;
+	int shared;
+	char path[PATH_MAX];
+};
 
 /* The next line of the host's map: 0 behind the last one. */
 static int next_range(char **at, struct range *range)
@@ -69,7 +74,8 @@ static int next_range(char **at, struct range *range)
 	char *path = *at + behind + strspn(*at + behind, " "), *line = strchrnul(path, '\n');
 	if (*path == '/')
 		snprintf(range->path, sizeof range->path, "%.*s", (int)(line - path), path);
-	range->prot = (bits[0] == 'r' ? KVME_PROT_READ : 0) | (bits[1] == 'w' ? KVME_PROT_WRITE : 0) | (bits[2] == 'x' ? KVME_PROT_EXEC : 0);
+	range->prot =
+		(bits[0] == 'r' ? KVME_PROT_READ : 0) | (bits[1] == 'w' ? KVME_PROT_WRITE : 0) | (bits[2] == 'x' ? KVME_PROT_EXEC : 0);
 	range->shared = bits[3] == 's';
 	*at = *line != 0 ? line + 1 : line;
 	return 1;
@@ -171,8 +177,12 @@ static int give_map(long real, void *to, size_t *size)
 		return fail(ESRCH);
 	while (next_range(&at, &range)) {
 		struct kinfo_vmentry entry = {.kve_type = range.path[0] != 0 ? KVME_TYPE_VNODE : KVME_TYPE_DEFAULT,
-			.kve_flags = range.shared ? 0 : KVME_FLAG_COW, .kve_protection = (int)range.prot, .kve_start = range.start,
-			.kve_end = range.end, .kve_offset = range.offset, .kve_vn_fileid = range.file};
+			.kve_flags = range.shared ? 0 : KVME_FLAG_COW,
+			.kve_protection = (int)range.prot,
+			.kve_start = range.start,
+			.kve_end = range.end,
+			.kve_offset = range.offset,
+			.kve_vn_fileid = range.file};
 		memcpy(entry.kve_path, range.path, sizeof entry.kve_path);
 		entry.kve_structsize = (int)((offsetof(struct kinfo_vmentry, kve_path) + strlen(range.path) + 1 + 7) & ~7UL);
 		if (to != NULL && done + (size_t)entry.kve_structsize <= room)
@@ -227,8 +237,9 @@ static int give_arguments(long real, void *to, size_t *size)
 int tracehost_sysctl(const int *name, unsigned count, void *to, size_t *size, const void *new, size_t new_size)
 {
 	(void)new, (void)new_size;
-	if (count != 4 || name[0] != CTL_KERN || name[1] != KERN_PROC || (name[2] != KERN_PROC_PID && name[2] != KERN_PROC_ARGS &&
-		name[2] != KERN_PROC_PATHNAME && name[2] != KERN_PROC_VMMAP && name[2] != KERN_PROC_AUXV)) {
+	if (count != 4 || name[0] != CTL_KERN || name[1] != KERN_PROC ||
+		(name[2] != KERN_PROC_PID && name[2] != KERN_PROC_ARGS && name[2] != KERN_PROC_PATHNAME && name[2] != KERN_PROC_VMMAP &&
+			name[2] != KERN_PROC_AUXV)) {
 		tracehost_say("sysctl: only kern.proc is here, with pid, args, pathname, vmmap and auxv (ENOENT)");
 		return fail(ENOENT);
 	}
@@ -243,8 +254,10 @@ int tracehost_sysctl(const int *name, unsigned count, void *to, size_t *size, co
 	long real = tracehost_number();
 	if (real == 0)
 		return fail(ESRCH);
-	return name[2] == KERN_PROC_ARGS ? give_arguments(real, to, size) : name[2] == KERN_PROC_PATHNAME ? give_path(real, to, size)
-		: name[2] == KERN_PROC_VMMAP ? give_map(real, to, size) : give_auxiliary(real, to, size);
+	return name[2] == KERN_PROC_ARGS       ? give_arguments(real, to, size)
+		   : name[2] == KERN_PROC_PATHNAME ? give_path(real, to, size)
+		   : name[2] == KERN_PROC_VMMAP    ? give_map(real, to, size)
+										   : give_auxiliary(real, to, size);
 }
 
 /* ---- libutil(3) */

@@ -20,11 +20,25 @@
 #include <unistd.h>
 #include "runtime.h"
 
-static const struct { int number; const char *name; } held[] = {
-	{SYS_kill, "kill"}, {SYS_tkill, "tkill"}, {SYS_tgkill, "tgkill"}, {SYS_rt_sigqueueinfo, "sigqueue"},
-	{SYS_rt_tgsigqueueinfo, "pthread_sigqueue"}, {SYS_fork, "fork"}, {SYS_vfork, "vfork"}, {SYS_clone, "clone"},
-	{SYS_setpgid, "setpgid"}, {SYS_setsid, "setsid"}, {SYS_ptrace, "ptrace"}, {SYS_clock_settime, "clock_settime"},
-	{SYS_settimeofday, "settimeofday"}, {SYS_adjtimex, "adjtimex"}, {SYS_clock_adjtime, "clock_adjtime"},
+static const struct {
+	int number;
+	const char *name;
+} held[] = {
+	{SYS_kill, "kill"},
+	{SYS_tkill, "tkill"},
+	{SYS_tgkill, "tgkill"},
+	{SYS_rt_sigqueueinfo, "sigqueue"},
+	{SYS_rt_tgsigqueueinfo, "pthread_sigqueue"},
+	{SYS_fork, "fork"},
+	{SYS_vfork, "vfork"},
+	{SYS_clone, "clone"},
+	{SYS_setpgid, "setpgid"},
+	{SYS_setsid, "setsid"},
+	{SYS_ptrace, "ptrace"},
+	{SYS_clock_settime, "clock_settime"},
+	{SYS_settimeofday, "settimeofday"},
+	{SYS_adjtimex, "adjtimex"},
+	{SYS_clock_adjtime, "clock_adjtime"},
 };
 enum { HELD = sizeof held / sizeof held[0], WINDOWS = 64, FORK = CLONE_CHILD_SETTID | CLONE_CHILD_CLEARTID | SIGCHLD };
 
@@ -79,7 +93,10 @@ static void add_names(const struct dl_phdr_info *info, char *report, size_t room
 		snprintf(report + length, room - length, " of the host: compile it by tracehost-cc");
 }
 
-struct report { char *text; size_t room; };
+struct report {
+	char *text;
+	size_t room;
+};
 
 static int report_library(struct dl_phdr_info *info, size_t size, void *given)
 {
@@ -173,7 +190,12 @@ static void before_fork(void)
 
 /* ---- the filter */
 
-struct windows { struct { unsigned long from, to; } at[WINDOWS]; int count; };
+struct windows {
+	struct {
+		unsigned long from, to;
+	} at[WINDOWS];
+	int count;
+};
 
 /* With clang a sanitizer is a part of the program; it makes such calls when it looks for leaks. */
 extern void __sanitizer_set_death_callback(void (*)(void)) __attribute__((weak));
@@ -207,16 +229,19 @@ static int add_windows(struct dl_phdr_info *info, size_t size, void *given)
 #define IF_SET(value, then, otherwise) BPF_JUMP(BPF_JMP | BPF_JSET | BPF_K, value, then, otherwise)
 #define ANSWER(value) BPF_STMT(BPF_RET | BPF_K, value)
 
-struct filter { struct sock_filter at[1024]; unsigned short length; };
+struct filter {
+	struct sock_filter at[1024];
+	unsigned short length;
+};
 
 static void put(struct filter *filter, const struct sock_filter *statements, size_t count)
 {
 	memcpy(filter->at + filter->length, statements, count * sizeof *statements);
 	filter->length += count;
 }
-#define PUT(filter, ...) \
-	do { \
-		const struct sock_filter statements[] = {__VA_ARGS__}; \
+#define PUT(filter, ...)                                                   \
+	do {                                                                   \
+		const struct sock_filter statements[] = {__VA_ARGS__};             \
 		put(filter, statements, sizeof statements / sizeof statements[0]); \
 	} while (0)
 
@@ -224,10 +249,16 @@ static void put(struct filter *filter, const struct sock_filter *statements, siz
  * abort(3). The C library has clone(2) if clone3(2) isn't there. Calls of 32 bits have numbers of their own: none passes. */
 static void put_calls(struct filter *filter)
 {
-	enum { FIRST = 17, X32 = 0x40000000, TRAP = FIRST + HELD + 1, STORE = TRAP + 1 }; /* places of statements; a jump counts from the next one */
+	enum {
+		FIRST = 17,
+		X32 = 0x40000000,
+		TRAP = FIRST + HELD + 1,
+		STORE = TRAP + 1
+	}; /* places of statements; a jump counts from the next one */
 	PUT(filter, LOAD(LOW(arch)), IF_EQUAL(AUDIT_ARCH_X86_64, 1, 0), BPF_STMT(BPF_JMP | BPF_JA, TRAP - 3), LOAD(LOW(nr)));
 	PUT(filter, IF_LEAST(X32, TRAP - 5, 0));
-	PUT(filter, IF_EQUAL(SYS_clone3, 0, 2), BPF_STMT(BPF_LD | BPF_IMM, SECCOMP_RET_ERRNO | ENOSYS), BPF_STMT(BPF_JMP | BPF_JA, STORE - 8));
+	PUT(filter, IF_EQUAL(SYS_clone3, 0, 2), BPF_STMT(BPF_LD | BPF_IMM, SECCOMP_RET_ERRNO | ENOSYS),
+		BPF_STMT(BPF_JMP | BPF_JA, STORE - 8));
 	PUT(filter, IF_EQUAL(SYS_clone, 0, 4), LOAD(LOW(args[0])), IF_SET(CLONE_THREAD, 1, 0), IF_EQUAL(FORK, 0, TRAP - 12),
 		ANSWER(SECCOMP_RET_ALLOW));
 	PUT(filter, IF_EQUAL(SYS_tgkill, 0, 3), LOAD(LOW(args[2])), IF_EQUAL(SIGABRT, 0, TRAP - 16), ANSWER(SECCOMP_RET_ALLOW));

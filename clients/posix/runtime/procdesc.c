@@ -8,7 +8,9 @@
 #include "freebsd.h"
 #include "runtime.h"
 
-static struct described { int fd, pid, peer, ended; } descriptors[256];
+static struct described {
+	int fd, pid, peer, ended;
+} descriptors[256];
 static int live;
 enum { DESCRIBED = sizeof descriptors / sizeof descriptors[0] };
 

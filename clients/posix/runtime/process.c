@@ -227,10 +227,7 @@ int tracehost_execvP(const char *file, const char *folders, char *const argv[])
 	return replace_in(HERE, file, folders, argv, environ);
 }
 
-int tracehost_execvpe(const char *file, char *const argv[], char *const envp[])
-{
-	return replace_by_name(HERE, file, argv, envp);
-}
+int tracehost_execvpe(const char *file, char *const argv[], char *const envp[]) { return replace_by_name(HERE, file, argv, envp); }
 
 enum { ARGUMENTS = 1024 };
 

@@ -6,12 +6,12 @@
 #include "freebsd.h"
 #include "runtime.h"
 
-#define REFUSED(name) \
+#define REFUSED(name)                    \
 	void tracehost_refused_##name(void); \
-	void tracehost_refused_##name(void) \
-	{ \
-		ask("refused %s", #name); \
-		tracehost_die(); \
+	void tracehost_refused_##name(void)  \
+	{                                    \
+		ask("refused %s", #name);        \
+		tracehost_die();                 \
 	}
 
 #include "refused.inc" /* of <tracehost/names.h>: REFUSED(name) for each */
@@ -45,17 +45,10 @@ static long futex(const void *where, va_list arguments)
 long tracehost_syscall(long number, ...)
 {
 	switch (number) {
-	case SYSCALL_GETPID:
-		ask("call %ld", number);
-		return own_pid;
-	case SYSCALL_GETPPID:
-		ask("getppid");
-		return tracehost_number();
-	case SYSCALL_GETUID:
-		ask("call %ld", number);
-		return getuid();
-	case SYSCALL_SCHED_YIELD:
-		return ask("yield");
+	case SYSCALL_GETPID: ask("call %ld", number); return own_pid;
+	case SYSCALL_GETPPID: ask("getppid"); return tracehost_number();
+	case SYSCALL_GETUID: ask("call %ld", number); return getuid();
+	case SYSCALL_SCHED_YIELD: return ask("yield");
 	case SYSCALL_FUTEX: {
 		va_list arguments;
 		va_start(arguments, number);

@@ -21,7 +21,8 @@ enum {
 	ARITHMETIC = PSL_C | PSL_PF | PSL_AF | PSL_Z | PSL_N | PSL_V,
 	GENERAL_REGISTERS = 15 * sizeof(long), /* as many words come first in struct reg and in struct frame, in one order */
 };
-_Static_assert(offsetof(struct reg, r_trapno) == GENERAL_REGISTERS && offsetof(struct frame, flags) == GENERAL_REGISTERS, "the same order");
+_Static_assert(
+	offsetof(struct reg, r_trapno) == GENERAL_REGISTERS && offsetof(struct frame, flags) == GENERAL_REGISTERS, "the same order");
 _Static_assert(sizeof(struct fpreg) == 512, "as fxsave has them");
 
 static greg_t *general(void *context) { return ((ucontext_t *)context)->uc_mcontext.gregs; }
@@ -100,7 +101,8 @@ int tracehost_raise(int number);
 static void find_arguments(long to[6], const struct frame *frame)
 {
 	const void *of = frame->function;
-	const long given[6] = {(long)frame->rdi, (long)frame->rsi, (long)frame->rdx, (long)frame->rcx, (long)frame->r8, (long)frame->r9};
+	const long given[6] = {
+		(long)frame->rdi, (long)frame->rsi, (long)frame->rdx, (long)frame->rcx, (long)frame->r8, (long)frame->r9};
 	memcpy(to, given, sizeof given);
 	if (of == (void *)(size_t)tracehost_waitpid)
 		to[3] = 0;

@@ -40,7 +40,7 @@ static int act(const void *where, int number, const struct sigaction *new, struc
 		int how = flags & BSD_SA_SIGINFO ? 2 : new->sa_handler == SIG_DFL ? 0 : new->sa_handler == SIG_IGN ? 1 : 2;
 		tracehost_actions[number] = *new;
 		if (tracehost_ask(where, "action %d %d %d %d %u", number, how, !!(flags & BSD_SA_RESTART),
-			(flags & BSD_SA_NODEFER ? 1 : 0) | (flags & BSD_SA_RESETHAND ? 2 : 0), tracehost_bits(&new->sa_mask)) != 0) {
+				(flags & BSD_SA_NODEFER ? 1 : 0) | (flags & BSD_SA_RESETHAND ? 2 : 0), tracehost_bits(&new->sa_mask)) != 0) {
 			tracehost_actions[number] = before;
 			return -1;
 		}
@@ -233,8 +233,8 @@ char *tracehost_strsignal(int number)
 		"EMT trap", "Floating point exception", "Killed", "Bus error", "Segmentation fault", "Bad system call", "Broken pipe",
 		"Alarm clock", "Terminated", "Urgent I/O condition", "Suspended (signal)", "Suspended", "Continued", "Child exited",
 		"Stopped (tty input)", "Stopped (tty output)", "I/O possible", "Cputime limit exceeded", "Filesize limit exceeded",
-		"Virtual timer expired", "Profiling timer expired", "Window size changes", "Information request",
-		"User defined signal 1", "User defined signal 2"};
+		"Virtual timer expired", "Profiling timer expired", "Window size changes", "Information request", "User defined signal 1",
+		"User defined signal 2"};
 	return number >= 0 && number <= BSD_SIGNALS ? names[number] : "Unknown signal";
 }
 

@@ -51,10 +51,12 @@ int tracehost_posix_spawn_file_actions_destroy(posix_spawn_file_actions_t *actio
 	return 0;
 }
 
-int tracehost_posix_spawn_file_actions_addopen(posix_spawn_file_actions_t *actions, int fd, const char *path, int flags, mode_t mode)
+int tracehost_posix_spawn_file_actions_addopen(
+	posix_spawn_file_actions_t *actions, int fd, const char *path, int flags, mode_t mode)
 {
 	char *copy = strdup(path);
-	return copy == NULL ? ENOMEM : add(actions, (struct action){.kind = OPEN, .fd = fd, .flags = flags, .mode = mode, .path = copy});
+	return copy == NULL ? ENOMEM
+						: add(actions, (struct action){.kind = OPEN, .fd = fd, .flags = flags, .mode = mode, .path = copy});
 }
 
 int tracehost_posix_spawn_file_actions_addclose(posix_spawn_file_actions_t *actions, int fd)

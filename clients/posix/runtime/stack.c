@@ -9,10 +9,13 @@
 #include "runtime.h"
 
 enum {
-	BSD_SS_ONSTACK = 1, BSD_SS_DISABLE = 4,
+	BSD_SS_ONSTACK = 1,
+	BSD_SS_DISABLE = 4,
 	SMALLEST = 16384, /* FreeBSD's is smaller: the runtime needed room there once */
-	CALLS = 4 << 20, SIGNALS = 4 << 20,
-	BETWEEN = 16384, /* left to what runs already, as another level begins below it */
+	CALLS = 32 << 20,
+	SIGNALS = 32 << 20, /* only what is used takes memory */
+	BETWEEN = 2048, /* left to what runs already, as another level begins below it */
+	LOW = 64 << 10, /* a level needs less */
 	RED_ZONE = 128,
 };
 
@@ -42,7 +45,16 @@ void tracehost_drop_stacks(void)
 	own.stacks = NULL;
 }
 
-static int is_for_calls(const char *at) { return own.stacks != NULL && at > own.stacks + SIGNALS && at <= own.stacks + SIGNALS + CALLS; }
+static void __attribute__((noreturn)) tell_depth(void)
+{
+	errno = ENOMEM;
+	tracehost_broken("so many handlers run within handlers that the runtime's stack for them is used up");
+}
+
+static int is_for_calls(const char *at)
+{
+	return own.stacks != NULL && at > own.stacks + SIGNALS && at <= own.stacks + SIGNALS + CALLS;
+}
 static char *aligned(char *at) { return (char *)((size_t)at & ~15UL); }
 
 void tracehost_leave_runtime(void)
@@ -90,6 +102,8 @@ static void lower(void)
 		if (is_for_calls(stack_pointer(own.now.interrupted)))
 			own.now.top = aligned(stack_pointer(own.now.interrupted) - BETWEEN);
 	}
+	if (own.stacks != NULL && (own.now.signals < own.stacks + LOW || own.now.top < own.stacks + SIGNALS + LOW))
+		tell_depth();
 }
 
 void tracehost_call_program(struct outcall *call, int on_other_stack)
@@ -97,7 +111,8 @@ void tracehost_call_program(struct outcall *call, int on_other_stack)
 	const struct now before = own.now;
 	char *stack = program_stack();
 	call->frame_pointer = own.now.context != NULL ? (size_t)((ucontext_t *)own.now.context)->uc_mcontext.gregs[REG_RBP]
-		: own.now.inside ? own.now.frame->rbp : 0;
+						  : own.now.inside        ? own.now.frame->rbp
+												  : 0;
 	if (on_other_stack && own.other_stack.ss_sp != NULL && !is_on(&own.other_stack, stack))
 		call->stack = aligned((char *)own.other_stack.ss_sp + own.other_stack.ss_size);
 	else
@@ -121,7 +136,7 @@ int tracehost_sigaltstack(const stack_t *new, stack_t *old)
 		errno = on ? EPERM : EINVAL;
 		return -1;
 	}
-	if (new != NULL && !(new->ss_flags & BSD_SS_DISABLE) && new->ss_size < SMALLEST) {
+	if (new != NULL && !(new->ss_flags &BSD_SS_DISABLE) && new->ss_size < SMALLEST) {
 		errno = ENOMEM;
 		return -1;
 	}
@@ -130,6 +145,6 @@ int tracehost_sigaltstack(const stack_t *new, stack_t *old)
 		old->ss_flags = before.ss_sp == NULL ? BSD_SS_DISABLE : on ? BSD_SS_ONSTACK : 0;
 	}
 	if (new != NULL)
-		own.other_stack = new->ss_flags & BSD_SS_DISABLE ? (stack_t){0} : *new;
+		own.other_stack = new->ss_flags &BSD_SS_DISABLE ? (stack_t){0} : *new;
 	return 0;
 }

@@ -31,10 +31,7 @@ static unsigned long load_address;
 /* ---- the host's own signals */
 
 /* Where a signal has met the program; a call is looked up by the address behind it. */
-static const void *place_of(void *context)
-{
-	return (const void *)(((ucontext_t *)context)->uc_mcontext.gregs[REG_RIP] + 1);
-}
+static const void *place_of(void *context) { return (const void *)(((ucontext_t *)context)->uc_mcontext.gregs[REG_RIP] + 1); }
 
 /* A question at any place of the program, in the midst of a call of the runtime too: what that has not read yet of its
  * own answer is kept. */
@@ -82,8 +79,10 @@ static int code_of(int number, const siginfo_t *info)
 
 static void on_fault(int number, siginfo_t *info, void *context)
 {
-	static const struct { int host, bsd; } table[] = {{SIGSEGV, BSD_SIGSEGV}, {SIGBUS, BSD_SIGBUS}, {SIGFPE, BSD_SIGFPE},
-		{SIGILL, BSD_SIGILL}, {SIGTRAP, BSD_SIGTRAP}, {SIGABRT, BSD_SIGABRT}, {SIGSYS, BSD_SIGSYS}};
+	static const struct {
+		int host, bsd;
+	} table[] = {{SIGSEGV, BSD_SIGSEGV}, {SIGBUS, BSD_SIGBUS}, {SIGFPE, BSD_SIGFPE}, {SIGILL, BSD_SIGILL}, {SIGTRAP, BSD_SIGTRAP},
+		{SIGABRT, BSD_SIGABRT}, {SIGSYS, BSD_SIGSYS}};
 	if (number == SIGSYS && info->si_code == HELD_CALL)
 		tracehost_tell_call(info->si_syscall, info->si_call_addr);
 	if (number == SIGTRAP && tracehost_trap(info, context))

@@ -12,7 +12,10 @@ static struct thread {
 	pthread_t thread;
 	int tid, detached, ended;
 	struct own *own;
-	struct { void *lowest; size_t size; } stack; /* what the program has asked for, if the host's is another; else no size */
+	struct {
+		void *lowest;
+		size_t size;
+	} stack; /* what the program has asked for, if the host's is another; else no size */
 } threads[THREADS];
 static int used; /* places behind these are empty */
 static int living; /* threads that haven't begun to end */

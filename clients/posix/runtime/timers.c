@@ -44,7 +44,10 @@ useconds_t tracehost_ualarm(useconds_t first, useconds_t every)
 /* ---- timer_create(2) */
 
 enum { TIMERS = 32 };
-static struct { int used, signal; clockid_t clock; } timers[TIMERS + 1]; /* from 1 on */
+static struct {
+	int used, signal;
+	clockid_t clock;
+} timers[TIMERS + 1]; /* from 1 on */
 
 /* A timer's number; 0 with EINVAL if there is none. */
 static int number_of(timer_t timer)

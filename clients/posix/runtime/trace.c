@@ -160,11 +160,11 @@ static int set_counter(const void *where, pid_t target, const char *address)
 /* How many arguments FreeBSD's call of this number has. */
 static unsigned arguments_of(unsigned code)
 {
-	static const unsigned char counts[][2] = {{1, 1}, {3, 3}, {4, 3}, {5, 3}, {6, 1}, {7, 4}, {10, 1}, {26, 4}, {33, 2}, {37, 2}, {41, 1},
-		{53, 2}, {59, 3}, {81, 0}, {83, 3}, {86, 2}, {90, 2}, {92, 3}, {93, 5}, {120, 3}, {121, 3}, {135, 4}, {202, 6}, {207, 1}, {209, 3},
-		{232, 2}, {235, 3}, {236, 1}, {237, 4}, {238, 2}, {240, 2}};
-	static const unsigned short more[][2] = {{310, 1}, {340, 3}, {341, 1}, {343, 1}, {345, 3}, {416, 3}, {431, 1}, {432, 1}, {433, 2}, {454, 5},
-		{455, 2}, {499, 4}, {522, 6}, {542, 2}, {545, 4}, {575, 3}};
+	static const unsigned char counts[][2] = {{1, 1}, {3, 3}, {4, 3}, {5, 3}, {6, 1}, {7, 4}, {10, 1}, {26, 4}, {33, 2}, {37, 2},
+		{41, 1}, {53, 2}, {59, 3}, {81, 0}, {83, 3}, {86, 2}, {90, 2}, {92, 3}, {93, 5}, {120, 3}, {121, 3}, {135, 4}, {202, 6},
+		{207, 1}, {209, 3}, {232, 2}, {235, 3}, {236, 1}, {237, 4}, {238, 2}, {240, 2}};
+	static const unsigned short more[][2] = {{310, 1}, {340, 3}, {341, 1}, {343, 1}, {345, 3}, {416, 3}, {431, 1}, {432, 1},
+		{433, 2}, {454, 5}, {455, 2}, {499, 4}, {522, 6}, {542, 2}, {545, 4}, {575, 3}};
 	for (size_t i = 0; i < sizeof counts / sizeof counts[0]; i++)
 		if (counts[i][0] == code)
 			return counts[i][1];
@@ -311,16 +311,11 @@ static int resume(const void *where, int request, pid_t target, const char *addr
 static int registers(const void *where, int request, pid_t target, void *address)
 {
 	switch (request) {
-	case PT_SETREGS:
-		return set_registers(where, target, address, GENERAL);
-	case PT_SETFPREGS:
-		return set_registers(where, target, address, FLOATS);
-	case PT_SETGSBASE:
-		return set_registers(where, target, address, BASES);
-	case PT_SETDBREGS:
-		return set_debug(where, target, address);
-	default:
-		return get_registers(where, target, request, address);
+	case PT_SETREGS: return set_registers(where, target, address, GENERAL);
+	case PT_SETFPREGS: return set_registers(where, target, address, FLOATS);
+	case PT_SETGSBASE: return set_registers(where, target, address, BASES);
+	case PT_SETDBREGS: return set_debug(where, target, address);
+	default: return get_registers(where, target, request, address);
 	}
 }
 
@@ -335,10 +330,8 @@ int tracehost_ptrace(int request, pid_t target, char *address, int data)
 		errno = 0;
 		return word;
 	case PT_WRITE_I:
-	case PT_WRITE_D:
-		return memory(HERE, target, address, &data, sizeof data, 1) < 0 ? -1 : 0;
-	case PT_IO:
-		return io(HERE, target, (struct ptrace_io_desc *)(void *)address);
+	case PT_WRITE_D: return memory(HERE, target, address, &data, sizeof data, 1) < 0 ? -1 : 0;
+	case PT_IO: return io(HERE, target, (struct ptrace_io_desc *)(void *)address);
 	case PT_GETREGS:
 	case PT_SETREGS:
 	case PT_GETFPREGS:
@@ -347,26 +340,17 @@ int tracehost_ptrace(int request, pid_t target, char *address, int data)
 	case PT_SETDBREGS:
 	case PT_GETFSBASE:
 	case PT_GETGSBASE:
-	case PT_SETGSBASE:
-		return registers(HERE, request, target, address);
+	case PT_SETGSBASE: return registers(HERE, request, target, address);
 	case PT_SETSTEP:
-	case PT_CLEARSTEP:
-		return ask("setstep %d %d", target, request == PT_SETSTEP);
-	case PT_GET_SC_ARGS:
-		return call_arguments(HERE, target, address, (size_t)data);
-	case PT_GET_SC_RET:
-		return call_result(HERE, target, (struct ptrace_sc_ret *)(void *)address, (size_t)data);
-	case PT_VM_TIMESTAMP:
-		return tracehost_map_version(HERE, target);
-	case PT_VM_ENTRY:
-		return tracehost_map_entry(HERE, target, (struct ptrace_vm_entry *)(void *)address);
-	case PT_LWPINFO:
-		return information(HERE, target, address, data);
-	case PT_GETLWPLIST:
-		return list(HERE, target, (lwpid_t *)(void *)address, data);
+	case PT_CLEARSTEP: return ask("setstep %d %d", target, request == PT_SETSTEP);
+	case PT_GET_SC_ARGS: return call_arguments(HERE, target, address, (size_t)data);
+	case PT_GET_SC_RET: return call_result(HERE, target, (struct ptrace_sc_ret *)(void *)address, (size_t)data);
+	case PT_VM_TIMESTAMP: return tracehost_map_version(HERE, target);
+	case PT_VM_ENTRY: return tracehost_map_entry(HERE, target, (struct ptrace_vm_entry *)(void *)address);
+	case PT_LWPINFO: return information(HERE, target, address, data);
+	case PT_GETLWPLIST: return list(HERE, target, (lwpid_t *)(void *)address, data);
 	case PT_GET_EVENT_MASK:
-	case PT_SET_EVENT_MASK:
-		return event_mask(HERE, request, target, (int *)(void *)address, data);
+	case PT_SET_EVENT_MASK: return event_mask(HERE, request, target, (int *)(void *)address, data);
 	case PT_TRACE_ME:
 	case PT_CONTINUE:
 	case PT_KILL:
@@ -380,9 +364,7 @@ int tracehost_ptrace(int request, pid_t target, char *address, int data)
 	case PT_TO_SCX:
 	case PT_SYSCALL:
 	case PT_FOLLOW_FORK:
-	case PT_LWP_EVENTS:
-		return resume(HERE, request, target, address, data);
-	default:
-		return unknown(request);
+	case PT_LWP_EVENTS: return resume(HERE, request, target, address, data);
+	default: return unknown(request);
 	}
 }

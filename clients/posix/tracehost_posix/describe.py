@@ -2,10 +2,16 @@
 
 from __future__ import annotations
 
-import os
 from typing import NamedTuple
 
-from .table import Lwp
+
+class Met(NamedTuple):
+    """A call at which another LWP could go on."""
+
+    program: str
+    call: str
+    where: int
+
 
 class Place(NamedTuple):
     """The place of an LWP, and what is said of it."""
@@ -20,15 +26,6 @@ class Place(NamedTuple):
     then: str
     step: int = 0
     """The number of the next step."""
-
-
-def place_of(lwp: Lwp, then: str, step: int = 0) -> Place:
-    """Where this LWP is now."""
-    try:
-        program = os.readlink(f"/proc/{lwp.process.real}/exe")
-    except OSError:
-        program = ""
-    return Place(name_of(lwp), lwp.asked, lwp.where - lwp.process.base if lwp.where else 0, program, then, step)
 
 
 def signal_name(number: int) -> str:
@@ -135,11 +132,6 @@ def call_name(asked: str) -> str:
     return _NAMES.get(words[0], words[0])
 
 
-def name_of(lwp: Lwp) -> str:
-    """Process and LWP, or whose timer it is."""
-    return f"{lwp.process.pid}/{lwp.tid}" if lwp.socket is not None else f"the timer of {lwp.process.pid}"
-
-
 class Waiting(NamedTuple):
     """An LWP that waits as a run ends."""
 
@@ -153,16 +145,6 @@ class Waiting(NamedTuple):
     """Its process has been stopped."""
     holder: int
     """The LWP that holds the mutex it waits for; 0 if nobody does."""
-
-
-def waiting_of(lwp: Lwp) -> Waiting:
-    """What this LWP waits for."""
-    process, words = lwp.process, lwp.asked.split()
-    holder = 0
-    if words[:2] == ["again", "mutex"]:
-        holder = next((other.tid for other in process.lwps if other.real == int(words[2])), 0)
-    stopped = lwp.topics == (-process.pid,)
-    return Waiting(process.pid, lwp.tid, lwp.asked, stopped, process.tracer, process.reporting is not None, holder)
 
 
 def waiting(lwp: Waiting) -> str:

@@ -1,19 +1,19 @@
-"""What comes of a run, whichever broker has run it; and the compiled broker's lines, of which broker/outcome.c is the other end."""
+"""What comes of a run: the broker's lines, of which broker/outcome.c is the other end, and the words for it."""
 
 from __future__ import annotations
 
+import signal
+from collections import Counter
 from collections.abc import Sequence
 from typing import NamedTuple
-from urllib.parse import unquote
 
-from .blame import ended_by, gone, loops, unheard_of
-from .coverage import Met
-from .describe import Place, Waiting, signal_name, waiting
-from .schedules import Switch
-from .table import Options
+from .describe import Met, Place, Waiting, call_name, signal_name, waiting
+from .setting import Options, Switch
 
 Kept = list[tuple[str, str]]
 """The steps of a run, as JSON, and the words of their answers."""
+LOOPS = 5
+"""Of a run without an end it is said which of the last questions were asked most, so many of them."""
 
 
 class Choice(NamedTuple):
@@ -36,7 +36,7 @@ class Result(NamedTuple):
     steps: int
     choices: int
     schedule: str
-    """Its switches, as `schedules.text_of` writes them: most are only compared."""
+    """Its switches, as `setting.text_of` writes them: most are only compared."""
     digest: str
     passed: int
     """Handlers that ran for a passed-on signal."""
@@ -68,6 +68,31 @@ class Outcome(NamedTuple):
 
 
 # ---- words: of the program's failures, and of faults of the broker, the runtime or the host
+
+
+def loops(last: Sequence[Place]) -> list[Place]:
+    """A run has no end: who has asked most of the last questions."""
+    most = Counter(last).most_common(LOOPS)
+    return [place._replace(then=f"{count} of the last {len(last)} questions") for place, count in most]
+
+
+def gone(pid: int) -> str:
+    """A process that has ended in the host only."""
+    return f"process {pid} has ended, or closed its socket, outside of the model"
+
+
+def ended_by(status: int) -> str:
+    """What a status of the host's says."""
+    if status & 127 == signal.SIGSYS:
+        return "ended by a call past the runtime (the host's SIGSYS)"
+    return f"ended by the host's signal {status & 127}" if status & 127 else f"ended with status {status >> 8}"
+
+
+def unheard_of(name: str, words: list[str]) -> str:
+    """What a question of the names `refused` and `outside` says."""
+    if name == "refused":
+        return f"calls {words[0]}, which isn't among the calls of this runtime (docs/POSIX.md lists them)"
+    return f"calls {words[0]} past the runtime, in {' '.join(words[1:])}, which tracehost-cc hasn't compiled, or by an instruction of its own"
 
 
 def endless(limit: int) -> str:
@@ -111,7 +136,7 @@ def server_silent(patience: float) -> str:
 
 
 def failure(text: str, all_waiting: Sequence[Waiting], options: Options) -> str:
-    """The sentence of the compiled broker's words for a failure."""
+    """The sentence of the broker's words for a failure."""
     name, *words = text.split(" ")
     numbers = [int(word) for word in words] if name not in ("refused", "outside") else [int(word) for word in words[:2]]
     if name == "endless":
@@ -156,8 +181,17 @@ def fault(text: str) -> str:
 # ---- lines
 
 
+def unquote(text: str) -> str:
+    """What stands for bytes as %XX."""
+    if "%" not in text:
+        return text
+    from urllib.parse import unquote as unquoted
+
+    return unquoted(text)
+
+
 class Answer:
-    """The compiled broker's lines about one run."""
+    """The broker's lines about one run."""
 
     def __init__(self) -> None:
         self.kept: Kept = []
@@ -166,6 +200,7 @@ class Answer:
         self.blamed: list[Place] = []
         self.last: list[Place] = []
         self.waiting: list[Waiting] = []
+        self.met: dict[Met, bool] = {}
 
     def take(self, line: str) -> None:
         """A line before the last one."""
@@ -178,6 +213,10 @@ class Answer:
         elif name == "waits":
             pid, tid, stopped, tracer, reporting, holder = map(int, fields[:6])
             self.waiting.append(Waiting(pid, tid, unquote(fields[6]), bool(stopped), tracer or None, bool(reporting), holder))
+        elif name == "met":
+            place = _place(fields)
+            met = Met(place.program, call_name(place.asked), place.where)
+            self.met[met] = self.met.get(met, False) or place.then == "preempted"
         else:
             {"switch": self.places, "blame": self.blamed, "last": self.last}[name].append(_place(fields))
 
@@ -189,7 +228,9 @@ class Answer:
             self.blamed = loops(self.last)
         questions, steps, choices, passed, skipped, examined = map(int, figures)
         schedule = switches if switches != "-" else ""
-        return Result(why, questions, steps, choices, schedule, "", passed, skipped, examined, tuple(self.points))
+        return Result(
+            why, questions, steps, choices, schedule, "", passed, skipped, examined, tuple(self.points), tuple(self.met.items())
+        )
 
 
 def _place(fields: Sequence[str]) -> Place:

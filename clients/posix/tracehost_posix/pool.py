@@ -2,7 +2,6 @@
 
 from __future__ import annotations
 
-import ctypes
 import os
 import select
 import signal
@@ -12,10 +11,10 @@ from collections import deque
 from collections.abc import Iterable, Iterator
 from typing import TYPE_CHECKING, Union
 
-from .compiled import Compiled, started
+from .broker import Broker
 from .outcome import Result
 from .program import NotRunnable
-from .runner import Runner, Setting, Task
+from .setting import Setting, Task
 
 if TYPE_CHECKING:
     from multiprocessing.connection import Connection
@@ -37,13 +36,16 @@ class Processors:
     def __init__(self) -> None:
         self._began, self._before = time.monotonic(), _idle_ticks()
 
-    def found(self) -> tuple[list[int], bool]:
-        """The idlest first, and whether that one has nothing to do."""
+    def are_known(self) -> bool:
+        """Whether they were looked at for long enough."""
+        return time.monotonic() - self._began >= _SAMPLE
+
+    def found(self) -> list[int]:
+        """The idlest first."""
         time.sleep(max(0.0, self._began + _SAMPLE - time.monotonic()))
-        after, ticks = _idle_ticks(), os.sysconf("SC_CLK_TCK")
+        after = _idle_ticks()
         idle = {cpu: after.get(cpu, 0) - self._before.get(cpu, 0) for cpu in os.sched_getaffinity(0)}
-        found = sorted(idle, key=lambda cpu: (-idle[cpu], cpu))
-        return found, idle[found[0]] >= (time.monotonic() - self._began) * ticks / 2
+        return sorted(idle, key=lambda cpu: (-idle[cpu], cpu))
 
 
 def _idle_ticks() -> dict[int, int]:
@@ -95,13 +97,10 @@ def _delay(pid: int) -> float:
         return 0.0
 
 
-def seated(setting: Setting, processor: int | None, tells: bool = True) -> tuple[Runner, Seat | None]:
-    """A runner on this processor, if one is given. Python's broker takes this process along."""
-    if setting.broker is not None:
-        compiled = Compiled(setting, tells=tells, on=None if processor is None else {processor})
-        return compiled, None if processor is None else Seat(processor, compiled.pids()[0])
-    seat = None if processor is None else Seat(processor)
-    return started(setting, tells=tells), seat
+def seated(setting: Setting, processor: int, tells: bool = True) -> tuple[Broker, Seat]:
+    """A broker on this processor."""
+    broker = Broker(setting, tells=tells, on={processor})
+    return broker, Seat(processor, broker.pids()[0])
 
 
 class Worker(ABC):
@@ -137,6 +136,7 @@ class Forked(Worker):
     ahead = 4
 
     def __init__(self, setting: Setting, digest: bool, others: Iterable[Worker], processor: int, tells: bool) -> None:
+        import ctypes
         from multiprocessing.connection import Pipe
 
         super().__init__()
@@ -168,18 +168,19 @@ class Forked(Worker):
 
     def close(self) -> None:
         self._pipe.close()
+        if self.given:  # it may be in a run that hangs, and doesn't look at its pipe
+            os.kill(self.pid, signal.SIGINT)
         os.waitpid(self.pid, 0)
 
 
 class Direct(Worker):
-    """A compiled broker. One that dies isn't replaced: the fault is ours."""
+    """A broker. One that dies isn't replaced: the fault is ours."""
 
     ahead = 16
 
     def __init__(self, setting: Setting, processor: int, tells: bool) -> None:
         super().__init__()
-        self._broker = Compiled(setting, tells=tells, on={processor})
-        self._seat = Seat(processor, self._broker.pids()[0])
+        self._broker, self._seat = seated(setting, processor, tells)
 
     def fileno(self) -> int:
         return self._broker.fileno()
@@ -197,7 +198,7 @@ class Direct(Worker):
 
 def _serve(pipe: Connection, setting: Setting, digest: bool, tells: bool, processor: int) -> None:
     try:
-        runner, seat = seated(setting, processor, tells)
+        broker, seat = seated(setting, processor, tells)
     except NotRunnable as why:
         pipe.send(why)
         while True:  # tasks may be on their way: the pipe stays open until the pool closes it
@@ -205,41 +206,33 @@ def _serve(pipe: Connection, setting: Setting, digest: bool, tells: bool, proces
     try:
         while True:
             task = pipe.recv()
-            if seat is not None:
-                seat.look(runner.pids())
+            seat.look(broker.pids())
             try:
-                pipe.send(runner.result(task, digest))
+                pipe.send(broker.result(task, digest))
             except Exception as why:  # the one who waits has to hear of it
                 pipe.send(why)
     finally:
-        runner.close()
+        broker.close()
 
 
 class Pool:
-    """Runs tasks: with one job by one runner. Workers are started when there are tasks for them."""
+    """Runs tasks: with one job by one broker. Workers are started when there are tasks for them."""
 
     def __init__(self, setting: Setting, jobs: int, digest: bool = False) -> None:
         self._setting, self._digest, self._jobs = setting, digest, jobs
-        looks = Processors()
-        self._runner: Runner | None = None
+        self._looks = Processors()
+        self._processors: list[int] = []
+        self._broker = Broker(setting, stays=True) if jobs == 1 else None
         self._seat: Seat | None = None
-        if jobs == 1 and setting.broker is not None:  # it starts meanwhile
-            self._runner = compiled = Compiled(setting)
-        self._processors, idle = looks.found()
-        if jobs == 1 and setting.broker is not None:
-            self._seat = Seat(self._processors[0], compiled.pids()[0], compiled.pids())
-        elif jobs == 1:
-            self._runner, self._seat = seated(setting, self._processors[0] if idle else None)
         self._workers: list[Worker] = []
         self._tasks: dict[int, Task] = {}
         self._deaths: dict[int, int] = {}
 
     def results(self, tasks: Iterator[Task]) -> Iterator[tuple[Task, Result]]:
         """The results, in the order of the tasks. A task may be made from results that were given out before."""
-        if self._runner is not None:
-            for answered in self._runner.results(tasks, self._digest):
-                if self._seat is not None:
-                    self._seat.look(self._runner.pids())
+        if self._broker is not None:
+            for answered in self._broker.results(tasks, self._digest):
+                self._sit(self._broker)
                 yield answered
             return
         done: dict[int, Result] = {}
@@ -252,6 +245,13 @@ class Pool:
                 self._receive(done)
             yield self._tasks.pop(due), done.pop(due)
             due += 1
+
+    def _sit(self, broker: Broker) -> None:
+        """A single broker begins where the host has started it, and moves to the idlest processor once that is known."""
+        if self._seat is not None:
+            self._seat.look(broker.pids())
+        elif self._looks.are_known():
+            self._seat = Seat(self._looks.found()[0], broker.pids()[0], broker.pids())
 
     def _give_out(self, tasks: Iterator[Task], number: int) -> int:
         """Gives tasks to workers, until there are no more tasks or all have enough: the next task's number."""
@@ -271,9 +271,10 @@ class Pool:
         return least
 
     def _start(self, place: int) -> Worker:
+        self._processors = self._processors or self._looks.found()
         processor, tells = self._processors[place % len(self._processors)], place == 0
         worker: Worker
-        if self._setting.broker is not None and not (self._digest or self._setting.verify):
+        if not (self._digest or self._setting.verify):
             worker = Direct(self._setting, processor, tells)
         else:
             worker = Forked(self._setting, self._digest, self._workers, processor, tells)
@@ -314,12 +315,12 @@ class Pool:
         for number in dead.given:
             self._send(worker, number)
 
-    def runner(self) -> Runner:
-        """A runner for what comes after a search, which has ended."""
+    def broker(self) -> Broker:
+        """A broker for what comes after a search, which has ended."""
         self._end_workers()
-        if self._runner is None:
-            self._runner, self._seat = seated(self._setting, self._processors[0], tells=False)
-        return self._runner
+        if self._broker is None:
+            self._broker, self._seat = seated(self._setting, self._looks.found()[0], tells=False)
+        return self._broker
 
     def _end_workers(self) -> None:
         for worker in self._workers:
@@ -327,6 +328,6 @@ class Pool:
         self._workers = []
 
     def close(self) -> None:
-        if self._runner is not None:
-            self._runner.close()
+        if self._broker is not None:
+            self._broker.close()
         self._end_workers()

@@ -2,12 +2,14 @@
 
 from __future__ import annotations
 
-import hashlib
-import json
-from typing import Any
+import os
+from typing import IO, Any
 
-from .limits import FIRST_USER
 from .outcome import Kept, Outcome
+from .setting import Setting
+
+FIRST_USER = 1001
+"""The only user of a run."""
 
 
 def scenario(kept: Kept, kill_on_debugger_exit: bool | None) -> str:
@@ -23,6 +25,8 @@ def lines(kept: Kept) -> str:
 
 def digest(kept: Kept, output: bytes) -> str:
     """Two runs with the same digest have the same steps, the same answers and the same output."""
+    import hashlib
+
     text = hashlib.sha256()
     for step, reply in kept:
         text.update(f"{step}\n{reply}\n".encode())
@@ -31,7 +35,7 @@ def digest(kept: Kept, output: bytes) -> str:
 
 
 def switches_of(text: str) -> dict[tuple[int, int], int]:
-    """The reverse of `schedules.text_of`; ValueError where it isn't one."""
+    """The reverse of `setting.text_of`; ValueError if it isn't one."""
     found = {}
     for item in filter(None, text.split(",")):
         at, _, to = item.partition(":")
@@ -42,6 +46,8 @@ def switches_of(text: str) -> dict[tuple[int, int], int]:
 
 def write(path: str, outcome: Outcome, command: list[str], kill_on_debugger_exit: bool | None, settings: dict[str, Any]) -> None:
     """FILE, FILE.lines and FILE.schedule."""
+    import json
+
     kept = outcome.kept
     with open(path, "w") as file:
         file.write(scenario(kept, kill_on_debugger_exit))
@@ -54,7 +60,9 @@ def write(path: str, outcome: Outcome, command: list[str], kill_on_debugger_exit
 
 
 def read_schedule(path: str) -> dict[str, Any]:
-    """What `write` has put into FILE.schedule; ValueError where it is something else."""
+    """What `write` has put into FILE.schedule; ValueError if it is something else."""
+    import json
+
     with open(path + ".schedule") as file:
         schedule = json.load(file)
     if not isinstance(schedule, dict) or not isinstance(schedule.get("switches"), str):
@@ -80,3 +88,21 @@ def difference(path: str, kept: Kept) -> str | None:
     if len(kept) < len(steps):
         return f"step {len(kept) + 1}: this run has ended; the recorded one makes {steps[len(kept)]}"
     return None
+
+
+def verify(steps: Kept, setting: Setting) -> str | None:
+    """What `tracehost --expect` says against the record, or None. The record is in memory: no file is left, whatever ends this."""
+    import subprocess
+
+    with _in_memory(scenario(steps, setting.kill_on_debugger_exit)) as kept, _in_memory(lines(steps)) as answers:
+        numbers = answers.fileno(), kept.fileno()
+        words = [setting.model, "--expect", *(f"/proc/self/fd/{number}" for number in numbers)]
+        done = subprocess.run(words, capture_output=True, text=True, pass_fds=numbers)
+    return None if done.returncode == 0 else f"the record is answered otherwise: {done.stderr.strip() or done.returncode}"
+
+
+def _in_memory(text: str) -> IO[str]:
+    file = os.fdopen(os.memfd_create("tracehost-record"), "w")
+    file.write(text)
+    file.flush()
+    return file

@@ -3,22 +3,42 @@
 from __future__ import annotations
 
 import os
-import re
-import shutil
-import subprocess
 import sys
-import tempfile
-from collections.abc import Iterable, Mapping
+from collections.abc import Iterable, Iterator, Mapping
+from contextlib import contextmanager
+from typing import TYPE_CHECKING
 
-from .coverage import Met
-from .describe import CODES, Place, call_name
+from .describe import CODES, Met, Place, call_name
+from .program import which
+
+if TYPE_CHECKING:
+    import re
 
 TOP = os.path.realpath(os.path.join(os.path.dirname(__file__), "..", "..", ".."))
+
+
+class Unwritten(Exception):
+    """Standard output can't be written."""
+
+
+@contextmanager
+def writing() -> Iterator[None]:
+    """What is written in it goes to standard output."""
+    try:
+        yield
+    except OSError as why:
+        raise Unwritten(f"standard output: {why.strerror}") from why
 
 
 def say(text: str) -> None:
     """A line on standard error."""
     print(f"tracehost-run: {text}", file=sys.stderr)
+
+
+def print_lines(lines: Iterable[str]) -> None:
+    """Lines on standard error, behind one of `say`."""
+    for line in lines:
+        print(line, file=sys.stderr)
 
 
 _said: set[str] = set()
@@ -55,12 +75,17 @@ def unpreempted(covered: Mapping[Met, bool]) -> tuple[list[str], int]:
 
 
 def _source_lines(addresses: set[tuple[str, int]]) -> dict[tuple[str, int], str]:
-    """`FILE:LINE` of each address, by addr2line; nothing where it isn't there, or the program has no debug information."""
+    """`FILE:LINE` of each address, by addr2line; nothing if it isn't there, or the program has no debug information."""
+    import re
+    import subprocess
+
     found: dict[tuple[str, int], str] = {}
     for program in sorted({program for program, _ in addresses}):
         wheres = sorted(where for of, where in addresses if of == program)
         try:  # an address is behind its call
-            done = subprocess.run(["addr2line", "-e", program, *(hex(where - 1) for where in wheres)], capture_output=True, text=True)
+            done = subprocess.run(
+                ["addr2line", "-e", program, *(hex(where - 1) for where in wheres)], capture_output=True, text=True
+            )
         except OSError:
             return found
         for where, line in zip(wheres, done.stdout.splitlines()):
@@ -71,7 +96,11 @@ def _source_lines(addresses: set[tuple[str, int]]) -> dict[tuple[str, int], str]
 
 
 def page(model: str, path: str, title: str) -> str | None:
-    """The viewer's page of a record, as PATH.html, with the program's calls by name; a text where it can't be made."""
+    """The viewer's page of a record, as PATH.html, with the program's calls by name; a text if it can't be made."""
+    import re
+    import subprocess
+    import tempfile
+
     viewer = _viewer()
     if viewer is None:
         return "the viewer isn't there: there is no tracehost-view"
@@ -91,7 +120,7 @@ def page(model: str, path: str, title: str) -> str | None:
 
 def beside(name: str) -> str | None:
     """A command of this name beside this one, if both are installed."""
-    return shutil.which(name, path=os.path.dirname(os.path.abspath(sys.argv[0])))
+    return which(name, [os.path.dirname(os.path.abspath(sys.argv[0]))])
 
 
 def _viewer() -> list[str] | None:
@@ -99,7 +128,7 @@ def _viewer() -> list[str] | None:
     own = os.path.join(TOP, "viewer", "make")
     if os.path.exists(own):
         return [sys.executable, own]
-    installed = beside("tracehost-view") or shutil.which("tracehost-view")
+    installed = beside("tracehost-view") or which("tracehost-view")
     return None if installed is None else [installed]
 
 

@@ -1,20 +1,12 @@
-#!/usr/bin/env python3
-"""Replays scenarios step by step, and compares the lines with those beside them (NAME.json, NAME.out).
-
-    python3 replay.py library|pipe NAME.json ..
-
-Each scenario is replayed twice: step by step as it stands (`Host.step`), and by the typed calls, whose results are
-written as lines again.
-"""
+"""Replays scenarios step by step: as they are (`Host.step`), and by typed calls, whose results are written as lines again."""
 
 from __future__ import annotations
 
 import errno
-import json
 import pathlib
 import sys
 from collections.abc import Callable, Iterable
-from typing import Any, Literal
+from typing import Any
 
 sys.path.insert(0, str(pathlib.Path(__file__).resolve().parents[1]))
 import tracehost as th
@@ -31,7 +23,7 @@ def signals_text(signals: Iterable[int]) -> str:
 
 
 def result_text(result: object) -> str:
-    """The reply that a typed call's result stands for."""
+    """The reply that a typed call's result means."""
     if result is None:
         return "ok"
     if isinstance(result, th.New):
@@ -125,7 +117,7 @@ def call(host: th.Host, step: dict[str, Any]) -> str:
 
 
 def by_step(host: th.Host, step: dict[str, Any]) -> str:
-    """Makes the step as it stands, and returns its reply."""
+    """Makes the step as it is, and returns its reply."""
     return host.step(step).split(" ", 2)[2]
 
 
@@ -144,29 +136,3 @@ def replayed(host: th.Host, steps: list[dict[str, Any]], call: Callable[[th.Host
             reply = f"error {name} {FREEBSD_ERRNO[name]}"
         lines.append(f"{uid} {counts[uid]} {reply}")
     return lines
-
-
-def main(transport: Literal["library", "pipe"], files: list[str]) -> int:
-    made = wrong = 0
-    for name in files:
-        path = pathlib.Path(name)
-        scenario = json.loads(path.read_text())
-        wanted = path.with_suffix(".out").read_text().splitlines()
-        setting = scenario.get("kill_on_debugger_exit")
-        for way in ("step", "calls"):
-            with th.Host(transport=transport, kill_on_debugger_exit=None if setting is None else bool(setting)) as host:
-                steps = scenario["steps"]
-                lines = replayed(host, steps, by_step if way == "step" else call)
-                status = host.close()
-            made += len(steps)
-            if lines != wanted or status != 0:
-                wrong += 1
-                first = next((n for n, (a, b) in enumerate(zip(lines, wanted)) if a != b), min(len(lines), len(wanted)))
-                print(f"FAILED: {name} by {way}: status {status}, line {first + 1}:")
-                print(f"  wanted {wanted[first:first + 1]}, got {lines[first:first + 1]}")
-    print(f"{len(files)} scenarios, {made} steps from Python by {transport}, {wrong} differ")
-    return 1 if wrong or not files else 0
-
-
-if __name__ == "__main__":
-    sys.exit(main("library" if sys.argv[1] == "library" else "pipe", sys.argv[2:]))

@@ -19,12 +19,15 @@ import pytest
 
 import tracehost
 
-PROGRAM = os.environ["TRACEHOST"]
 CLIENT = pathlib.Path(tracehost.__file__).resolve().parents[1]
 Runs = Callable[..., str]
 
 needs_xdist = pytest.mark.skipif(importlib.util.find_spec("xdist") is None, reason="there is no xdist")
 workers = [pytest.param((), id="one process"), pytest.param(("-n", "4"), id="xdist", marks=needs_xdist)]
+
+
+def named_program() -> str:
+    return os.environ["TRACEHOST"]
 
 
 @pytest.fixture
@@ -53,11 +56,11 @@ def folders(tmp_path: pathlib.Path) -> list[pathlib.Path]:
 def steps(folder: pathlib.Path) -> int:
     """How many steps are left; the program prints their lines again."""
     scenario = folder / "session.json"
-    subprocess.run([PROGRAM, scenario, "--expect", folder / "session.out"], check=True)
+    subprocess.run([named_program(), scenario, "--expect", folder / "session.out"], check=True)
     return len(json.loads(scenario.read_text())["steps"])
 
 
-LONG = '''
+LONG = """
 import pytest
 
 class TestFollowForkThroughSeveralGenerationsOfProcessesThatAreTracedByOneDebuggerWithThreads:
@@ -66,7 +69,7 @@ class TestFollowForkThroughSeveralGenerationsOfProcessesThatAreTracedByOneDebugg
         for _ in range(n + 1):
             tracehost.user(1001).spawn()
         assert n < 0
-'''
+"""
 
 
 @pytest.mark.parametrize("words", workers)
@@ -77,14 +80,14 @@ def test_64_tests_whose_names_begin_alike(runs: Runs, tmp_path: pathlib.Path, wo
     assert len({line for line in text.splitlines() if line.startswith("scenario: ")}) == 64
 
 
-ODD = '''
+ODD = """
 import pytest
 
 @pytest.mark.parametrize("name", ["a+b", "a b", "a/b", "a|b", "a_b", "\\u00e9" * 150, "x" * 300, "x" * 301, "..", "\\u2028", ""])
 def test_s(tracehost, name):
     tracehost.user(1001).spawn()
     assert name is None
-'''
+"""
 
 
 @pytest.mark.parametrize("words", workers)
@@ -106,7 +109,8 @@ def test_odd_names_without_artifacts(tmp_path: pathlib.Path) -> None:
 
 def test_failures_of_fixtures(runs: Runs, tmp_path: pathlib.Path) -> None:
     """In setup and in teardown a session is left too, and a page."""
-    text = runs('''
+    text = runs(
+        """
 import pytest
 
 @pytest.fixture
@@ -124,7 +128,8 @@ def test_setup(prepared): pass
 def test_teardown(tidied):
     tidied.user(1001).spawn()
     tidied.user(1001).spawn()
-''')
+"""
+    )
     by_name = {folder.name.rsplit("test_", 1)[1]: steps(folder) for folder in folders(tmp_path)}
     assert by_name == {"setup": 1, "teardown": 2}
     assert text.count("scenario: ") == 2 and text.count("session.html") == 2
@@ -145,7 +150,8 @@ def test_stale_files_go(runs: Runs, tmp_path: pathlib.Path) -> None:
 
 def test_open_sessions_are_closed_at_the_end_of_a_test(runs: Runs) -> None:
     """50 sessions over a pipe in each of 10 tests, with room for 150 descriptors."""
-    runs('''
+    runs(
+        """
 import os, resource, pathlib
 import pytest
 
@@ -163,12 +169,32 @@ def test_many(new_tracehost, n):
         host.user(1001).spawn()
         kept.append(host)
     assert children() == 50
-''', status=0)
+""",
+        status=0,
+    )
+
+
+def test_a_page_that_cannot_be_written(runs: Runs, tmp_path: pathlib.Path) -> None:
+    """The report says why, no half page is left, and the session is."""
+    text = runs(
+        """
+import resource
+
+def test_one(tracehost):
+    tracehost.user(1001).spawn()
+    resource.setrlimit(resource.RLIMIT_FSIZE, (20000, 20000))
+    assert False
+"""
+    )
+    (folder,) = folders(tmp_path)
+    assert f"page:     none (viewer/make: {folder}/session.html: File too large)" in text
+    assert sorted(path.name for path in folder.iterdir()) == ["session.json", "session.out"] and steps(folder) == 1
 
 
 def test_a_second_session_of_a_name(runs: Runs, tmp_path: pathlib.Path) -> None:
     """It takes the first one's place in the record; the first one goes on."""
-    runs('''
+    runs(
+        """
 def test_two(new_tracehost):
     first = new_tracehost()
     first.user(1001).spawn()
@@ -178,13 +204,15 @@ def test_two(new_tracehost):
         first.user(1001).spawn()
     assert first.user(1001).spawn().pid == 1004
     assert False
-''')
+"""
+    )
     (folder,) = folders(tmp_path)
     assert steps(folder) == 3
 
 
 def test_the_page_has_the_test_and_its_assertion(runs: Runs, tmp_path: pathlib.Path) -> None:
-    runs('''
+    runs(
+        """
 def test_one(tracehost):
     user = tracehost.user(1001)
     assert user.process(user.spawn()).list() == (1000, 1001)
@@ -192,7 +220,8 @@ def test_one(tracehost):
 def test_two(tracehost):
     tracehost.user(1001).spawn()
     raise ValueError("<b>second</b>")
-''')
+"""
+    )
     titles = []
     for folder in folders(tmp_path):
         page = (folder / "session.html").read_text()
@@ -206,7 +235,8 @@ def test_two(tracehost):
 
 @pytest.mark.parametrize("words", workers)
 def test_the_property_in_junit_xml(runs: Runs, tmp_path: pathlib.Path, words: tuple[str, ...]) -> None:
-    runs('''
+    runs(
+        """
 import pytest
 
 @pytest.fixture
@@ -222,7 +252,10 @@ def test_teardown(tidied):
 
 def test_passes(tracehost):
     pass
-''', *words, "--junit-xml=junit.xml")
+""",
+        *words,
+        "--junit-xml=junit.xml",
+    )
     cases = xml.etree.ElementTree.parse(tmp_path / "junit.xml").iter("testcase")
     pages = {
         case.attrib["name"]: [p.attrib["value"] for p in case.iter("property") if p.attrib["name"] == "tracehost_page"]
@@ -235,24 +268,28 @@ def test_passes(tracehost):
 
 
 def test_the_database_of_hypothesis_is_beside_the_artifacts(runs: Runs, tmp_path: pathlib.Path) -> None:
-    runs('''
+    runs(
+        """
 from hypothesis import given, strategies as st
 
 @given(n=st.integers(0, 1000))
 def test_n(new_tracehost, n):
     new_tracehost().user(1001).spawn()
     assert n < 10
-''')
+"""
+    )
     assert list((tmp_path / "left" / ".hypothesis" / "examples").rglob("*"))
     assert not (tmp_path / ".hypothesis" / "examples").exists()
 
 
 def test_a_test_that_changes_the_folder(runs: Runs, tmp_path: pathlib.Path) -> None:
     (tmp_path / "other").mkdir()
-    runs('''
+    runs(
+        """
 def test_one(monkeypatch, request):
     monkeypatch.chdir("other")
     request.getfixturevalue("tracehost").user(1001).spawn()
     assert False
-''')
+"""
+    )
     assert [steps(folder) for folder in folders(tmp_path)] == [1]

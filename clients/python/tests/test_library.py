@@ -45,7 +45,7 @@ NONE: frozenset[Signal] = frozenset()
 
 
 class Views(unittest.TestCase):
-    """`User.view`: the rows as the rules of docs/MACHINE.md make them."""
+    """`User.view`: the rows as the rules of docs/internals/MACHINE.md make them."""
 
     transport: Literal["library", "pipe"] = "library"
 
@@ -61,10 +61,8 @@ class Views(unittest.TestCase):
                 self.host.user(uid).view()
 
     def process(self, pid: int, **fields: Any) -> ProcessRow:
-        """A new process, but for these fields."""
-        row = ProcessRow(
-            pid, 1, None, ProcessState.RUNS, None, None, False, None, False, EventMask.PTRACE_EXEC, NONE
-        )
+        """A new process, except for these fields."""
+        row = ProcessRow(pid, 1, None, ProcessState.RUNS, None, None, False, None, False, EventMask.PTRACE_EXEC, NONE)
         return row._replace(**fields)
 
     def lwp(self, lwp: int, pid: int, **fields: Any) -> LwpRow:
@@ -127,7 +125,6 @@ class Views(unittest.TestCase):
         self.assertEqual(view.processes[249].pid, 1249)
         self.assertEqual(view.lwps[249], self.lwp(100249, 1249))
         self.assertEqual(self.user.process(1000).list(), tuple(range(1000, 1250)))
-
 
     def test_of_a_closed_session(self) -> None:
         self.user.spawn()

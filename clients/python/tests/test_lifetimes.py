@@ -88,9 +88,7 @@ def test_dropped_sessions_leave_nothing(transport: Transport) -> None:
     assert (programs(), descriptors()) == before
 
 
-def test_a_program_that_ignores_the_end_of_its_input_is_killed(
-    tmp_path: pathlib.Path, monkeypatch: pytest.MonkeyPatch
-) -> None:
+def test_a_program_that_ignores_the_end_of_its_input_is_killed(tmp_path: pathlib.Path, monkeypatch: pytest.MonkeyPatch) -> None:
     monkeypatch.setattr("tracehost.pipe._SECONDS_TO_END", 0.2)
     program = tmp_path / "program"
     program.write_text("#!/bin/sh\nread line; echo '1001 1 new 1000 100000'; exec sleep 1000\n")

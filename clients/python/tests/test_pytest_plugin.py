@@ -19,15 +19,15 @@ from hypothesis import strategies as st
 from hypothesis.stateful import run_state_machine_as_test
 
 import tracehost.stateful
+
 from tracehost import (
     Action, Caught, Compute, Host, New, Request, Signal, StopFlag, Stopped, Waited, describe, strategies,
 )  # fmt: skip
 from tracehost.stateful import Debugging
 
 run_machine: Callable[..., None] = run_state_machine_as_test  # without types
-PROGRAM = os.environ["TRACEHOST"]
 CLIENT = pathlib.Path(tracehost.__file__).resolve().parents[1]
-SUITE = '''
+SUITE = """
 import pytest
 from hypothesis import given, settings, strategies as st
 from tracehost import Compute, Host, New, Raise, Request, Signal, Stopped, StopFlag, Waited
@@ -67,7 +67,11 @@ class Machine(Debugging):
 
 TestMachine = Machine.TestCase
 TestMachine.settings = settings(derandomize=True, database=None, deadline=None)
-'''
+"""
+
+
+def named_program() -> str:
+    return os.environ["TRACEHOST"]
 
 
 @pytest.fixture(scope="module")
@@ -87,7 +91,7 @@ def left(folder: pathlib.Path, test: str) -> list[str]:
     """The lines that a failed test has left; the program prints the same for its scenario, and the page has them."""
     place = next(folder.glob(f"*{test}"))
     lines = (place / "session.out").read_text()
-    replayed = subprocess.run([PROGRAM, place / "session.json"], stdout=subprocess.PIPE, text=True, check=True)
+    replayed = subprocess.run([named_program(), place / "session.json"], stdout=subprocess.PIPE, text=True, check=True)
     assert replayed.stdout == lines
     assert "PT_ATTACH" in (place / "session.html").read_text() or "spawn" in (place / "session.json").read_text()
     return lines.splitlines()
@@ -147,7 +151,7 @@ def test_descriptions() -> None:
 @given(scenario=strategies.scenarios(users=(1001, 1002)))
 @settings(max_examples=60, derandomize=True, database=None, deadline=None, suppress_health_check=list(HealthCheck))
 def test_scenarios_are_accepted(scenario: dict[str, object]) -> None:
-    done = subprocess.run([PROGRAM], input=json.dumps(scenario), stdout=subprocess.PIPE, text=True, check=True)
+    done = subprocess.run([named_program()], input=json.dumps(scenario), stdout=subprocess.PIPE, text=True, check=True)
     assert len(done.stdout.splitlines()) == len(scenario["steps"])  # type: ignore[arg-type]
 
 

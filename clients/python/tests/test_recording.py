@@ -19,7 +19,9 @@ from unittest import mock
 sys.path.insert(0, str(pathlib.Path(__file__).resolve().parents[1]))
 from tracehost import Call, Compute, Enter, Held, Host, Leave, Raise, RefusedStep, Request, Signal, view
 
-PROGRAM = os.environ.get("TRACEHOST", "tracehost")
+
+def named_program() -> str:
+    return os.environ["TRACEHOST"]
 
 
 class Recordings(unittest.TestCase):
@@ -38,8 +40,8 @@ class Recordings(unittest.TestCase):
 
     def replayed(self) -> str:
         """What the program prints for the recording, which also has to be what `--expect` wants."""
-        printed = subprocess.run([PROGRAM, self.scenario], stdout=subprocess.PIPE, text=True, check=True).stdout
-        subprocess.run([PROGRAM, self.scenario, "--expect", self.lines], check=True)
+        printed = subprocess.run([named_program(), self.scenario], stdout=subprocess.PIPE, text=True, check=True).stdout
+        subprocess.run([named_program(), self.scenario, "--expect", self.lines], check=True)
         return printed
 
     def steps(self) -> int:
@@ -94,7 +96,7 @@ class Recordings(unittest.TestCase):
                 host.user(1001).spawn()
             self.assertEqual(caught.exception.errno, errno.ENOMEM)
             host.user(1001).spawn()
-        printed = subprocess.run([PROGRAM, self.scenario], stdout=subprocess.PIPE, text=True, check=True).stdout
+        printed = subprocess.run([named_program(), self.scenario], stdout=subprocess.PIPE, text=True, check=True).stdout
         self.assertEqual(printed, "1001 1 new 1000 100000\n")
 
     def test_more_bytes_than_a_scenario_may_have(self) -> None:
@@ -145,9 +147,10 @@ class RefusedSteps(unittest.TestCase):
                 self.assertTrue(str(refused).startswith(f"BadName: {refused.reason}\n"))
                 self.assertIn(refused.line, str(refused))
 
-    @unittest.skipUnless(os.environ.get("TRACEHOST_LIBRARY"), "no library is named")
     def test_the_same_reason_over_the_library(self) -> None:
         """The program is asked when the reason is read. Without a program there is none."""
+        if not os.environ.get("TRACEHOST_LIBRARY"):
+            self.skipTest("no library is named")
         reasons: list[str] = []
         for transport in ("pipe", "library"):
             with Host(transport=transport) as host, self.assertRaises(RefusedStep) as caught:  # type: ignore[arg-type]

@@ -25,10 +25,13 @@ from tracehost import Host, RecordingFailed, SessionClosed
 from tracehost.recording import mend
 
 PACKAGE = pathlib.Path(__file__).resolve().parents[1]
-PROGRAM = os.environ.get("TRACEHOST", "tracehost")
 SCALE = int(os.environ.get("TRACEHOST_TEST_SCALE", "1"))
 TRANSPORTS: list[Literal["library", "pipe"]] = ["library", "pipe"]
 SPAWN = '{"user":1001,"op":"spawn"}'
+
+
+def named_program() -> str:
+    return os.environ["TRACEHOST"]
 
 
 class Files:
@@ -44,7 +47,7 @@ class Files:
 
     def is_expected(self) -> bool:
         """Whether the program prints these lines for the scenario."""
-        done = subprocess.run([PROGRAM, self.scenario, "--expect", self.lines], stderr=subprocess.PIPE)
+        done = subprocess.run([named_program(), self.scenario, "--expect", self.lines], stderr=subprocess.PIPE)
         return done.returncode == 0
 
 

@@ -165,9 +165,7 @@ def test_each_call_and_why(host: Host) -> None:
     assert told(lambda: three.ptrace(Request.PT_ATTACH, 1001)).endswith("by 1002: EBUSY, 1001 is traced already")
     assert told(lambda: three.ptrace(Request.PT_KILL, 1001)).endswith("EBUSY, another process traces 1001")
     one.wait4()
-    assert told(lambda: ptrace(Request.PT_CONTINUE, 1001, 32)) == (
-        "ptrace(PT_CONTINUE, 1001, 32) by 1000: EINVAL, 32 is no signal"
-    )
+    assert told(lambda: ptrace(Request.PT_CONTINUE, 1001, 32)) == ("ptrace(PT_CONTINUE, 1001, 32) by 1000: EINVAL, 32 is no signal")
     assert told(lambda: ptrace(Request.PT_GETLWPLIST, 1001, 0)).endswith("EINVAL, data is 0, and has to be how many LWPs to list")
     assert told(lambda: ptrace(Request.PT_SET_EVENT_MASK, 1001, 0x41)) == (
         "ptrace(PT_SET_EVENT_MASK, 1001, 0x41) by 1000: EINVAL, an event of the mask has no name"
@@ -253,9 +251,7 @@ def test_an_ended_target_and_cycles(host: Host) -> None:
     assert told(lambda: user.process(child).ptrace(Request.PT_TRACE_ME)) == (
         "ptrace(PT_TRACE_ME) by 1001: EINVAL, 1001 traces its parent, directly or through others"
     )
-    assert told(lambda: debugger.ptrace(Request.PT_ATTACH, child)).endswith(
-        "EINVAL, 1001 traces 1000, directly or through others"
-    )
+    assert told(lambda: debugger.ptrace(Request.PT_ATTACH, child)).endswith("EINVAL, 1001 traces 1000, directly or through others")
 
 
 def test_a_target_that_has_ended(host: Host) -> None:

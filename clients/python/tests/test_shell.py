@@ -28,46 +28,79 @@ class Words(unittest.TestCase):
         """Each kind of step, against its keys in docs/FORMAT.md."""
         steps = {
             "spawn": '{"op":"spawn"}',
-            "1000 list": '{"op":"list","caller":1000}',
-            "1000 handle": '{"op":"handle","caller":1000}',
-            "1000 wait4": '{"op":"wait4","caller":1000,"which":-1}',
-            "1000 wait4 1001 WNOHANG": '{"op":"wait4","caller":1000,"which":1001,"options":["WNOHANG"]}',
-            "1000 kill -1 SIGTERM": '{"op":"kill","caller":1000,"which":-1,"signal":15}',
-            "1000 sigaction 20 catch": '{"op":"sigaction","caller":1000,"signal":20,"action":"catch"}',
-            "1000 ptrace PT_ATTACH 1001": '{"op":"ptrace","caller":1000,"request":"PT_ATTACH","target":1001}',
-            "1000 PT_STEP 1001 SIGUSR1": '{"op":"ptrace","caller":1000,"request":"PT_STEP","target":1001,"data":30}',
-            "1000 PT_TRACE_ME": '{"op":"ptrace","caller":1000,"request":"PT_TRACE_ME"}',
-            "1000 PT_SET_EVENT_MASK 1001 PTRACE_FORK PTRACE_SYSCALL": (
+            "list 1000": '{"op":"list","caller":1000}',
+            "handle 1000": '{"op":"handle","caller":1000}',
+            "wait4 1000": '{"op":"wait4","caller":1000,"which":-1}',
+            "wait4 1000 1001 WNOHANG": '{"op":"wait4","caller":1000,"which":1001,"options":["WNOHANG"]}',
+            "kill 1000 -1 SIGTERM": '{"op":"kill","caller":1000,"which":-1,"signal":15}',
+            "sigaction 1000 20 catch": '{"op":"sigaction","caller":1000,"signal":20,"action":"catch"}',
+            "ptrace 1000 PT_ATTACH 1001": '{"op":"ptrace","caller":1000,"request":"PT_ATTACH","target":1001}',
+            "ptrace 1000 PT_STEP 1001 SIGUSR1": '{"op":"ptrace","caller":1000,"request":"PT_STEP","target":1001,"data":30}',
+            "ptrace 1000 PT_TRACE_ME": '{"op":"ptrace","caller":1000,"request":"PT_TRACE_ME"}',
+            "ptrace 1000 PT_SET_EVENT_MASK 1001 PTRACE_FORK PTRACE_SYSCALL": (
                 '{"op":"ptrace","caller":1000,"request":"PT_SET_EVENT_MASK","target":1001,'
                 '"mask":["PTRACE_FORK","PTRACE_SYSCALL"]}'
             ),
-            "1000 install continue SIGTRAP PL_FLAG_SCE, detach SIGUSR1 pass 15": (
+            "install 1000 SIGTRAP PL_FLAG_SCE continue, SIGUSR1 detach 15": (
                 '{"op":"install","caller":1000,"rules":[{"decision":"continue","flags":["PL_FLAG_SCE"],"signal":5},'
                 '{"decision":"detach","pass":15,"signal":30}]}'
             ),
             "turn 100001 compute": '{"op":"turn","lwp":100001,"act":"compute"}',
-            "100001 enter exit 3": '{"op":"turn","lwp":100001,"act":"enter","call":"exit","code":3}',
-            "100001 raise SIGSEGV": '{"op":"turn","lwp":100001,"act":"raise","signal":11}',
-            "100001 block SIGINT 15": '{"op":"turn","lwp":100001,"act":"block","set":[2,15]}',
+            "turn 100001 enter exit 3": '{"op":"turn","lwp":100001,"act":"enter","call":"exit","code":3}',
+            "turn 100001 raise SIGSEGV": '{"op":"turn","lwp":100001,"act":"raise","signal":11}',
+            "turn 100001 block SIGINT 15": '{"op":"turn","lwp":100001,"act":"block","set":[2,15]}',
         }
         for words, wanted in steps.items():
             self.assertEqual(step_of(words.split(), 1001), {"user": 1001, **json.loads(wanted)}, words)
 
     def test_what_is_no_step(self) -> None:
-        for words in ("", "fly", "1000", "1000 fly", "1000 PT_FOO 1001", "turn", "100001", "100001 fly", "1000 kill 1"):
+        for words in (
+            "",
+            "fly",
+            "1000",
+            "list",
+            "spawn 3",
+            "ptrace 1000 PT_FOO 1001",
+            "turn",
+            "turn 100001",
+            "turn 100001 fly",
+            "kill 1000 1",
+            "1000 list",
+            "100001 compute",
+            "install 1000 SIGTRAP",
+            "install 1000 continue 5 6",
+            "1002:",
+        ):
             with self.assertRaises(Unclear, msg=words):
+                step_of(words.split(), 1001)
+
+    def test_the_user(self) -> None:
+        self.assertEqual(step_of(["spawn"], 1002), {"user": 1002, "op": "spawn"})
+        self.assertEqual(step_of(["1002:", "list", "2000"], 1001), {"user": 1002, "op": "list", "caller": 2000})
+
+    def test_another_order(self) -> None:
+        """Who begins with the caller is shown the whole step."""
+        for words, wanted in {
+            "1000 ptrace PT_ATTACH 1001": "ptrace 1000 PT_ATTACH 1001",
+            "1000 PT_ATTACH 1001": "ptrace 1000 PT_ATTACH 1001",
+            "1000 kill 1001 9": "kill 1000 1001 9",
+            "100001 enter fork": "turn 100001 enter fork",
+        }.items():
+            with self.assertRaisesRegex(Unclear, f"^the op comes first: {wanted}$"):
                 step_of(words.split(), 1001)
 
     def test_completion(self) -> None:
         answers = ["1001 1 new 1000 100000", "1001 2 new 1001 100001", "1001 3 pids 1000 1001 1002"]
-        self.assertEqual(complete_words([], "10", answers), ["1000", "100000", "100001", "1001", "1002"])
-        self.assertEqual(complete_words(["1000"], "PT_CO", answers), ["PT_CONTINUE"])
-        self.assertEqual(complete_words(["1000", "wait4"], "W", answers), ["WCONTINUED", "WNOHANG", "WUNTRACED"])
-        self.assertEqual(complete_words(["1000", "PT_ATTACH"], "100", answers)[-1], "1002")
-        self.assertEqual(complete_words(["1000", "PT_CONTINUE", "1001"], "SIGUS", answers), ["SIGUSR1", "SIGUSR2"])
+        self.assertEqual(complete_words(["list"], "10", answers), ["1000", "1001", "1002"])
+        self.assertEqual(complete_words(["ptrace", "1000"], "PT_CO", answers), ["PT_CONTINUE"])
+        self.assertEqual(complete_words(["wait4", "1000"], "W", answers), ["WCONTINUED", "WNOHANG", "WUNTRACED"])
+        self.assertEqual(complete_words(["ptrace", "1000", "PT_ATTACH"], "100", answers)[-1], "1002")
+        self.assertEqual(
+            complete_words(["1002:", "ptrace", "1000", "PT_CONTINUE", "1001"], "SIGUS", answers), ["SIGUSR1", "SIGUSR2"]
+        )
         self.assertEqual(complete_words(["turn"], "", answers), ["100000", "100001"])
-        self.assertEqual(complete_words(["100001"], "e", answers), ["enter"])
-        self.assertEqual(complete_words(["100001", "enter"], "v", answers), ["vfork"])
+        self.assertEqual(complete_words(["turn", "100001"], "e", answers), ["enter"])
+        self.assertEqual(complete_words(["turn", "100001", "enter"], "v", answers), ["vfork"])
         self.assertEqual(complete_words(["help"], "PT_D", answers), ["PT_DETACH"])
 
     def test_help_for_every_name(self) -> None:
@@ -94,15 +127,17 @@ class Sessions(unittest.TestCase):
         return text.getvalue()
 
     def test_undo_runs_the_session_again(self) -> None:
-        text = self.output("spawn", "spawn", "1000 PT_ATTACH 1001", "1000 wait4", "undo 2", "1000 wait4", "1000 list")
+        text = self.output("spawn", "spawn", "ptrace 1000 PT_ATTACH 1001", "wait4 1000", "undo 2", "wait4 1000", "list 1000")
         self.assertIn("status 1001 4479   (stopped SIGSTOP)", text)
         why = "1000 has no child and traces no process"
         self.assertIn(f"2 undone, 2 left\n1001 3 error ECHILD 10   ({why})\n1001 4 pids 1000 1001\n", text)
 
     def test_save_and_view(self) -> None:
         scenario, page = self.room / "s.json", self.room / "s.html"
-        text = self.output("spawn", "user 1002", "spawn", f"save {scenario}", f"view {page}", "list", "save /nowhere/s")
-        self.assertEqual([step["user"] for step in json.loads(scenario.read_text())["steps"]], [1001, 1002])
+        text = self.output(
+            "spawn", "user 1002", "spawn", "1001: list 1000", f"save {scenario}", f"view {page}", "list", "save /nowhere/s"
+        )
+        self.assertEqual([step["user"] for step in json.loads(scenario.read_text())["steps"]], [1001, 1002, 1001])
         self.assertIn(page.as_uri(), text)
         self.assertIn(r"\"pid\":2000,\"lwp\":104000", page.read_text())
         self.assertIn('   2 {"user":1002,"op":"spawn"}\n     1002 1 new 2000 104000\n', text)
@@ -117,14 +152,14 @@ class Sessions(unittest.TestCase):
 
     def test_mistakes_have_the_wrong_word_and_what_was_meant(self) -> None:
         text = self.output(
-            "spawn", "spwan", "1000 PT_ATACH 1001", "1000 kil 1000 SIGTERM", "1000 kill 1000 SIGTRM", "turn 100000 leaf",
-            "100000 enter frok", "1000 list 7", "1000 PT_SET_EVENT_MASK 1001 PTRACE_FRK", "undo 9", "undo", "undo",
+            "spawn", "spwan", "ptrace 1000 PT_ATACH 1001", "kil 1000 1000 SIGTERM", "kill 1000 1000 SIGTRM", "turn 100000 leaf",
+            "turn 100000 enter frok", "list 1000 7", "ptrace 1000 PT_SET_EVENT_MASK 1001 PTRACE_FRK", "undo 9", "undo", "undo",
         )  # fmt: skip
         said = text.splitlines()[1:]
         for line, wanted in zip(said, (
             "no step: spwan; did you mean spawn?",
-            "PT_ATACH: a process makes one of the calls ptrace, wait4, kill, sigaction, list, install, handle; did you mean PT_ATTACH?",
-            "handle; did you mean kill?",
+            "PT_ATACH: none of the requests PT_TRACE_ME,",
+            "no step: kil 1000 1000 SIGTERM; did you mean kill?",
             "SIGTRM is no number; did you mean SIGTERM?",
             "leaf: an LWP's turn has one of the acts compute, raise, block, enter, leave; did you mean leave?",
             "frok: none of the calls exit, fork, vfork,",
@@ -149,7 +184,7 @@ class Sessions(unittest.TestCase):
     def test_lines_on_a_pipe(self) -> None:
         command = [sys.executable, "-m", "tracehost.shell"]
         environment = {**os.environ, "PYTHONPATH": str(CLIENT)}
-        done = subprocess.run(command, input="spawn\n1000 list\n", stdout=subprocess.PIPE, text=True, env=environment)
+        done = subprocess.run(command, input="spawn\nlist 1000\n", stdout=subprocess.PIPE, text=True, env=environment)
         self.assertEqual((done.stdout, done.returncode), ("1001 1 new 1000 100000\n1001 2 pids 1000\n\n", 0))
 
     def test_keys_on_a_terminal(self) -> None:
@@ -167,14 +202,14 @@ class Sessions(unittest.TestCase):
         for keys, wanted in (
             ("spa\t\r", "1001 1 new 1000 100000"),
             ("\x1b[A\r", "1001 2 new 1001 100001"),
-            ("1000 PT_AT\t 1001\r", "1001 3 ok"),
+            ("ptrace 1000 PT_AT\t 1001\r", "1001 3 ok"),
         ):
             os.write(mine, keys.encode())
             self.until(mine, wanted)
             self.until(mine, "tracehost> ")
         os.write(mine, b"\x04")
         self.assertEqual(child.wait(60), 0)
-        self.assertIn("1000 PT_ATTACH", (self.room / "h").read_text())
+        self.assertIn("ptrace 1000 PT_ATTACH", (self.room / "h").read_text())
 
     def until(self, terminal: int, wanted: str) -> None:
         """Reads until the terminal shows this."""

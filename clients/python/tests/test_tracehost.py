@@ -358,10 +358,12 @@ class WithADebugger(Sessions):
         self.attach()
         self.assertIsNone(self.debugger.handle())
         self.debugger.install([Rule(Decision.LEAVE, Signal.SIGSEGV)])
-        self.debugger.install([
-            Rule(Decision.CONTINUE, Signal.SIGTRAP, StopFlag.PL_FLAG_SCE),
-            Rule(Decision.DETACH, Signal.SIGUSR1, pass_signal=Signal.SIGUSR1),
-        ])
+        self.debugger.install(
+            [
+                Rule(Decision.CONTINUE, Signal.SIGTRAP, StopFlag.PL_FLAG_SCE),
+                Rule(Decision.DETACH, Signal.SIGUSR1, pass_signal=Signal.SIGUSR1),
+            ]
+        )
         self.debugger.ptrace(R.PT_SYSCALL, 1001)
         self.user.turn(100001, Enter(Call.OTHER, 20))
         status, entry = 5 * 256 + 0o177, StopFlag.PL_FLAG_SCE

@@ -14,7 +14,7 @@ A `Host` is a session: in this process, if the library libtracehost.so is found,
 pipe. A `User` makes the steps that have no caller: a new process, the turn of an LWP. A `Process` is a caller, and has
 the calls of the manual pages. A call returns what the manual page says, or raises:
 
-- `OSError` with the host's number of the errno that the model answers by name, so that ESRCH is `ProcessLookupError`,
+- `OSError` with the host's number of the errno that the model answers by name: ESRCH is `ProcessLookupError`,
   EPERM `PermissionError`, ECHILD `ChildProcessError` and EAGAIN `BlockingIOError`;
 - `Held` if the caller, or the LWP at its turn, doesn't run;
 - `RefusedStep` if the program takes what was sent for no step (a user outside 1001 to 1064, a 17th rule), with the
@@ -26,12 +26,12 @@ the calls of the manual pages. A call returns what the manual page says, or rais
 
 ``tracehost session.json`` prints the lines of the recorded session again, and `view` makes a page that shows it.
 ``block=True`` lets `wait4`, `handle` and `turn` sleep until another thread's step has brought news; `Host.run` runs
-functions by turns, so that the steps are the same in every run. `User.view` shows a user's rows. The module
+functions by turns, so the steps are the same in every run. `User.view` shows a user's rows. The module
 `tracehost.pytest_plugin` has a fixture for pytest, `tracehost.strategies` and `tracehost.stateful` are for Hypothesis.
 ``python -m tracehost.shell`` is a prompt.
 
 Signals and the codes of system calls have FreeBSD's numbers, whatever the machine. Names are those of <sys/ptrace.h>,
-<sys/signal.h> and <sys/wait.h>. docs/LINES.md describes the protocol, docs/FORMAT.md the meaning of each call.
+<sys/signal.h> and <sys/wait.h>. docs/FORMAT.md describes the meaning of each call, and the protocol.
 """
 
 from .errors import (

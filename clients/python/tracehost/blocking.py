@@ -70,9 +70,9 @@ class Progress:
 
 
 class Turns:
-    """Functions, each in a thread of its own, of which one runs at a time: until it returns, or would sleep.
+    """Functions, each in a thread of its own. One runs at a time: until it returns, or would sleep.
 
-    The next one is the next in their order that can go on, so that a session has the same steps in every run. Where
+    Then the next in their order runs that can go on, so a session has the same steps in every run. If
     none can go on, the one whose turn it is gets a TimeoutError: nothing could wake it.
     """
 
@@ -124,7 +124,7 @@ class Turns:
                 self._pass_on(number)
 
     def _pass_on(self, number: int) -> None:
-        """The turn of the next function that is ready. Where none is, of the one at hand, else of the next one."""
+        """The turn of the next function that is ready. If none is, of the one at hand, or of the next one."""
         size = len(self._functions)
         order = [n % size for n in range(number + 1, number + size + 1) if n % size in self._ready]
         stuck = number if number in self._ready else (order[0] if order else number)

@@ -6,7 +6,7 @@ from collections.abc import Iterable, Sequence
 
 from .manual import topics
 from .names import CALLER_OPS, OPTIONS, STOP_FLAGS, Action, Call, Decision, Request, Signal
-from .shell_words import ACTS, FIRST_LWP, MASKS
+from .shell_words import ACTS, MASKS, OPS
 
 _SIGNALS = list(Signal.__members__)
 
@@ -37,18 +37,17 @@ def numbers_in_sight(answers: Iterable[str]) -> tuple[list[str], list[str]]:
 
 
 def _next(before: list[str], pids: list[str], lwps: list[str]) -> list[str]:
+    if before and before[0].endswith(":"):
+        before = before[1:]
     if not before:
-        return ["spawn", "turn", *pids, *lwps]
+        return list(OPS)
     if before[0] == "help":
         return topics()
-    if before[0] == "turn" or (before[0].isdecimal() and int(before[0]) >= FIRST_LWP):
-        return _next_of_turn(before[1:] if before[0] == "turn" else before, lwps)
-    if not before[0].isdecimal():
+    if before[0] == "turn":
+        return _next_of_turn(before[1:], lwps)
+    if before[0] not in CALLER_OPS:
         return []
-    rest = before[1:]
-    if not rest:
-        return [*CALLER_OPS, *Request.__members__]
-    return _next_of_call(rest, pids, lwps)
+    return pids if len(before) == 1 else _next_of_call([before[0], *before[2:]], pids, lwps)
 
 
 def _next_of_turn(words: list[str], lwps: list[str]) -> list[str]:
@@ -60,8 +59,6 @@ def _next_of_turn(words: list[str], lwps: list[str]) -> list[str]:
 
 
 def _next_of_call(words: list[str], pids: list[str], lwps: list[str]) -> list[str]:
-    if words[0] in Request.__members__:
-        words = ["ptrace", *words]
     op, count = words[0], len(words)
     if op == "ptrace":
         if count == 1:

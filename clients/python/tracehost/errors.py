@@ -45,7 +45,7 @@ class RefusedStep(ValueError):
 
 
 class ProtocolError(Exception):
-    """The program's line isn't one that docs/LINES.md describes."""
+    """The program's line isn't one that docs/FORMAT.md describes."""
 
 
 class ProgramEnded(ProtocolError):

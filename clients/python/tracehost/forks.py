@@ -1,4 +1,4 @@
-"""What fork(2) does to sessions: the child gets told, so that it never uses what is its parent's."""
+"""What fork(2) does to sessions: the child is told of it, and so never uses what is its parent's."""
 
 from __future__ import annotations
 

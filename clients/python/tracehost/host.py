@@ -118,9 +118,7 @@ class Host:
     def __enter__(self) -> Host:
         return self
 
-    def __exit__(
-        self, kind: type[BaseException] | None, error: BaseException | None, trace: TracebackType | None
-    ) -> None:
+    def __exit__(self, kind: type[BaseException] | None, error: BaseException | None, trace: TracebackType | None) -> None:
         self.close()
 
     def close(self) -> int:
@@ -186,9 +184,9 @@ class Host:
     def run(self, *functions: Callable[[], Any]) -> list[Any]:
         """Runs the functions, each in a thread of its own, and returns their results.
 
-        One runs at a time: until it returns, or a call with ``block=True`` would sleep. Then the next one goes on that
-        can. So the session has the same steps in every run. Where none can go on, the call that would sleep raises
-        TimeoutError at once. The first exception that a function raises is raised once all have ended.
+        One runs at a time: until it returns, or a call with ``block=True`` would sleep. Then the next one that
+        can go on runs. So the session has the same steps in every run. If none can go on, the call that would sleep
+        raises TimeoutError at once. The first exception that a function raises is raised once all have ended.
         """
         return self._progress.run(functions)
 
@@ -256,7 +254,7 @@ class Host:
         return result, self._progress.seen(arguments[0])
 
     def _news(self, quiet: object, timeout: float | None, what: str, name: str, *arguments: Any) -> Any:
-        """The first result but `quiet`, which may be Held: the call is made again after each step that may have
+        """The first result other than `quiet`, which may be Held: the call is made again after each step that may have
         brought news to its user, the first of its arguments."""
         deadline = None if timeout is None else time.monotonic() + timeout
         while True:
@@ -322,15 +320,15 @@ class User:
     def process(self, pid: int | New) -> Process:
         """The process with this number, or that `spawn` has just made, as a caller.
 
-        Whether the user has such a process is seen at each call.
+        Each call asks whether the user has such a process.
         """
         return Process(self, number_of_process("pid", pid))
 
     def turn(self, lwp: int, act: Act, *, block: bool = False, timeout: float | None = None) -> Turned:
-        """The turn of an LWP: None if its act was done, or what came of it or in its place.
+        """The turn of an LWP: None if it did its act, else what came of the act or instead of it.
 
         ESRCH if the user has no such LWP; EINVAL for an act that doesn't go with what the LWP is in; EAGAIN at a
-        limit. Where it doesn't run, raises Held. With `block` the call sleeps instead until another thread lets the LWP
+        limit. If it doesn't run, raises Held. With `block` the call sleeps instead until another thread lets the LWP
         go on, and raises TimeoutError after `timeout` seconds.
         """
         _check_timeout(block, timeout)
@@ -379,20 +377,18 @@ class Process:
     def __repr__(self) -> str:
         return f"Process({self.pid} of {self.user.uid})"
 
+    # fmt: off
     @overload
     def ptrace(self, request: Literal[Request.PT_LWPINFO], target: int, data: int = 0) -> LwpInfo: ...
-
     @overload
     def ptrace(self, request: Literal[Request.PT_GET_EVENT_MASK], target: int, data: int = 0) -> EventMask: ...
-
     @overload
     def ptrace(self, request: Literal[Request.PT_GETNUMLWPS], target: int, data: int = 0) -> int: ...
-
     @overload
     def ptrace(self, request: Literal[Request.PT_GETLWPLIST], target: int, data: int) -> tuple[int, ...]: ...
-
     @overload
     def ptrace(self, request: Request, target: int = 0, data: int = 0) -> Any: ...
+    # fmt: on
 
     def ptrace(self, request: Request, target: int = 0, data: int = 0) -> Any:
         """ptrace(2). `target` is a process or an LWP. What `data` is depends on the request:
@@ -427,8 +423,8 @@ class Process:
     ) -> Waited:
         """wait4(2): the status of a child or tracee, `which` by number or -1 for any; ``Waited(0, 0)`` for nothing.
 
-        With `block` the call sleeps until another thread's step brings something to collect, but with
-        `WaitOption.WNOHANG`. It raises TimeoutError after `timeout` seconds. ECHILD if the caller has none that
+        With `block`, but not with `WaitOption.WNOHANG`, the call sleeps until another thread's step brings
+        something to collect. It raises TimeoutError after `timeout` seconds. ECHILD if the caller has none that
         `which` names; EINVAL if `which` is 0 or below -1.
         """
         asked = int(whole("options", options))
@@ -455,11 +451,12 @@ class Process:
         """Adds a stop handler with these rules after the caller's others. EAGAIN if the user has 64."""
         self._call("install", [of_kind("rules", Rule, rule) for rule in rules])
 
+    # fmt: off
     @overload
     def handle(self, *, block: Literal[True], timeout: float | None = None) -> Waited | Handled: ...
-
     @overload
     def handle(self, *, block: bool = False, timeout: float | None = None) -> None | Waited | Handled: ...
+    # fmt: on
 
     def handle(self, *, block: bool = False, timeout: float | None = None) -> None | Waited | Handled:
         """Waits for any child, and gives a trace stop to the caller's handlers; None for nothing. ECHILD as wait4.

@@ -1,4 +1,4 @@
-"""The library in C, include/tracehost.h: where it is, and a session of it in this process."""
+"""The library in C, include/tracehost.h: how it is found, and a session of it in this process."""
 
 from __future__ import annotations
 
@@ -105,9 +105,7 @@ class CLwp(Words):
     flags: int
     child: int
     code: int
-    _fields_ = Words.fields(
-        "lwp pid mode call argument vfork_child suspended stepping blocked pending due flags child code"
-    )
+    _fields_ = Words.fields("lwp pid mode call argument vfork_child suspended stepping blocked pending due flags child code")
 
 
 RawRows = tuple["Array[CProcess]", "Array[CLwp]"]
@@ -123,7 +121,7 @@ _TYPES: dict[str, list[Any]] = {
     "view": [_HANDLE, c_uint32, POINTER(CProcess), c_size_t, POINTER(CLwp), c_size_t, _LENGTH, _LENGTH],
 }
 # The steps take words, which ctypes passes as they are. To check declared types would take three times as long as such
-# a call, so `TypedCalls` checks that its numbers fit, and passes a c_int64 or c_size_t where the header has one.
+# a call, so `TypedCalls` checks that its numbers fit, and passes a c_int64 or c_size_t if the header has one.
 _STEPS = ("spawn", "list", "sigaction", "kill", "wait4", "install", "handle", "ptrace", "turn")
 
 
@@ -256,7 +254,7 @@ class Session:
         return (CProcess * counts[0].value).from_buffer(processes), (CLwp * counts[1].value).from_buffer(lwps)
 
     def check(self, code: int) -> None:
-        """Raises what a code stands for."""
+        """Raises what a code means."""
         if code == NOT_OPEN:
             raise SessionClosed
         if code in (NO_MEMORY, NO_TEXT):

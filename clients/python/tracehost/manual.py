@@ -10,10 +10,10 @@ from .names import Signal
 
 # tools/format usage
 _STEPS = """\
-  spawn                                      PID ptrace REQUEST TARGET [DATA]
-  PID wait4 [PID] [OPTION ..]                PID kill PID SIGNAL
-  PID sigaction SIGNAL default|ignore|catch  PID list
-  PID install RULE, ..                       PID handle
+  spawn                                      ptrace PID REQUEST TARGET [DATA]
+  wait4 PID [PID] [OPTION ..]                kill PID PID SIGNAL
+  sigaction PID SIGNAL default|ignore|catch  list PID
+  install PID RULE, ..                       handle PID
   turn LWP compute|leave                     turn LWP enter CALL [CODE]
   turn LWP raise SIGNAL                      turn LWP block [SIGNAL ..]"""
 # end
@@ -21,7 +21,7 @@ _GENERAL = f"""\
 Steps (PID, LWP: a number; SIGNAL: a name or a number; [..]: may be left out):
 {_STEPS}
   a step of docs/FORMAT.md as JSON
-`ptrace` and `turn` may be left out: 1000 PT_ATTACH 1001, 100001 compute.
+The first PID is the process that makes the call. `1002: spawn` is a step of user 1002.
 The session: user UID, list, undo [N], save FILE, view [PAGE], quit.
 help NAME: an op, a request, an act, a call, a signal or an errno. Tab completes names and numbers."""
 
@@ -29,12 +29,12 @@ _PASS = "DATA is a signal to pass on, or 0. It ends the target if that is its de
 # tools/format help
 _NAMES = {
     "spawn": "Makes a process with one LWP, and process 1 as its parent.",
-    "ptrace": "PID ptrace REQUEST TARGET [DATA]: a request of a debugger, as ptrace(2). `help PT_ATTACH` and so on.",
-    "wait4": "PID wait4 [PID] [OPTION ..]: collects a status of a child or tracee, as wait4(2). It doesn't block here.",
-    "kill": "PID kill PID SIGNAL: posts a signal, 0 for none; with -1 to all others of the user.",
-    "sigaction": "PID sigaction SIGNAL default|ignore|catch: what the process does with a signal.",
-    "install": "PID install RULE, ..: a stop handler. A rule is DECISION [SIGNAL] [FLAG ..] [pass SIGNAL].",
-    "handle": "PID handle: waits for any child, and gives a trace stop to the process's handlers.",
+    "ptrace": "ptrace PID REQUEST TARGET [DATA]: a request of a debugger, as ptrace(2). `help PT_ATTACH` and so on.",
+    "wait4": "wait4 PID [PID] [OPTION ..]: collects a status of a child or tracee, as wait4(2). It doesn't block here.",
+    "kill": "kill PID PID SIGNAL: posts a signal, 0 for none; with -1 to all others of the user.",
+    "sigaction": "sigaction PID SIGNAL default|ignore|catch: what the process does with a signal.",
+    "install": "install PID RULE, ..: a stop handler. A rule is [SIGNAL] [FLAG ..] DECISION [PASS].",
+    "handle": "handle PID: waits for any child, and gives a trace stop to the process's handlers.",
     "turn": "turn LWP ACT: an LWP runs. It meets a pending signal, or does the act.",
     "compute": "The LWP runs in user mode.",
     "raise": "turn LWP raise SIGNAL: the LWP posts a signal to itself, which it meets at its next turn.",
@@ -48,7 +48,7 @@ _NAMES = {
     "thr_new": "Makes an LWP of the process.",
     "thr_exit": "Removes the LWP; the last one ends the process.",
     "other": "A system call with the number CODE, which does nothing.",
-    "PT_TRACE_ME": "PID PT_TRACE_ME: the parent traces the caller.",
+    "PT_TRACE_ME": "ptrace PID PT_TRACE_ME: the parent traces the caller.",
     "PT_ATTACH": "The caller traces the target. Its first LWP stops with SIGSTOP.",
     "PT_CONTINUE": f"Resumes the target. {_PASS}",
     "PT_STEP": f"Resumes the target; an LWP stops after its next compute. {_PASS}",
@@ -59,7 +59,7 @@ _NAMES = {
     "PT_KILL": "SIGKILL ends the target.",
     "PT_SUSPEND": "An LWP gets no turns until PT_RESUME.",
     "PT_RESUME": "An LWP gets turns again.",
-    "PT_SET_EVENT_MASK": "PID PT_SET_EVENT_MASK TARGET [EVENT ..]: the events that the target stops for.",
+    "PT_SET_EVENT_MASK": "ptrace PID PT_SET_EVENT_MASK TARGET [EVENT ..]: the events that the target stops for.",
     "PT_GET_EVENT_MASK": "Reads the events that the target stops for.",
     "PT_FOLLOW_FORK": "Sets PTRACE_FORK, or clears it if DATA is 0.",
     "PT_LWP_EVENTS": "Sets PTRACE_LWP, or clears it if DATA is 0.",

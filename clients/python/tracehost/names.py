@@ -28,6 +28,8 @@ class Request(enum.IntEnum):
     PT_LWP_EVENTS = 24
     PT_GET_EVENT_MASK = 25
     PT_SET_EVENT_MASK = 26
+
+
 # end
 
 
@@ -56,18 +58,20 @@ class StopFlag(enum.IntFlag):
     PL_FLAG_EXITED = 0x0200
     PL_FLAG_VFORKED = 0x0400
     PL_FLAG_VFORK_DONE = 0x0800
+
+
 # end
 
 
 class LwpEvent(enum.IntEnum):
-    """``pl_event``: whether it is this LWP that reports the stop."""
+    """``pl_event``: whether this LWP reports the stop."""
 
     PL_EVENT_NONE = 0
     PL_EVENT_SIGNAL = 1
 
 
 class WaitOption(enum.IntFlag):
-    """Options of wait4(2), with the bits of <sys/wait.h>. No wait blocks, so that WNOHANG changes nothing."""
+    """Options of wait4(2), with the bits of <sys/wait.h>. No wait blocks, so WNOHANG changes nothing."""
 
     WNOHANG = 1
     WUNTRACED = 2
@@ -139,6 +143,8 @@ class Decision(enum.Enum):
     CONTINUE = "continue"
     DETACH = "detach"
     KILL = "kill"
+
+
 # end
 
 

@@ -27,7 +27,5 @@ def file_of(name: str) -> Optional[Path]:
         raise FileNotFoundError(f"{path}: the package has no {_SUMS} to compare it with; install it again") from None
     digest = hashlib.sha256(path.read_bytes()).hexdigest()
     if f"{digest}  {name}" not in lines:
-        raise FileNotFoundError(
-            f"{path}: its digest isn't that of {package / _SUMS}: it was changed; install the package again"
-        )
+        raise FileNotFoundError(f"{path}: its digest isn't that of {package / _SUMS}: it was changed; install the package again")
     return path

@@ -26,9 +26,7 @@ class Pipe:
     def __init__(self, command: Sequence[str], keep_errors: bool = False) -> None:
         self._errors: IO[bytes] | None = tempfile.TemporaryFile(buffering=0) if keep_errors else None
         try:
-            process = subprocess.Popen(
-                command, stdin=subprocess.PIPE, stdout=subprocess.PIPE, stderr=self._errors, bufsize=0
-            )
+            process = subprocess.Popen(command, stdin=subprocess.PIPE, stdout=subprocess.PIPE, stderr=self._errors, bufsize=0)
         except BaseException:
             self._close_errors()
             raise
@@ -122,7 +120,7 @@ class Pipe:
         self._to.close()
 
     def _status_soon(self) -> int | None:
-        """The status of a program that answers no more; None if it runs on."""
+        """The status of a program that no longer answers; None if it still runs."""
         try:
             return self.process.wait(timeout=_SECONDS_TO_END)
         except subprocess.TimeoutExpired:

@@ -44,7 +44,8 @@ _current: list[pytest.Item] = []
 class NewHost(Protocol):
     """Starts a `Host` that records as `name` in the folder of the test. A further one of that name takes its place."""
 
-    def __call__(self, name: str = "session", **settings: Any) -> Host: ...
+    def __call__(self, name: str = "session", **settings: Any) -> Host:
+        ...
 
 
 class Sessions:
@@ -83,7 +84,7 @@ class Sessions:
 
 def pytest_addoption(parser: pytest.Parser) -> None:
     group = parser.getgroup("tracehost")
-    group.addoption("--tracehost-artifacts", metavar="DIR", help="where failed tests leave their sessions and pages")
+    group.addoption("--tracehost-artifacts", metavar="DIR", help="the folder for the sessions and pages of failed tests")
 
 
 def pytest_configure(config: pytest.Config) -> None:
@@ -190,7 +191,7 @@ def _title(nodeid: str, call: pytest.CallInfo[None]) -> str:
 
 
 def _kept(scenario: Path, title: str) -> tuple[str, Optional[Path]]:
-    """Makes the page. Says where everything is, and returns the page."""
+    """Makes the page. Reports the files, and returns the page."""
     page: Optional[Path] = None
     try:
         page = view(scenario, title=title)

@@ -104,7 +104,7 @@ class Recording:
 
 
 class _File:
-    """A file with an end that is written anew."""
+    """A file whose end is rewritten."""
 
     def __init__(self, path: Path) -> None:
         self._file = path.open("wb", buffering=0)

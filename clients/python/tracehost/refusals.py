@@ -173,9 +173,7 @@ def _makes_process(a: Asked, rows: Rows) -> bool:
     return a.op == "spawn" or CALLS[_lwp(a, rows).call] in (Call.FORK, Call.VFORK)
 
 
-_CALLER = Cause(
-    "ESRCH", "{a.caller} isn't a live process of user {a.uid}", lambda a, rows: not rows.is_live(a.caller)
-)
+_CALLER = Cause("ESRCH", "{a.caller} isn't a live process of user {a.uid}", lambda a, rows: not rows.is_live(a.caller))
 _NO_GROUPS = Cause(
     "EINVAL", "which is {a.first}, and there are no process groups", _by_arguments, lambda a: a.first == 0 or a.first < -1
 )
@@ -238,9 +236,7 @@ _OPS: dict[str, tuple[Cause, ...]] = {
     "turn": (
         Cause("ESRCH", "user {a.uid} has no LWP {a.first}", lambda a, rows: rows.lwp(a.first) is None),
         Cause("EINVAL", "LWP {a.first} is in no system call", lambda a, rows: not _is_in_call(a, rows), _leaves),
-        Cause(
-            "EINVAL", "LWP {a.first} is in a system call, which it has to leave first", _is_in_call, lambda a: not _leaves(a)
-        ),
+        Cause("EINVAL", "LWP {a.first} is in a system call, which it has to leave first", _is_in_call, lambda a: not _leaves(a)),
         Cause(
             "EINVAL",
             "{a.arguments[1].signal:d} is no signal",
@@ -281,13 +277,9 @@ _PTRACE: dict[str, tuple[Cause, ...]] = {
         *_TARGET,
         Cause("EPERM", "{a.target} isn't traced", lambda a, rows: _target(a, rows).tracer == 0),
         Cause("EBUSY", "another process traces {a.target}", lambda a, rows: _target(a, rows).tracer != a.caller),
-        Cause(
-            "EBUSY", "{a.target} is in no trace stop", lambda a, rows: _target(a, rows).state != ProcessState.TRACE_STOP.value
-        ),
+        Cause("EBUSY", "{a.target} is in no trace stop", lambda a, rows: _target(a, rows).state != ProcessState.TRACE_STOP.value),
         Cause("EBUSY", "no wait has reported the stop of {a.target}", lambda a, rows: not _target(a, rows).told),
-        Cause(
-            "EINVAL", "{a.signal} is no signal", _by_arguments, lambda a: a.first in _PASSING and a.data > _LAST_SIGNAL
-        ),
+        Cause("EINVAL", "{a.signal} is no signal", _by_arguments, lambda a: a.first in _PASSING and a.data > _LAST_SIGNAL),
         Cause(
             "EINVAL",
             "data is 0, and has to be how many LWPs to list",

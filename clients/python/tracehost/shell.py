@@ -1,10 +1,10 @@
 """``python -m tracehost.shell``: a prompt over a session.
 
-A line is a call of the client, in the words of docs/FORMAT.md:
+A line is a step, an op of docs/FORMAT.md with the values of its keys in their order:
 
     tracehost> spawn
-    tracehost> 1000 ptrace PT_ATTACH 1001
-    tracehost> 1000 wait4
+    tracehost> ptrace 1000 PT_ATTACH 1001
+    tracehost> wait4 1000
     tracehost> turn 100001 enter fork
 
 or a step as JSON. `help` lists the rest.
@@ -14,6 +14,7 @@ from __future__ import annotations
 
 import argparse
 import cmd
+import errno
 import json
 import os
 import shlex
@@ -22,7 +23,7 @@ import subprocess
 import sys
 import tempfile
 from pathlib import Path
-from typing import Any, Optional
+from typing import IO, Any, Optional
 
 from .completion import complete_words
 from .errors import ProgramEnded
@@ -45,9 +46,7 @@ class Shell(cmd.Cmd):
     prompt = "tracehost> "
     intro = "A new session. Type help for help, and Control-D to leave."
 
-    def __init__(
-        self, program: Optional[str] = None, kill_on_debugger_exit: Optional[bool] = None, **streams: Any
-    ) -> None:
+    def __init__(self, program: Optional[str] = None, kill_on_debugger_exit: Optional[bool] = None, **streams: Any) -> None:
         super().__init__(**streams)
         self._program = program
         self._setting = kill_on_debugger_exit
@@ -93,8 +92,11 @@ class Shell(cmd.Cmd):
 
     # ---- the session
 
-    def do_list(self, _: str) -> None:
-        """list: the steps so far, and their answers. (The system's list of processes is `1000 list`.)"""
+    def do_list(self, words: str) -> None:
+        """list: the steps so far, and their answers. (`list 1000` is a step: process 1000 lists the processes.)"""
+        if words:
+            self.default(f"list {words}")
+            return
         for count, (step, answer) in enumerate(self._steps, 1):
             self._print(f"{count:4} {step}\n     {answer}")
 
@@ -165,9 +167,7 @@ class Shell(cmd.Cmd):
 
     def _start(self) -> Host:
         # over a pipe, since the program says why it refuses a line
-        return Host(
-            self._program, transport="pipe", record=self._scenario, kill_on_debugger_exit=self._setting
-        )
+        return Host(self._program, transport="pipe", record=self._scenario, kill_on_debugger_exit=self._setting)
 
     def _send(self, text: str) -> None:
         sent = self._host._send(text)
@@ -221,12 +221,27 @@ def _use_history() -> None:
     atexit.register(write)
 
 
-def main(words: Optional[list[str]] = None) -> int:
-    """Runs the prompt until the end of its input."""
-    parser = argparse.ArgumentParser(prog="python -m tracehost.shell", description="A prompt over a session.")
+class _Parser(argparse.ArgumentParser):
+    """A parser that raises OSError if the text of --help can't be written."""
+
+    def print_help(self, file: Optional[IO[str]] = None) -> None:
+        stream = sys.stdout if file is None else file
+        stream.write(self.format_help())
+        stream.flush()
+
+
+def _options() -> argparse.ArgumentParser:
+    parser = _Parser(prog="python -m tracehost.shell", description="A prompt over a session.")
     parser.add_argument("--program", help="the program; what Host chooses if it isn't given")
     parser.add_argument("--kill-on-debugger-exit", choices=("0", "1"), help="as for tracehost --lines")
+    return parser
+
+
+def _run(words: Optional[list[str]]) -> int:
+    parser = _options()
     given = parser.parse_args(words)
+    if sys.stdin is None:
+        raise _closed("standard input")
     setting = None if given.kill_on_debugger_exit is None else given.kill_on_debugger_exit == "1"
     terminal = sys.stdin.isatty()
     if terminal:
@@ -234,7 +249,9 @@ def main(words: Optional[list[str]] = None) -> int:
     try:
         shell = Shell(given.program, setting)
     except OSError as error:
-        parser.error(f"{error.filename or 'tracehost'}: {error.strerror}")
+        if given.program is None:
+            raise
+        parser.error(f"{error.filename or given.program}: {error.strerror}")
     if not terminal:
         shell.prompt, shell.intro, shell.use_rawinput = "", "", False
     try:
@@ -248,15 +265,32 @@ def main(words: Optional[list[str]] = None) -> int:
     except ProgramEnded as error:
         print(error, file=sys.stderr)
         return 1
-    except BrokenPipeError:  # as `tracehost | head` ends
-        os.dup2(os.open(os.devnull, os.O_WRONLY), sys.stdout.fileno())
-        return 1
-    except OSError as error:  # a recording or an output that can't be written
-        os.dup2(os.open(os.devnull, os.O_WRONLY), sys.stdout.fileno())
-        print(f"tracehost.shell: {error.filename or 'standard output'}: {error.strerror}", file=sys.stderr)
-        return 1
     finally:
         shell.close()
+
+
+def _closed(name: str) -> OSError:
+    """The error of a standard stream that the caller has closed: Python then has none."""
+    return OSError(errno.EBADF, os.strerror(errno.EBADF), name)
+
+
+def _said(error: OSError) -> str:
+    """The file and why; of an error without an errno, such as that there is no program, its text."""
+    return f"{error.filename or 'standard output'}: {error.strerror}" if error.errno else str(error)
+
+
+def main(words: Optional[list[str]] = None) -> int:
+    """Runs the prompt until the end of its input."""
+    try:
+        if sys.stdout is None:
+            raise _closed("standard output")
+        return _run(words)
+    except OSError as error:  # a recording or an output that can't be written
+        if sys.stdout is not None:  # so that Python doesn't write the rest when it ends
+            os.dup2(os.open(os.devnull, os.O_WRONLY), sys.stdout.fileno())
+        if not isinstance(error, BrokenPipeError):  # as `tracehost | head` ends
+            print(f"tracehost.shell: {_said(error)}", file=sys.stderr)
+        return 1
 
 
 if __name__ == "__main__":

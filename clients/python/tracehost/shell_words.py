@@ -1,4 +1,7 @@
-"""A step in words, as a person types it: ``1000 ptrace PT_ATTACH 1001`` is a step of docs/FORMAT.md."""
+"""A step in words: ``ptrace 1000 PT_ATTACH 1001`` is an op of docs/FORMAT.md with the values of its keys in their order.
+
+``1002: spawn`` is a step of user 1002.
+"""
 
 from __future__ import annotations
 
@@ -9,9 +12,10 @@ from typing import Any
 from .names import CALLER_OPS, EVENTS, OPTIONS, STOP_FLAGS, Action, Call, Decision, Request, Signal
 
 Step = dict[str, Any]
+OPS = ("spawn", *CALLER_OPS, "turn")
 ACTS = ("compute", "raise", "block", "enter", "leave")
 MASKS = (*EVENTS, "PTRACE_SYSCALL")
-FIRST_LWP = 100_000
+DECISIONS = tuple(decision.value for decision in Decision)
 COMMANDS = ("user", "list", "undo", "save", "view", "help", "quit")
 
 
@@ -20,29 +24,29 @@ class Unclear(Exception):
 
 
 def step_of(words: Sequence[str], uid: int) -> Step:
-    """The step of this user. Raises Unclear."""
-    if list(words) == ["spawn"]:
-        return {"user": uid, "op": "spawn"}
-    if words and words[0] == "turn":
-        words = words[1:]
-        if not words:
-            raise Unclear("turn LWP ACT")
-        return {"user": uid, "op": "turn", "lwp": _number(words[0]), **_act(words[1:])}
-    if not words or not words[0].isdecimal():
-        near = _near(words[0] if words else "", ("spawn", "turn", *COMMANDS))
-        raise Unclear(f"no step: {' '.join(words)}{near}")
-    number = int(words[0])
-    if number >= FIRST_LWP:
-        return {"user": uid, "op": "turn", "lwp": number, **_act(words[1:])}
-    op, rest = (words[1], words[2:]) if len(words) > 1 else ("", ())
-    if op in Request.__members__:
-        op, rest = "ptrace", words[1:]
+    """The step of this user, or of the one that the words begin with. Raises Unclear."""
+    if words and words[0].endswith(":") and words[0][:-1].isdecimal():
+        uid, words = int(words[0][:-1]), words[1:]
+    op, rest = (words[0], words[1:]) if words else ("", ())
+    if op == "spawn" and not rest:
+        return {"user": uid, "op": op}
+    if op == "turn":
+        _count(rest, 1, 99, "turn LWP ACT")
+        return {"user": uid, "op": op, "lwp": _number(rest[0]), **_act(rest[1:])}
     if op not in CALLER_OPS:
-        near = _near(op, (*CALLER_OPS, *Request.__members__, "spawn", "turn"))
-        if near.endswith(("spawn?", "turn?")):
-            near += " It has no caller"
-        raise Unclear(f"{op + ': ' if op else ''}a process makes one of the calls {', '.join(CALLER_OPS)}{near}")
-    return {"user": uid, "op": op, "caller": number, **_READERS.get(op, _nothing)(rest)}
+        raise Unclear(_no_step(words))
+    _count(rest, 1, 999, f"{op} {_USAGES.get(op, 'CALLER')}")
+    return {"user": uid, "op": op, "caller": _number(rest[0]), **_READERS.get(op, _nothing)(rest[1:])}
+
+
+def _no_step(words: Sequence[str]) -> str:
+    """Why these words are no step."""
+    if len(words) > 1 and words[0].isdecimal() and words[1] in (*CALLER_OPS, *ACTS, *Request.__members__):
+        kind = "turn" if words[1] in ACTS else "ptrace" if words[1] not in CALLER_OPS else words[1]
+        rest = words[2:] if kind == words[1] else words[1:]
+        return f"the op comes first: {' '.join((kind, words[0], *rest))}"
+    near = _near(words[0] if words else "", (*OPS, *COMMANDS))
+    return f"no step: {' '.join(words)}{near}"
 
 
 def _act(words: Sequence[str]) -> Step:
@@ -64,10 +68,11 @@ def _act(words: Sequence[str]) -> Step:
 
 
 def _ptrace(words: Sequence[str]) -> Step:
-    _count(words, 1, 99, "ptrace REQUEST [TARGET] [DATA]")
+    _count(words, 1, 99, f"ptrace {_USAGES['ptrace']}")
     name, rest = words[0], words[1:]
     _one_of(name, list(Request.__members__), "requests")
     if name == "PT_TRACE_ME":
+        _count(rest, 0, 0, name)
         return {"request": name}
     if name == "PT_SET_EVENT_MASK":
         _count(rest, 1, 99, f"{name} TARGET [EVENT ..]")
@@ -78,20 +83,18 @@ def _ptrace(words: Sequence[str]) -> Step:
 
 
 def _wait4(words: Sequence[str]) -> Step:
-    names = [_one_of(word, list(OPTIONS), "options") for word in words if not _is_number(word)]
-    numbers = [int(word) for word in words if _is_number(word)]
-    if len(numbers) > 1:
-        raise Unclear("wait4 [PROCESS] [OPTION ..]")
-    return {"which": numbers[0] if numbers else -1, **({"options": names} if names else {})}
+    which, names = (int(words[0]), words[1:]) if words and _is_number(words[0]) else (-1, words)
+    options = [_one_of(word, list(OPTIONS), "options") for word in names]
+    return {"which": which, **({"options": options} if options else {})}
 
 
 def _kill(words: Sequence[str]) -> Step:
-    _count(words, 2, 2, "kill PROCESS SIGNAL")
+    _count(words, 2, 2, f"kill {_USAGES['kill']}")
     return {"which": _number(words[0]), "signal": _signal(words[1])}
 
 
 def _sigaction(words: Sequence[str]) -> Step:
-    _count(words, 2, 2, "sigaction SIGNAL ACTION")
+    _count(words, 2, 2, f"sigaction {_USAGES['sigaction']}")
     return {"signal": _signal(words[0]), "action": _one_of(words[1], [action.value for action in Action], "actions")}
 
 
@@ -102,22 +105,28 @@ def _nothing(words: Sequence[str]) -> Step:
 
 
 def _install(words: Sequence[str]) -> Step:
-    """Rules, with a comma between two: ``continue SIGTRAP PL_FLAG_SCE, detach SIGUSR1 pass SIGUSR1``."""
+    """Rules, with a comma between two: ``SIGTRAP PL_FLAG_SCE continue, SIGUSR1 detach SIGUSR1``."""
     texts = " ".join(words).split(",")
     return {"rules": [_rule(text.split()) for text in texts if text.strip()]}
 
 
 def _rule(words: Sequence[str]) -> Step:
-    rule: Step = {"decision": _one_of(words[0], [decision.value for decision in Decision], "decisions")}
-    rest = list(words[1:])
-    if len(rest) > 1 and rest[-2] == "pass":
-        rule["pass"] = _signal(rest[-1])
-        rest = rest[:-2]
-    flags = [word for word in rest if word in STOP_FLAGS]
-    signals = [_signal(word) for word in rest if word not in STOP_FLAGS]
+    """A rule, [SIGNAL] [FLAG ..] DECISION [PASS]: the signal and the flags of the stops that it fits come first."""
+    at = next((place for place, word in enumerate(words) if word in DECISIONS), None)
+    if at is None:
+        raise Unclear(f"{' '.join(words)}: a rule has one of the decisions {', '.join(DECISIONS)}{_near(words[-1], DECISIONS)}")
+    signals = [_signal(word) for word in words[:at] if word not in STOP_FLAGS]
+    flags = [word for word in words[:at] if word in STOP_FLAGS]
     if len(signals) > 1:
         raise Unclear("a rule fits one signal, or any")
-    return {**rule, **({"flags": flags} if flags else {}), **({"signal": signals[0]} if signals else {})}
+    _count(words[at + 1 :], 0, 1, f"{words[at]} [PASS]")
+    passed = {"pass": _signal(words[-1])} if len(words) > at + 1 else {}
+    return {
+        **({"signal": signals[0]} if signals else {}),
+        **({"flags": flags} if flags else {}),
+        "decision": words[at],
+        **passed,
+    }
 
 
 # an op that is missing here has only its caller
@@ -127,6 +136,13 @@ _READERS = {
     "kill": _kill,
     "sigaction": _sigaction,
     "install": _install,
+}
+_USAGES = {
+    "ptrace": "CALLER REQUEST [TARGET] [DATA]",
+    "wait4": "CALLER [PROCESS] [OPTION ..]",
+    "kill": "CALLER PROCESS SIGNAL",
+    "sigaction": "CALLER SIGNAL ACTION",
+    "install": "CALLER [[SIGNAL] [FLAG ..] DECISION [PASS], ..]",
 }
 
 

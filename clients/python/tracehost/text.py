@@ -1,4 +1,4 @@
-"""The calls as lines of text (docs/LINES.md): each sends the keys of a step, and reads the words of its reply."""
+"""The calls as lines of text (docs/FORMAT.md): each sends the keys of a step, and reads the words of its reply."""
 
 from __future__ import annotations
 

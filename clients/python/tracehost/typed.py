@@ -184,7 +184,7 @@ class TypedCalls:
         return reader(self._reply)
 
     def _table(self) -> tuple[tuple[bool, Callable[[Reply], Any]], ...]:
-        """For each kind of reply, whether its step may have changed something, and what it stands for."""
+        """For each kind of reply, whether its step may have changed something, and what it means."""
 
         session = self._session  # a table that had `self` would keep a dropped session until the next collection
 

@@ -177,7 +177,7 @@ impl Session {
         self.reply(code, raw)
     }
 
-    /// Makes the step that the line is (docs/LINES.md), and returns the line of its answer in words. A line that is no
+    /// Makes the step that the line is (docs/FORMAT.md), and returns the line of its answer in words. A line that is no
     /// step is answered by `refused FAULT`.
     ///
     /// ```
@@ -192,7 +192,7 @@ impl Session {
         self.answer(step, false)
     }
 
-    /// The same, with the answer as a JSON object (docs/JSON.md).
+    /// The same, with the answer as a JSON object (docs/FORMAT.md).
     ///
     /// ```
     /// # fn main() -> Result<(), tracehost::Error> {

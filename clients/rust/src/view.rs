@@ -67,7 +67,7 @@ pub struct Process {
     pub pending: SignalSet,
 }
 
-/// Where an LWP is.
+/// What an LWP is in.
 #[derive(Clone, Copy, Debug, PartialEq, Eq)]
 pub enum Mode {
     /// It runs in user mode.
@@ -99,7 +99,7 @@ pub struct Lwp {
     pub lwp: u32,
     /// Its process.
     pub pid: u32,
-    /// Where it is.
+    /// What it is in.
     pub mode: Mode,
     /// Whether PT_SUSPEND holds it.
     pub suspended: bool,

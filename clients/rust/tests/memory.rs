@@ -1,5 +1,5 @@
-//! What a session does if the library runs out of memory, or returns another code. tests/rust.sh runs it over the
-//! library of tests/memory/library.c.
+//! What a session does if the library runs out of memory, or returns another code. tests/python/test_rust.py runs it over
+//! the library of tests/memory/library.c.
 
 use tracehost::{Act, Caller, Disposition, Errno, Error, Request, Session, Settings, Signal, WaitOptions, Which};
 
@@ -11,7 +11,7 @@ const CODES: [(u32, Error); 4] = [
 ];
 
 #[test]
-#[ignore = "tests/rust.sh has its library"]
+#[ignore = "tests/python/test_rust.py has its library"]
 fn sessions() {
     assert_eq!(
         Session::with_settings(Settings {
@@ -24,7 +24,7 @@ fn sessions() {
 }
 
 #[test]
-#[ignore = "tests/rust.sh has its library"]
+#[ignore = "tests/python/test_rust.py has its library"]
 fn typed_calls() {
     let mut session = Session::new().unwrap();
     for (user, error) in CODES {
@@ -45,7 +45,7 @@ fn typed_calls() {
 }
 
 #[test]
-#[ignore = "tests/rust.sh has its library"]
+#[ignore = "tests/python/test_rust.py has its library"]
 fn text() {
     let mut session = Session::new().unwrap();
     assert_eq!(session.line("2"), Err(Error::NoMemory));
@@ -57,7 +57,7 @@ fn text() {
 }
 
 #[test]
-#[ignore = "tests/rust.sh has its library"]
+#[ignore = "tests/python/test_rust.py has its library"]
 fn views() {
     let session = Session::new().unwrap();
     assert_eq!(session.view(2), Err(Error::NoMemory));

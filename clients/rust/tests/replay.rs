@@ -1,4 +1,5 @@
-//! The scenarios whose steps clients/c/tests/words.py has written as words: each by typed calls. tests/rust.sh runs it.
+//! The scenarios whose steps clients/c/tests/words.py has written as words: each by typed calls. tests/python/test_rust.py
+//! runs it.
 //!
 //!     TRACEHOST_WORDS=FOLDER cargo test --test replay -- --ignored
 
@@ -211,7 +212,7 @@ fn replay(folder: &Path, name: &str, calls: &mut usize) -> String {
 }
 
 #[test]
-#[ignore = "tests/rust.sh names the folder"]
+#[ignore = "tests/python/test_rust.py names the folder"]
 fn scenarios() {
     let folder = env::var_os("TRACEHOST_WORDS").expect("TRACEHOST_WORDS");
     let folder = Path::new(&folder);

@@ -1,7 +1,7 @@
 //! Characters that a reader can't see, or takes for another one.
 use crate::report::Report;
 
-/// A character, its name in Unicode, and the character that was likely meant: none where it does not belong there.
+/// A character, its name in Unicode, and the character that was likely meant: none if it does not belong there.
 pub(crate) struct LookAlike(char, &'static str, Option<char>);
 
 const LOOK_ALIKES: [LookAlike; 49] = [

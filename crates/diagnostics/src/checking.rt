@@ -1,5 +1,5 @@
 //! The first mistakes of a scenario or a step, in the order in which they are checked. Each check returns whether all is
-//! well, and has reported what is wrong where it isn't.
+//! well, and has reported what is wrong if it isn't.
 use crate::format::{
     Case, Key, Kind, LEVELS, MAX_RULES, MAX_STEPS, Range, SCENARIO, SETTING, SETTING_KEY,
 };
@@ -233,7 +233,7 @@ fn check_step(report: &mut Report, step: &Value<'_>) -> bool {
     known == members.len() || report_unknown(report, members, "a step", &STEP)
 }
 
-/// The setting is 0 or 1, where it is there.
+/// The setting is 0 or 1, if it is there.
 fn check_setting(report: &mut Report, members: &[Member<'_>]) -> bool {
     match value_of(members, SETTING_KEY) {
         Some(value) => check_one(report, value, SETTING_KEY, None, Kind::Number(SETTING)),

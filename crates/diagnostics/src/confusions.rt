@@ -350,7 +350,7 @@ fn advise_alias(report: &mut Report, aliases: &[Alias], name: &str) -> bool {
     }
 }
 
-/// What to write where a name of another table or system is given; false where it is none of those.
+/// What to write if a name of another table or system is given; false if it is none of those.
 pub(crate) fn advise(report: &mut Report, name: &str, table: Table) -> bool {
     match table {
         Table::Op => advise_op(report, name),
@@ -365,7 +365,7 @@ pub(crate) fn advise(report: &mut Report, name: &str, table: Table) -> bool {
     }
 }
 
-/// The name that is meant by one without its prefix; false where there is none.
+/// The name that is meant by one without its prefix; false if there is none.
 pub(crate) fn advise_prefix(report: &mut Report, name: &str, table: Table) -> bool {
     match with_prefix(table, name) {
         Some(meant) => {

@@ -74,7 +74,7 @@ impl Wants {
         }
     }
 
-    /// The brace or bracket that isn't closed where this character comes, by what is around it.
+    /// The brace or bracket that isn't closed when this character comes, by what is around it.
     fn unclosed(self, got: char, is_in_object: Option<bool>) -> Option<&'static str> {
         match (self, got, is_in_object) {
             (Wants::Key | Wants::KeyOrEnd | Wants::CommaOrBrace, '{' | ']', Some(false)) => {
@@ -122,7 +122,7 @@ fn word_hint(word: &str) -> &'static str {
         Some('\'') => "; JSON has double quotes alone",
         Some('`') => "; leave out the backquotes",
         Some('(' | ')') => "; JSON has no parentheses: an array has brackets, an object braces",
-        _ => "; texts stand in double quotes",
+        _ => "; texts go in double quotes",
     }
 }
 
@@ -133,7 +133,7 @@ fn report_word(report: &mut Report, word: &str, at: usize) {
     }
     report.push("`");
     report.push_shown(word);
-    report.push("` is no value of JSON");
+    report.push("` is not a JSON value");
     match LookAlike::first_in(word) {
         Some(look_alike) => {
             report.push("; it has ");
@@ -195,7 +195,7 @@ fn report_other(report: &mut Report, text: &[u8], mistake: &JsonMistake, wants: 
 fn report_control(report: &mut Report, text: &[u8], mistake: &JsonMistake) {
     match text.get(mistake.at) {
         Some(byte) if *byte != b'\n' && *byte != b'\r' => {
-            report.push("a control character stands in a text; write it as `\\u");
+            report.push("a control character is in a text; write it as `\\u");
             if write!(report.lines, "{byte:04x}").is_err() {
                 report.is_cut = true;
             }
@@ -223,7 +223,7 @@ fn report_mistake(report: &mut Report, text: &[u8], mistake: &JsonMistake) {
     }
 }
 
-/// Bytes that aren't UTF-8, or are UTF-16; false where they are well.
+/// Bytes that aren't UTF-8, or are UTF-16; false if they are well.
 fn report_encoding(report: &mut Report, text: &[u8]) -> bool {
     if is_utf_16(text) {
         report.push("  ");
@@ -240,7 +240,7 @@ fn report_encoding(report: &mut Report, text: &[u8]) -> bool {
     false
 }
 
-/// Reports why the bytes aren't JSON, with the place; the reader's words where nothing else is found.
+/// Reports why the bytes aren't JSON, with the place; the reader's words if nothing else is found.
 pub(crate) fn report_no_json(report: &mut Report, text: &[u8], error: &serde_json::Error) {
     if report_encoding(report, text) || report_output(report, text) {
         return;

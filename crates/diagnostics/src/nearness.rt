@@ -14,7 +14,7 @@ fn lowered(alloc: Global, name: &str) -> Result<Vec<u8>, AllocError> {
     Ok(bytes)
 }
 
-/// How many letters may differ where the longer name has this length.
+/// How many letters may differ if the longer name has this length.
 fn max_edits(length: usize) -> usize {
     match length {
         0..=3 => 1,
@@ -53,7 +53,7 @@ impl Report {
         self.push("\"?");
     }
 
-    /// How many letters to change from what was written to the name; none where they are too many.
+    /// How many letters to change from what was written to the name; none if they are too many.
     pub(crate) fn few_edits(&mut self, written: &str, name: &str) -> Option<usize> {
         if written.len() > MAX_BYTES || written.is_empty() {
             return None;
@@ -77,7 +77,7 @@ impl Report {
 #[derive(Clone, Copy)]
 pub(crate) struct Nearest {
     edits: usize,
-    /// Empty where there is none, as is the second.
+    /// Empty if there is none, as is the second.
     first: &'static str,
     second: &'static str,
 }

@@ -22,11 +22,11 @@ fn report_times(report: &mut Report, key: &str, times: usize) {
     report.push("the key \"");
     report.push(key);
     if times == 2 {
-        report.push("\" stands twice; the last counts\n");
+        report.push("\" is given twice; the last one counts\n");
     } else {
-        report.push("\" stands ");
+        report.push("\" is given ");
         report.push_number(times);
-        report.push(" times; the last counts\n");
+        report.push(" times; the last one counts\n");
     }
 }
 
@@ -96,6 +96,6 @@ pub(crate) fn report_repeated(report: &mut Report, value: &Value<'_>) {
     if found > MAX_REPORTED {
         report.push("  ");
         report.push_number(found.saturating_sub(MAX_REPORTED));
-        report.push(" more keys stand more than once\n");
+        report.push(" more keys are given more than once\n");
     }
 }

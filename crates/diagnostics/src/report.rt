@@ -92,7 +92,7 @@ impl Report {
         }
     }
 
-    /// A text with its control characters escaped, cut where it is long.
+    /// A text with its control characters escaped, cut if it is long.
     pub(crate) fn push_shown(&mut self, text: &str) {
         let mut count = 0usize;
         for character in text.chars() {
@@ -130,7 +130,7 @@ impl Report {
         }
     }
 
-    /// Begins a line about the key, or where that is empty about the object, and about an item of the key's array.
+    /// Begins a line about the key, or if that is empty about the object, and about an item of the key's array.
     pub(crate) fn begin(&mut self, key: &str, item: Option<usize>) {
         self.end_line();
         let is_whole = self.step.is_none() && self.rule.is_none() && key.is_empty();

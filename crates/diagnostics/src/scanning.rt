@@ -42,7 +42,7 @@ pub(crate) struct JsonMistake {
     pub(crate) wrong: Wrong,
     /// Where the innermost array or object, or the string, begins that isn't closed.
     pub(crate) opened: Option<usize>,
-    /// Whether an object is around that array or object; none where nothing is.
+    /// Whether an object is around that array or object; none if nothing is.
     pub(crate) is_in_object: Option<bool>,
 }
 
@@ -70,7 +70,7 @@ struct Open {
 }
 
 impl Open {
-    /// Opens one more; false where that is too deep.
+    /// Opens one more; false if that is too deep.
     fn push(&mut self, at: usize, is_object: bool) -> bool {
         if self.depth >= MAX_DEPTH {
             return false;
@@ -302,7 +302,7 @@ impl Walk {
     }
 }
 
-/// The first mistake of the text; none where it is JSON.
+/// The first mistake of the text; none if it is JSON.
 pub(crate) fn first_mistake(text: &[u8]) -> Result<(), JsonMistake> {
     let mut walk = Walk::new();
     for (at, byte) in text.iter().enumerate() {

@@ -69,7 +69,7 @@ fn signal_number(name: &str) -> Option<usize> {
     None
 }
 
-/// What helps where a string is given for a number.
+/// What helps if a string is given for a number.
 fn push_number_hint(report: &mut Report, text: &str) {
     if let Some(number) = signal_number(text) {
         report.push("; write ");

@@ -92,7 +92,7 @@ pub(crate) fn report_is_output(report: &mut Report) {
     report.push(remedy);
 }
 
-/// Reports that a text that isn't JSON is tracehost's own output; false where it isn't that.
+/// Reports that a text that isn't JSON is tracehost's own output; false if it isn't that.
 pub(crate) fn report_output(report: &mut Report, text: &[u8]) -> bool {
     let line = first_line(text);
     let is_printed = match from_utf8(line) {
@@ -106,7 +106,7 @@ pub(crate) fn report_output(report: &mut Report, text: &[u8]) -> bool {
     false
 }
 
-/// What is said where lines are read, and a scenario is given.
+/// What is said if lines are read, and a scenario is given.
 fn line_hint(line: &str, wants: Wants, got: Option<&u8>) -> &'static str {
     let rest = line.strip_prefix('{').unwrap_or(line);
     if rest.trim_start().starts_with("\"steps\"") {
@@ -121,7 +121,7 @@ fn line_hint(line: &str, wants: Wants, got: Option<&u8>) -> &'static str {
     }
 }
 
-/// What helps where steps are given for a scenario, or a scenario for steps.
+/// What helps if steps are given for a scenario, or a scenario for steps.
 pub(crate) fn push_mode(report: &mut Report, text: &[u8], at: usize, wants: Wants) {
     if report.line.is_some() {
         let line = from_utf8(text).unwrap_or("").trim();

@@ -175,7 +175,7 @@ module _ {F J : Type 0} where
         absurd (omega (arith, total_two f s.views id found.0 v d other at found.2, more d found.3 (r.seats found.0 d found.2))))
         r.slot
 
-    -- where a waiting seat's ticket is served, the host is in its slot
+    -- if a waiting seat's ticket is served, the host is in its slot
     is_in_slot : (s : State (HostSlot F J) View) (r : Rule s) (id : ℕ) (v : View) → get_elem? s.views id ≡ some v → v.stage ≡ Waiting r.serving
         → (total slot_of s.views ≡ 0) × (s.homes ≡ some (Present (history h r.log)) ∷ [])
     is_in_slot s r id v at waits = is_home s r id v (ticket_of r.serving) at (ap has_slot waits) (λ d out fits.
@@ -214,7 +214,7 @@ module _ {F J : Type 0} where
         ))
         (awaits_tells r.serving v.stage))
 
-    -- where the slot is out with a seat, the host is not in it, and no other seat has it
+    -- if the slot is out with a seat, the host is not in it, and no other seat has it
     is_out : (s : State (HostSlot F J) View) (r : Rule s) (id : ℕ) (v : View) → get_elem? s.views id ≡ some v → has_slot v.stage ≡ 1 → (total slot_of s.views ≡ 1) × (s.homes ≡ none ∷ [])
     is_out s r id v at out =
         let one = total_one slot_of s.views id v at in

@@ -1,8 +1,14 @@
-//! Adds to each JSON line of a run the step that it answers. docs/JSON.md lists the members.
+//! Adds to each JSON line of a run the step that it answers. docs/FORMAT.md lists the members.
+//!
+//! It is a writer around another one: `scenario_runs` writes a reply's line into it, and it puts the step's members
+//! in front. So the run itself doesn't know of traces.
+//!
+//! No clause speaks of the members. The tests named schema and trace compare them with the schema and the scenario.
+//!
+//! Begin with `writing`.
 #![tactic(auto)]
 
 mod members;
-mod names;
 mod places;
 mod steps;
 mod writing;

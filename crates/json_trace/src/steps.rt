@@ -1,7 +1,6 @@
 //! A step as a JSON object: the keys of docs/FORMAT.md in its order, but for the user. A key whose value is that of a
 //! missing key is left out.
 use crate::members::{push_flags, push_name, push_nonzero, push_number, push_signals};
-use crate::names::{act_name, action_name, call_name, decision_name, op_of, request_name};
 use event_masks::{Call, EventMask};
 use json::Writer;
 use scenario_runs::BareStep;
@@ -16,7 +15,7 @@ fn push_ptrace(
     target: u32,
     arg: u32,
 ) -> Result<(), AllocError> {
-    push_name(out, "request", request_name(request))?;
+    push_name(out, "request", request.name())?;
     if request == Request::TraceMe {
         return Ok(());
     }
@@ -60,11 +59,11 @@ fn push_kill(out: &mut Writer, which: i64, signal: u32) -> Result<(), AllocError
 
 fn push_sigaction(out: &mut Writer, signal: u32, action: Disposition) -> Result<(), AllocError> {
     push_number(out, "signal", signal)?;
-    push_name(out, "action", action_name(action))
+    push_name(out, "action", action.name())
 }
 
 fn push_decision(out: &mut Writer, decision: &Decision) -> Result<(), AllocError> {
-    push_name(out, "decision", decision_name(decision))?;
+    push_name(out, "decision", decision.kind().name())?;
     match decision {
         Decision::Continue(pass) | Decision::Detach(pass) => {
             push_nonzero(out, "pass", pass.number())
@@ -96,7 +95,7 @@ fn push_rules(out: &mut Writer, policy: &Policy) -> Result<(), AllocError> {
 }
 
 fn push_call(out: &mut Writer, call: &Call) -> Result<(), AllocError> {
-    push_name(out, "call", call_name(call))?;
+    push_name(out, "call", call.kind().name())?;
     match call {
         Call::Exit(code) => push_number(out, "code", u32::from(*code)),
         Call::Other(code) => push_number(out, "code", *code),
@@ -106,7 +105,7 @@ fn push_call(out: &mut Writer, call: &Call) -> Result<(), AllocError> {
 
 fn push_turn(out: &mut Writer, lwp: u32, act: &Act) -> Result<(), AllocError> {
     push_number(out, "lwp", lwp)?;
-    push_name(out, "act", act_name(act))?;
+    push_name(out, "act", act.kind().name())?;
     match act {
         Act::Raise(signal) => push_number(out, "signal", *signal),
         Act::Block(set) => push_signals(out, "set", *set),
@@ -117,15 +116,9 @@ fn push_turn(out: &mut Writer, lwp: u32, act: &Act) -> Result<(), AllocError> {
 
 /// Writes the number of the process that makes the call. A turn and a spawn have none.
 fn push_caller(out: &mut Writer, step: &BareStep) -> Result<(), AllocError> {
-    match step {
-        Step::List { caller }
-        | Step::Sigaction { caller, .. }
-        | Step::Kill { caller, .. }
-        | Step::Wait4 { caller, .. }
-        | Step::Install { caller, .. }
-        | Step::Handle { caller }
-        | Step::Ptrace { caller, .. } => push_number(out, "caller", *caller),
-        Step::Spawn | Step::Turn { .. } => Ok(()),
+    match step.caller() {
+        Some(caller) => push_number(out, "caller", caller),
+        None => Ok(()),
     }
 }
 
@@ -161,7 +154,7 @@ pub(crate) fn push_step(
     policy: Option<&Policy>,
 ) -> Result<(), AllocError> {
     out.begin_object()?;
-    push_name(out, "op", op_of(step))?;
+    push_name(out, "op", step.kind().name())?;
     push_caller(out, step)?;
     push_keys(out, step, policy)?;
     out.end_object()

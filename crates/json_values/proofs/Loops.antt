@@ -30,7 +30,7 @@ next_member p found n k ts after left j d some key one is = grind (arith, nat_te
 pub last_member : (p : Parse json.Json) (found : Members) (n : ℕ) (ts left : List Token) → length ts ≤ n → read_key ts ≡ Some (None, left) → converted (λ ms. of_members ms found) (members p n ts) ≡ Some (found, left)
 last_member p found n ts left enough over = ap (converted (λ ms. of_members ms found)) (members_end p n ts left enough over)
 
--- ---- where an item or a member has no data
+-- ---- an item or a member without data
 
 pub next_item_fails : (p : Parse json.Json) (n : ℕ) (ts : List Token) → after_end_array ts ≡ None → converted of_json (p ts) ≡ None → converted of_items (items p n ts) ≡ None
 unfolding items

@@ -21,7 +21,7 @@ formed s h = record { whole_digits = h; fraction_digits = tt; exponent_digits = 
 scan-digits : (s : List ℕ) → AllDigits 10 s → scan s ≡ digits s
 scan-digits s h = ap scan (sym (append-nil s)) ∙ scan-text_of (digits s) (formed s h)
 
--- what these texts are as integers, where the number is small
+-- what these texts are as integers, if the number is small
 pub integer_of-digits : (s : List ℕ) (n : ℕ) → AllDigits 10 s → 0 < length s → digits_value 10 s ≡ n → n < 10 ^ 18 → option_and_then as_i64 (number_of s) ≡ Some (pos n)
 unfolding number_of
 integer_of-digits s n h some is small = search (rules, scan-digits)

@@ -199,7 +199,7 @@ refused_no_end p = grind (arith, nat_tests)
 pub good : (t : read.Token) → (t ≡ read.TheVariants.Bad → ⊥) → is_good (token_of t) ≡ true
 good t h = grind (arith, nat_tests)
 
--- where all is refused, no token is left
+-- if all is refused, no token is left
 pub refused : (p next : Place) (t : List ℕ) (r : Option read.Token) → tokens_at p t ≡ refused_at p → Yields (refused_at p) r [] × (next ≡ Failed) → Yields (tokens_at p t) r (tokens_at next t)
 refused p next t r none h = subst (λ q. Yields (tokens_at p t) r (tokens_at q t)) (sym h.1) (subst (λ ts. Yields ts r []) (sym none) h.0)
 

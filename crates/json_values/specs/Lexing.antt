@@ -39,7 +39,7 @@ pub record IsNumberAt (text : List ℕ) (from end : ℕ) : Type 0 where
   pub number : IsNumber (piece text from end)
   pub ended : ends_word (drop end text) ≡ true
 
--- t is the token of the literal with this name: where the name stands before a delimiter, it is the first lexeme
+-- t is the token of the literal with this name: if the name stands before a delimiter, it is the first lexeme
 abbrev pub LiteralOf : List ℕ → Token → Type 0
 LiteralOf name t = (rest : List ℕ) → ends_word rest ≡ true → lex between (name ++ rest) ≡ token t ∷ lex between rest
 
@@ -75,7 +75,7 @@ may_begin Fresh = true
 may_begin AfterComma = true
 may_begin place = false
 
--- the tokens where none of those fits that may stand there
+-- the tokens if none of those fits that may stand there
 abbrev pub refused_at : Place → List Token
 refused_at Failed = []
 refused_at place = bad ∷ []

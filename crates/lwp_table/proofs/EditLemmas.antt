@@ -103,7 +103,7 @@ pub seen-all : (was now : ℕ → Option RowNode) (returns : LwpData → LwpData
     → may ≡ false → (s : ℕ) (slot : RowNode) → now s ≡ Some slot → slot.row.pid ≡ pid → slot.row.pending ≡ 0
 seen-all was now returns pid upto may walk seen none s slot there on = grind (arith, nat_tests, walk.near s (own_node slot), seen)
 
--- where no row of the process has pending signals, a change leaves the rows if it leaves such rows
+-- if no row of the process has pending signals, a change leaves the rows if it leaves such rows
 module _ (f : ℕ → Option RowNode) (es : List (ℕ × ℕ)) (births pid : ℕ) (quiet : (s : ℕ) (slot : RowNode) → f s ≡ Some slot → slot.row.pid ≡ pid → slot.row.pending ≡ 0) (change : LwpData → LwpData) (leaves : LeavesQuiet change) where
   pub rows-quiet : rows_of f es births ≡ map (own_lwp pid change) (rows_of f es births)
   rows-quiet = grind (arith, nat_tests, listing-mapped, born_in)

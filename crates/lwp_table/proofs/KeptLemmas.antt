@@ -39,7 +39,7 @@ pub first_there : (f : ℕ → Option RowNode) (p : ℕ) (o : Option ℕ) → Is
 first_there f p None near s slot there on = absurd (near s (own_node slot) (ap (option_map own_node) there) on tt)
 first_there f p (Some a) near s slot there on = refl
 
--- where processes are said to have no pending signals, one slot changes, and no more of them are said to
+-- if processes are said to have no pending signals, one slot changes, and no more of them are said to
 pub quiet_kept : (f g : ℕ → Option RowNode) (may more : ℕ → Bool) (q : ℕ) → ((s : ℕ) → s ≢ q → option_map face (g s) ≡ option_map face (f s))
     → ((s : ℕ) (slot : RowNode) → f s ≡ Some slot → may slot.row.pid ≡ false → slot.row.pending ≡ 0)
     → ((s : ℕ) (slot : RowNode) → g s ≡ Some slot → more slot.row.pid ≡ false → may slot.row.pid ≡ false)

@@ -1,4 +1,4 @@
--- Words on rows that proofs use in addition to those of Lwps, and how they agree where the LWPs' numbers differ.
+-- Words on rows that proofs use in addition to those of Lwps, and how they agree if the LWPs' numbers differ.
 use Rattle.lwp_table.proofs.CommonNames.{◌≡◌, ◌≢◌, ℕ, Bool, true, false, ◌||◌, not, List, [], ◌∷◌, None, refl, sym, arith, cond, nat_eq, is_some, rules, nat_tests, LwpData, lwp_of, first_lwp}
 use Rattle.lwp_table.proofs.CommonNames.{next_lwp, has_lwp}
 use Rattle.lwp_table.proofs.Numbered.{any-found}

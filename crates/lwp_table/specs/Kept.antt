@@ -115,7 +115,7 @@ pub record IsIndexed (f : ℕ → Option RowNode) (es : List (ℕ × ℕ)) (birt
   pub earlier : (s : ℕ) (slot : RowNode) → f s ≡ Some slot → slot.born < births
   pub apart : (i j : ℕ) (a b : RowNode) → f i ≡ Some a → f j ≡ Some b → a.born ≡ b.born → i ≡ j
 
--- what a table maintains, where `may` tells of each process whether its rows may have pending signals
+-- what a table maintains; `may` tells of each process whether its rows may have pending signals
 pub record LwpTableInvariant (f : ℕ → Option RowNode) (es : List (ℕ × ℕ)) (hs : List (ℕ × ListHead)) (births : ℕ) (users : List ListHead) (may : ℕ → Bool) : Type 0 where
   pub indexed : IsIndexed f es births
   pub own : (pid : ℕ) → IsChain (seen_by own_node f) pid (ends_at hs pid).first (ends_at hs pid).last
@@ -129,7 +129,7 @@ pub record LwpTableInvariant (f : ℕ → Option RowNode) (es : List (ℕ × ℕ
 abbrev pub rows_from : (ℕ → Option RowNode) → List (ℕ × ℕ) → ℕ → Option ℕ → List LwpData
 rows_from f es births link = option_map_or (λ slot. listing (born_row f es) slot.born (births - slot.born)) (option_and_then f link) []
 
--- what a walk along a list of slots maintains, where `node` is the slot as this list sees it
+-- what a walk along a list of slots maintains; `node` is the slot as this list sees it
 pub record IsWalk (f : ℕ → Option RowNode) (es : List (ℕ × ℕ)) (births : ℕ) (node : RowNode → Node) (list : ℕ) (link : Option ℕ) : Type 0 where
   pub indexed : IsIndexed f es births
   pub next_is : (s : ℕ) (slot : RowNode) → f s ≡ Some slot → (node slot).list ≡ list → IsNearest up (seen_by node f) list (above (node slot).key) (node slot).next

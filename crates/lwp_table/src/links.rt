@@ -246,7 +246,7 @@ pub fn leave(heads: &mut NumberIndex<ListHead>, gone: &RowNode)
     }
 }
 
-/// Tests whether a row of a list may have pending signals, where one before this row may have some or not.
+/// Tests whether a row of a list may have pending signals, if one before this row may have some or not.
 pub fn may_pend_with(before: bool, row: &LwpData) -> bool
     ensures { result ≡ (before || not (row.now.pending == 0)) }
 {

@@ -2,3 +2,6 @@ pub mod AnswerLemmas
 pub mod LineLemmas
 pub mod LawLemmas
 pub mod Crossing
+pub mod LineAnswers
+pub mod ScenarioLemmas
+pub mod TalkLemmas

@@ -14,7 +14,7 @@ abbrev pub line_reply : Result (ℕ × Reply) Fault → LineReply
 line_reply (Ok r) = Ok (record { uid = r.0; reply = r.1 })
 line_reply (Err f) = Err f
 
--- a line's answer, and the host after it. A step has the machine's reply and leaves the machine's host; or, where it
+-- a line's answer, and the host after it. A step has the machine's reply and leaves the machine's host; or, if it
 -- takes memory and the machine wouldn't refuse it, it runs out of memory and leaves the host as it was. A line that is
 -- not a step leaves the host as it was.
 pub data AnswersLine (text : List ℕ) (m : Machine) : LineReply → Machine → Type 0 where

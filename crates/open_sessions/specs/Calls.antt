@@ -13,7 +13,7 @@ pub record OpenSession : Type 0 where
 abbrev pub last_text : Style → OpenSession → List ℕ
 last_text style s = answer_text style s.made s.last
 
--- a step of a user was made: the reply and the host are the machine's; or, where the step takes memory and the machine
+-- a step of a user was made: the reply and the host are the machine's; or, if the step takes memory and the machine
 -- wouldn't refuse it, ENOMEM and the host as it was. The reply is counted, and is the last answer.
 pub record Steps (u : ℕ) (step : PlainStep) (s t : OpenSession) : Type 0 where
   pub reply : Reply

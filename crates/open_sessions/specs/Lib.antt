@@ -1,3 +1,6 @@
 pub mod Answers
 pub mod Calls
 pub mod Laws
+pub mod Turns
+pub mod Sessions
+pub mod LineLaws

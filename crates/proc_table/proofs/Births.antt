@@ -12,7 +12,7 @@ IsChain-empty : (m : ℕ → Option Member) (t : ℕ) → ((s : ℕ) (node : Mem
 IsChain-empty m t unnamed = grind (arith, nat_tests)
 
 module _ (f g : ℕ → Option Node) (q : ℕ) (others : (s : ℕ) → s ≢ q → g s ≡ f s) where
-  -- where the slot's node is in no list, the members stay
+  -- if the slot's node is in no list, the members stay
   members-kept : ((node : Node) → f q ≡ Some node → node.list_owner ≡ None) → ((node : Node) → g q ≡ Some node → node.list_owner ≡ None) → (s : ℕ) → members f s ≡ members g s
   members-kept was_free free s = grind (arith, nat_tests, as_member)
 

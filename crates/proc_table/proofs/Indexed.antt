@@ -1,7 +1,7 @@
 -- The set of the processes' numbers, after each edit of the rows.
 use Rattle.proc_table.proofs.CommonNames.{nat_tests, ◌≡◌, ℕ, ◌+◌, ◌-◌, ◌≤◌, true, false, List, map, arith, is_some, nat_eq, Some, None, ◌≢◌, filter, not, true≢false, ProcData, process_of, placed}
 use Rattle.proc_table.proofs.CommonNames.{Rise, put_process}
-use Rattle.bit_sets.specs.Members.{member}
+use Rattle.proc_table.specs.Members.{member}
 use Rattle.proc_table.proofs.Every.{some_of}
 use Rattle.proc_table.proofs.Rows.{is_process-map, put_process-pid}
 use Rattle.proc_table.proofs.Rising.{Lacks}

@@ -26,3 +26,4 @@ pub mod OwnRows
 pub mod LwpWalk
 pub mod Changes
 pub mod Stays
+pub mod Bits

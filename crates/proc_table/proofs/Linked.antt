@@ -1,4 +1,4 @@
--- What becomes of all lists where a node joins or leaves one.
+-- What becomes of all lists when a node joins or leaves one.
 use Rattle.proc_table.proofs.CommonNames.{◌≡◌, ◌≢◌, ℕ, ◌<◌, Option, Some, None, refl, sym, ap, ◌∙◌, arith, inl, inr, cond, is_none, rules, cases_lt, eqb_tells, nat_tests}
 use Rattle.proc_table.proofs.CommonNames.{some_pair_parts, same_Some, option_map, option_and_then, IsNearest, IsChain, up, down, above, below, leads_to, Node, keys, IsNext, members}
 use Rattle.proc_table.proofs.CommonNames.{at_least, IsLinked, forward, backward, hung}
@@ -73,7 +73,7 @@ module _ (f z : ℕ → Option Node) (linked : IsLinked f) (head t q : ℕ) (own
   members-here : members z q ≡ option_map (λ t. record { key = old.pid; list = t; prev = prev; next = next }) list_owner
   members-here = grind (arith, nat_tests, same_number)
 
-  -- the lists of all, where that of t and those of others are known
+  -- the lists of all, if that of t and those of others are known
   lists_changed : IsChain (members z) t (cond (is_none before) to own.first) (cond (is_none after) from own.last) → ((u : ℕ) (a b : Option ℕ) → u ≢ t → IsChain (members f) u a b → IsChain (members z) u a b) → IsLinked z
   lists_changed here others = record {
     apart = λ i j a b there_a there_b same. grind (arith, nat_tests, was i a there_a, was j b there_b, linked.apart i j);

@@ -1,4 +1,4 @@
--- A user's queries, where no other user has rows.
+-- A user's queries, if no other user has rows.
 use Rattle.proc_table.proofs.CommonNames.{nat_tests, ◌≡◌, ℕ, zero, suc, ◌+◌, ◌<◌, ◌≤◌, List, [], ◌∷◌, filter, find, Bool, true, false, ◌&&◌, leb, ltb, if◌then◌else◌, Option, Some, refl}
 use Rattle.proc_table.proofs.CommonNames.{ap₂, arith, nat_eq, rules, count_by, get_or, AllByRecursion, list_any, cases_Bool, IsUser, Block, pid_block, tid_block, slot, first_free}
 use Rattle.proc_table.proofs.CommonNames.{next_free, InBlock, ProcData, LwpData, of_user, Rows, owns, is_process, is_lwp, process_count, lwp_count_of, fresh_pid, fresh_tid, InOwnersBlock}
@@ -9,7 +9,7 @@ use Rattle.proc_table.proofs.Every.{every_found}
 use Rattle.proc_table.proofs.Finds.{equal_or_not}
 use Rattle.proc_table.proofs.Seen.{owns-kept}
 
--- where all that pass q pass p, those that fail p don't matter to q
+-- if all that pass q pass p, those that fail p don't matter to q
 module _ {A : Type 0} (q p : A → Bool) (P : A → Type 0) (narrow : (a : A) → P a → q a ≡ true → p a ≡ true) where
   pub find-only : (xs : List A) → AllByRecursion P xs → find q (filter p xs) ≡ find q xs
   find-only [] all = refl

@@ -11,7 +11,7 @@ process_of-pid n p ps found = found-number (λ (q : ProcData). q.pid) n p ps fou
 pub lwp_of-tid : (n : ℕ) (k : LwpData) (ls : List LwpData) → lwp_of n ls ≡ Some k → k.tid ≡ n
 lwp_of-tid n k ls found = found-number (λ (l : LwpData). l.tid) n k ls found
 
--- a number is that of a row where a row with it is found
+-- a number is that of a row if a row with it is found
 pub row_found : (n : ℕ) (ps : List ProcData) → list_any (λ p. nat_eq p.pid n) ps ≡ true → (p : ProcData) × (process_of n ps ≡ Some p)
 row_found n ps any = some_of (process_of n ps) (sym (any-found (λ p. nat_eq p.pid n) ps) ∙ any)
 

@@ -85,7 +85,7 @@ module _ (u : ℕ) where
   pub eq-kept : (o : Option ProcData) → option_eq nat_eq (option_map (λ (p : ProcData). p.uid) o) (Some u) ≡ is_some (keep its_user o)
   eq-kept o = grind (arith, nat_tests)
 
-  -- the number of the row that is seen, where one is
+  -- the number of the row that is seen, if one is
   pub pid-seen : (n : ℕ) (ps : List ProcData) → Rise ps → option_map (λ (p : ProcData). p.pid) (find (λ p. nat_eq p.pid n && nat_eq p.uid u) ps) ≡ cond (owns u n ps) (Some n) None
   pid-seen n ps r = search (rules, visible_process-kept, owns-kept, is_some, cases_Bool, process_of-pid)
 

@@ -98,7 +98,7 @@ module _ {f : ℕ → Option RowNode} {es : List (ℕ × ℕ)} {counts : List �
         let head = tied.are_linked.headed kin j its.0 t its.1 in
         grind (arith, nat_tests, head))
 
-  -- where no row names a number, no slot's list is its
+  -- if no row names a number, no slot's list is its
   pub nobody-names : (kin : ListKind) (t : ℕ) → next_named kin t 0 (all_rows (look (rows_of f) es)) ≡ None → (s : ℕ) (slot : RowNode) → f s ≡ Some slot → (node_of kin slot).list_owner ≢ Some t
   nobody-names kin t none s slot is names =
       let home = home-of s slot is in

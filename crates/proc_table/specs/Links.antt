@@ -39,11 +39,11 @@ pub record IsLinked (nodes : ℕ → Option Node) : Type 0 where
 abbrev pub at_least : ℕ → ℕ → Type 0
 at_least a p = a ≤ p
 
--- the node in slot s, after the link from `at` to what follows was changed; where `at` is none, it is the head's first link
+-- the node in slot s, after the link from `at` to what follows was changed; if `at` is none, it is the head's first link
 abbrev pub forward : ℕ → Option ℕ → Option ℕ → ℕ → Node → Node
 forward head at to s node = record node { first = if nat_eq head s && is_none at then to else node.first; next = if leads_to at s then to else node.next }
 
--- and after the link from `at` to what precedes was changed; where `at` is none, it is the head's last link
+-- and after the link from `at` to what precedes was changed; if `at` is none, it is the head's last link
 abbrev pub backward : ℕ → Option ℕ → Option ℕ → ℕ → Node → Node
 backward head at to s node = record node { last = if nat_eq head s && is_none at then to else node.last; prev = if leads_to at s then to else node.prev }
 

@@ -14,8 +14,8 @@ ghost use Rattle.proc_table.specs.Edits.{map_lwps, IsLwpChange};
 ghost use Rattle.proc_table.specs.Kept.{TableInvariant, IsRow, InOwnBlock, Named, put_process, set_process, set_lwp, drop_process, drop_lwp};
 
 use crate::ProcData;
+use crate::bit_sets::NumberSet;
 use crate::processes::Processes;
-use bit_sets::NumberSet;
 use lwp_table::{LwpData, LwpTable, OfUser};
 use pid_blocks::{
     FIRST_PID, FIRST_TID, PIDS, Pid, TIDS, Tid, Uid, cursor_after, next_free, pid_block, tid_block,
@@ -231,7 +231,7 @@ impl Tables {
         if self.owns(uid, pid) { Some(pid) } else { None }
     }
 
-    /// Returns the user's process with the number, or with an LWP of that number where it is above 99999.
+    /// Returns the user's process with the number, or with an LWP of that number if it is above 99999.
     pub fn find_seen(&self, uid: Uid, number: u32) -> Option<Pid>
         ensures seen { result ≡ find_seen uid number self.now.rows }
         ensures kept { TableInvariant self.now.rows }

@@ -60,7 +60,7 @@ index_of (Some i) = natural i
 abbrev pub pass_of : ℕ → Json
 pass_of s = if s == 0 then null else object_of (signal_members s)
 
--- the decision, and the signal that is passed on where the process is resumed
+-- the decision, and the signal that is passed on if the process is resumed
 abbrev pub decision_members : Decision → List Member
 decision_members decision.Decline = (codes "decision", string (codes "decline")) ∷ []
 decision_members decision.Leave = (codes "decision", string (codes "leave")) ∷ []

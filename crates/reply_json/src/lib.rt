@@ -1,4 +1,10 @@
-//! Replies as JSON objects. docs/JSON.md lists their members.
+//! Replies as JSON objects. docs/FORMAT.md lists their members.
+//!
+//! It appends a reply's object to a text, with the kit's `json` for numbers and escapes. It is apart from
+//! `step_types`, since most users of replies want no JSON.
+//!
+//! Begin with `objects`. The main clause of `push_reply`: the text is that of the definition (specs/Objects), which
+//! names each member once.
 #![tactic(auto)]
 
 mod arrays;

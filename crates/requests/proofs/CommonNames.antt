@@ -41,14 +41,14 @@ pub use Rattle.trace_rows.proofs.SoundAfterPost.{detach_sound, end_at, post_soun
 pub use Rattle.trace_rows.proofs.Settling.{disposed_sound, redisposed_lwp, settle_sound, zero_apart}
 pub use Rattle.trace_rows.proofs.Single.{OneLwp, OneProcess, lwp_sound, process_sound}
 pub use Rattle.trace_rows.proofs.SoundAfterStop.{find_passes, may_stop, run_quiet, sound_ready, stopped_sound}
-pub use Rattle.row_isolation.proofs.IsolationOfEdits.{Stays, branch_rows, change_same, kin_of, lwp_added_same, lwp_removed_same, lwp_same_after, process_added_same, process_same_after, put_at}
-pub use Rattle.row_isolation.proofs.IsolationOfEdits.{slots_differ, stays_if}
-pub use Rattle.row_isolation.proofs.FilteredLists.{All-where, any_only, every, filter-all, filter_only, filter_same}
-pub use Rattle.row_isolation.proofs.SoundRowsAreApart.{live_owner, lwps_seen, owns_block, owns_owner, pid_in_block, sound_closed, tid_in_block}
-pub use Rattle.row_isolation.proofs.IsolationRelation.{Kept, Sim, at_number, each_same, either, is_own, lwp_query, lwps_query, named, not_own, own, own_lwp, process_same, row_query, rows_query}
+pub use Rattle.trace_rows.proofs.IsolationOfEdits.{Stays, branch_rows, change_same, kin_of, lwp_added_same, lwp_removed_same, lwp_same_after, process_added_same, process_same_after, put_at}
+pub use Rattle.trace_rows.proofs.IsolationOfEdits.{slots_differ, stays_if}
+pub use Rattle.trace_rows.proofs.FilteredLists.{All-where, any_only, every, filter-all, filter_only, filter_same}
+pub use Rattle.trace_rows.proofs.SoundRowsAreApart.{live_owner, lwps_seen, owns_block, owns_owner, pid_in_block, sound_closed, tid_in_block}
+pub use Rattle.trace_rows.proofs.IsolationRelation.{Kept, Sim, at_number, each_same, either, is_own, lwp_query, lwps_query, named, not_own, own, own_lwp, process_same, row_query, rows_query}
 pub use Rattle.wait4.proofs.SoundAfterCollect.{by_kept, collect_sound}
 pub use Rattle.requests.specs.Actors.{HasLwp, IsActing}
-pub use Rattle.requests.specs.Calls.{collect_reply, is_refused, list, sigaction, spawn, spawn_with, wait}
+pub use Rattle.requests.specs.{Sigaction.is_refused, Sigaction.sigaction, Wait.collect_reply, Wait.wait, Spawn.spawn, Spawn.spawn_with, List.list}
 pub use Rattle.requests.specs.Handle.{decided, done, handled_by, handles, handles_status, handles_stop, install, policies_in, policies_of, view_of, handle}
 pub use Rattle.step_types.specs.{Plain.caller_of, Plain.installs, Replies.is_memory, Replies.is_refusal, Status.no_options}
 pub use Rattle.requests.specs.Hosts.{Steps, Tries, machine_of}
@@ -60,7 +60,7 @@ pub use Rattle.requests.specs.Memory.{Attempts, attempted_reply, may_want, takes
 pub use Rattle.requests.specs.Outcome.{Gives, Outcome, answers, refuses, stops_or, stops_with, trap}
 pub use Rattle.requests.specs.Ptrace.{about, attach, bad_argument, closes_chain, command, commands, commands_stopped, does, is_attach, is_trace_me, ptrace, resumes, set_mask}
 pub use Rattle.requests.specs.Ptrace.{shows_info, stop_first, suspend, switched, target_of, trace_me, traced_by, with_signal}
-pub use Rattle.requests.specs.Reach.{is_which, kill, next_other, post_all, post_if_live, reach, reached}
+pub use Rattle.requests.specs.Kill.{is_which, kill, next_other, post_all, post_if_live, reach, reached}
 pub use Rattle.requests.specs.Sound.{sound, sound_installed}
 pub use Rattle.requests.specs.Step.{calls, checked, step, step_of, uncalled}
 pub use Rattle.requests.specs.Turn.{acts, computes, due_or_more, due_stop, in_user_mode, job_stops, next_signal, plain, raises, signal_or_act, takes, takes_by_default, takes_untraced, turn, turn_by}

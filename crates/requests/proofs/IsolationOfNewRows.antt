@@ -5,7 +5,7 @@ use Rattle.requests.proofs.CommonNames.{placed, Rows, owns, seen_lwp, is_process
 use Rattle.requests.proofs.CommonNames.{own_lwp, is_own, named, lwp_query, process_added_same, lwp_added_same, count-cons, and_left, and_right, by_bool, choose_both, Reply, Outcome, answers, pid_in_block}
 use Rattle.requests.proofs.CommonNames.{tid_in_block, owns_owner}
 use Rattle.std.proofs.Math.Path.{fun_ext}
-use Rattle.row_isolation.proofs.FilteredLists.{find_some}
+use Rattle.trace_rows.proofs.FilteredLists.{find_some}
 use Rattle.trace_rows.proofs.Placed.{process_of-placed}
 
 -- Branches

@@ -1,4 +1,4 @@
--- AllByRecursion step, on all rows and on a user's.
+-- Every step, on all rows and on a user's.
 use Rattle.requests.proofs.CommonNames.{is_some, traces, reported_stop}
 use Rattle.requests.proofs.CommonNames.{rules, nat_tests, ◌≡◌, ℕ, ℤ, pos, negsuc, List, [], ◌∷◌, map, take, true, false, ◌==◌, ◌&&◌, not, leb, if◌then◌else◌, Option, Some, None, IfSome, refl, sym, ap}
 use Rattle.requests.proofs.CommonNames.{◌∙◌, eqb-true, subst, eq-eqb, arith, pid_owner, tid_owner, EventMask, PTRACE_SCE, PTRACE_SCX, PTRACE_FORK, PTRACE_LWP, mask_with, SIGKILL, set_disposition}
@@ -10,11 +10,11 @@ use Rattle.requests.proofs.CommonNames.{handles_status, handles, no_options, Goo
 use Rattle.requests.proofs.CommonNames.{process_same_after, lwp_same_after, and_left, and_right, pid_in_block, tid_in_block, AllByRecursion, Reply, option_map}
 use Rattle.lwp_table.specs.Lwps.{lwps_of}
 use Rattle.proc_table.specs.Processes.{is_this, reporting}
-use Rattle.row_isolation.proofs.FilteredLists.{find_some}
-use Rattle.row_isolation.proofs.IsolationOfSignals.{settle_same, own_some}
-use Rattle.row_isolation.proofs.IsolationOfEnds.{meets_same, post_same, stop_same, resume_same, detach_same}
+use Rattle.trace_rows.proofs.FilteredLists.{find_some}
+use Rattle.trace_rows.proofs.IsolationOfSignals.{settle_same, own_some}
+use Rattle.trace_rows.proofs.IsolationOfEnds.{meets_same, post_same, stop_same, resume_same, detach_same}
 use Rattle.wait4.proofs.IsolationOfReports.{collect_same, reported_same, reported_some, rows_after_same}
-use Rattle.requests.proofs.Room.{ProcessRoom, process_room}
+use Rattle.requests.proofs.RoomForProcess.{ProcessRoom, process_room}
 use Rattle.requests.proofs.IsolationOfNewRows.{Same, answered, branch, seen_lwp_same, seen_lwp_some, lwp_count_same, room_for_process_same, born_same}
 
 pub seen_same : {u : ℕ} {start c v : Rows} → Sim u start c v → (n : ℕ) → visible_process u n c ≡ visible_process u n v

@@ -6,9 +6,9 @@ use Rattle.requests.proofs.CommonNames.{add_process, Settings, released, StopInf
 use Rattle.requests.proofs.CommonNames.{with_child, forks, exec_rows, makes_lwp, exits_lwp, leaves, due_at_birth, waits, due_stop, next_signal, without_signal, plain, job_stops, takes_by_default}
 use Rattle.requests.proofs.CommonNames.{takes_untraced, acts, signal_or_act, due_or_more, turn_by, turn_seen, turn, GoodProc, GoodLwp, LiveRow, Sim, named, process_same, at_number, each_same, choose}
 use Rattle.requests.proofs.CommonNames.{run_quiet, waited_for, kin_of, branch_rows, process_same_after, lwp_same_after, lwp_removed_same, lwp_added_same, pid_in_block, tid_in_block, Due, option_map}
-use Rattle.row_isolation.proofs.IsolationOfSignals.{settle_same, notified_same}
-use Rattle.row_isolation.proofs.IsolationOfEnds.{end_same, released_kin, released_foreign, post_same, stop_same}
-use Rattle.requests.proofs.Room.{LwpRoom, ProcessRoom, lwp_room, process_room}
+use Rattle.trace_rows.proofs.IsolationOfSignals.{settle_same, notified_same}
+use Rattle.trace_rows.proofs.IsolationOfEnds.{end_same, released_kin, released_foreign, post_same, stop_same}
+use Rattle.requests.proofs.RoomForProcess.{LwpRoom, ProcessRoom, lwp_room, process_room}
 use Rattle.requests.proofs.IsolationOfNewRows.{Same, answered, branch, seen_lwp_same, seen_lwp_some, lwp_count_same, room_for_lwp_same, room_for_process_same, born_same}
 
 -- an LWP of u, and its process, in the rows at the turn's beginning

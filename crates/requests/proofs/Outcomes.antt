@@ -183,7 +183,7 @@ reached_fair settings s (p ∷ ps) rows = record { same = λ is. absurd (true≢
 pub kill_fair : (settings : Settings) (u caller : ℕ) (which : ℤ) (s : ℕ) (rows : Rows) → Fair (λ r. s == 9) rows (kill settings u caller which s rows)
 kill_fair settings u caller which s rows = choose (not (leb s 31) || not (is_which which)) _ _ (Fair (λ r. s == 9) rows) (left (λ r. s == 9) rows (Reply.Errno EINVAL) refl) (reached_fair settings s (reach u caller which rows) rows)
 
--- only a zombie goes where it is collected
+-- only a zombie goes when it is collected
 report_live : (caller : ℕ) (o : Option ProcData) (rows : Rows) → Lives rows.processes (without_report caller o rows).processes
 report_live caller None rows = all_live rows.processes
 report_live caller (Some p) rows = live_then (live_edit (λ q. if q.pid == p.pid then collected caller q else Some q) (λ q live. grind (arith, nat_tests, live)) rows.processes) (live_notified (told caller p) _)

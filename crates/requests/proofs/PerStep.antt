@@ -8,7 +8,7 @@ use Rattle.requests.proofs.SoundWithoutEnded.{rows_sound, after_sound}
 use Rattle.step_types.proofs.Replies.{other}
 use Rattle.requests.proofs.IsolationOfTurns.{turn_same}
 use Rattle.requests.proofs.IsolationOfSteps.{spawn_same, list_same, sigaction_same, wait_same, kill_same, ptrace_same, handle_same}
-use Rattle.requests.proofs.Born.{spawn_sound}
+use Rattle.requests.proofs.SoundAfterSpawn.{spawn_sound}
 use Rattle.requests.proofs.SoundAfterCall.{sigaction_rows, wait_rows}
 use Rattle.requests.proofs.SoundAfterKill.{kill_rows, installed_sound}
 use Rattle.requests.proofs.SoundAfterHandle.{handles_sound}

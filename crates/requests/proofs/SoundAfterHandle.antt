@@ -31,12 +31,12 @@ module _ (settings : Settings) (caller : ℕ) (policies : List (List Rule)) (row
     same_pid : (q : ProcData) → IfSome (to q) (λ r. (r.pid == p.pid) ≡ (q.pid == p.pid))
     same_pid q = by_kept caller p q (λ o. IfSome o (λ r. (r.pid == p.pid) ≡ (q.pid == p.pid))) (λ no. tt) (λ r k. ap (λ n. n == p.pid) k.pid)
 
-    -- the row of what was collected, where it is left
+    -- the row of what was collected, if it is left
     pub row_left : (z : ProcData) → wait.collected caller p ≡ Some z → (m : ℕ) × (process_of p.pid after.processes ≡ Some (record z { pending = m }))
     row_left z is = subst (λ (r : Rows). (m : ℕ) × (process_of p.pid r.processes ≡ Some (record z { pending = m }))) (ap (λ o. wait.without_report caller o rows) (sym found))
         (heard (each to (λ q l. Some l) rows) (told caller p) p.pid z (find_edit (λ q. q.pid == p.pid) to same_pid rows.processes p z (reported_row rows caller (negsuc 0) no_options p s.stands.rising found) (rw (eq-eqb p.pid p.pid refl) is)))
 
-    -- it is gone where it is not left
+    -- it is gone if it is not left
     row_gone : wait.collected caller p ≡ None → process_of p.pid after.processes ≡ None
     row_gone gone = grind (arith, nat_tests, reported_row, process_edited, eq-eqb, choose, rise_edited, wait.without_report, by_kept)
 

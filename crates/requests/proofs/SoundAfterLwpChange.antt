@@ -5,8 +5,8 @@ use Rattle.requests.proofs.CommonNames.{lwp_count, InOwnBlock, Settings, StopInf
 use Rattle.requests.proofs.CommonNames.{some_is, one_gone, Row, Beside, Same, Like, Stay, KeptRow, KeptLwp, nobody, holds_sound, sound_holds, row_is, like_self, kept_row, kept_all, kept_lwp}
 use Rattle.requests.proofs.CommonNames.{none_gone, no_ring, stay_where, edit_holds, lwps_alone, own_lwps, zero_apart, Outcome, due_stop, in_mode, due_at_birth, exits_lwp, nat_tests, Due, find-append}
 use Rattle.trace_rows.proofs.SoundAfterThread.{joined_sound}
-use Rattle.requests.proofs.Acting.{Acting, its_live, its_quiet, lwp_fit, lwp_stands, acting_lwp, acting_stops}
-use Rattle.requests.proofs.Room.{LwpRoom}
+use Rattle.requests.proofs.SoundAfterActing.{Acting, its_live, its_quiet, lwp_fit, lwp_stands, acting_lwp, acting_stops}
+use Rattle.requests.proofs.RoomForProcess.{LwpRoom}
 use Rattle.requests.proofs.SoundAfterSignal.{end_sound}
 
 pub find_more : {X : Type 0} (q : X → Bool) (xs ys : List X) (x : X) → find q xs ≡ Some x → find q (xs ++ ys) ≡ Some x
@@ -25,7 +25,7 @@ module _ (rows : Rows) (p : ProcData) (l : LwpData) (a : Acting rows p l) where
   due_sound shown is = acting_stops (change_lwp l.tid (λ k. record k { due = Due.Nothing }) rows) p (record l { due = Due.Nothing }) (acting_lwp rows p l a (λ k. record k { due = Due.Nothing }) (record { same = λ k. (refl, refl, refl); waits = (lwp_stands rows p l a).waits; fit = λ fit. grind (arith, nat_tests) })) shown
       (grind (arith, nat_tests, due_shown l.due shown is, lwp_fit rows p l a)) (grind (arith, nat_tests, due_shown l.due shown is))
 
-  -- where LWPs of the process alone go, of which one stays, or its row is changed, and it reports nothing
+  -- if LWPs of the process alone go, of which one stays, or its row is changed, and it reports nothing
 
   pub its_number : (q : ProcData) → Row rows FitProcess q → (q.pid == p.pid) ≡ true → p ≡ q
   its_number q row is = sym (row_is row a.home (eqb-true q.pid p.pid is))
@@ -38,7 +38,7 @@ module _ (rows : Rows) (p : ProcData) (l : LwpData) (a : Acting rows p l) where
   pub quiet_row : {after : Rows} {P' : ProcData → Type 0} (q r : ProcData) → Row rows FitProcess q → (q.pid == p.pid) ≡ true → Like q r → reporting r ≡ reporting q → 1 ≤ lwp_count p.pid after → P' r → KeptRow rows after nobody P' q r
   quiet_row {after} {P'} q r row mine like report some fits = search (rules, kept_row, its_number, its_quiet)
 
-  -- an LWP's exit, where it isn't the last one
+  -- an LWP's exit, if it isn't the last one
 
   abbrev gone : ProcData → LwpData → Option LwpData
   gone q x = if x.tid == l.tid then None else Some x

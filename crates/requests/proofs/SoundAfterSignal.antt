@@ -6,7 +6,7 @@ use Rattle.requests.proofs.CommonNames.{pending_fits, end_at, post_sound, Outcom
 use Rattle.signals.proofs.Members.{lowest-some}
 use Rattle.trace_rows.proofs.Bits.{without_apart, without_less}
 use Rattle.trace_rows.proofs.SoundAfterNotify.{live_told, notified_sound}
-use Rattle.requests.proofs.Acting.{Acting, its_live, its_quiet, its_fit, lwp_stands, lwp_fit, acting_lwp, acting_process, acting_stops}
+use Rattle.requests.proofs.SoundAfterActing.{Acting, its_live, its_quiet, its_fit, lwp_stands, lwp_fit, acting_lwp, acting_process, acting_stops}
 use Rattle.requests.proofs.SoundAfterMask.{stepless_fits}
 
 -- the row of the process and that of the LWP, with the same numbers and the same tracer and parent

@@ -10,7 +10,7 @@ use Rattle.requests.proofs.CommonNames.{VforkWait, is_run, seen_lwp, Settings, s
 use Rattle.requests.proofs.CommonNames.{makes_lwp, leaves, waits, due_stop, without_signal, acts, signal_or_act, due_or_more, turn_of, turn, Machine, sound, step, act_fits, Step, Reply}
 use Rattle.trace_rows.proofs.Settling.{redisposed as redisposed_fits}
 use Rattle.trace_rows.proofs.SoundAfterEnds.{released_same, released_flags, released_fits, released_waits}
-use Rattle.requests.proofs.Acting.{Acting, owner_is, its_live, lwp_fit, seen_acting, its_fit, stops_or_sound, entry_may, exit_may, goes_on, same_may, exit_word}
+use Rattle.requests.proofs.SoundAfterActing.{Acting, owner_is, its_live, lwp_fit, seen_acting, its_fit, stops_or_sound, entry_may, exit_may, goes_on, same_may, exit_word}
 use Rattle.requests.proofs.SoundAfterMask.{changed_process, changed_lwp}
 use Rattle.requests.proofs.SoundAfterSignal.{Alike, alike_of, end_sound, taken_alike, next_is_signal, takes_sound, raise_sound, block_sound, compute_sound}
 use Rattle.requests.proofs.SoundAfterLwpChange.{its_number, quiet_lwp, quiet_row, find_more, its_user, in_mode_acting, due_sound, exits_lwp_sound, joined_acting}
@@ -18,7 +18,7 @@ use Rattle.std.specs.Option.{IsSomeAnd}
 use Rattle.trace_rows.proofs.Children.{child_test, child_passes}
 use Rattle.trace_rows.proofs.Placed.{process_of-other, process_of-placed}
 use Rattle.trace_rows.proofs.SoundAfterSpawn.{born_sound}
-use Rattle.requests.proofs.Room.{ProcessRoom, LwpRoom, lwp_room, process_room}
+use Rattle.requests.proofs.RoomForProcess.{ProcessRoom, LwpRoom, lwp_room, process_room}
 use Rattle.requests.proofs.SoundAfterCall.{live_row}
 use Rattle.requests.proofs.SoundWithoutEnded.{rows_sound, after_sound}
 
@@ -96,7 +96,7 @@ module _ (rows : Rows) (p : ProcData) (l : LwpData) (a : Acting rows p l) where
 
 -- ---- A fork keeps rows sound.
 
--- A row where SIGCHLD is posted, to it or to others, has other pending signals at most
+-- After SIGCHLD was posted, to it or to others, a row has other pending signals at most
 pub heard : (rows : Rows) (pids : List ℕ) (n : ℕ) (p : ProcData) → process_of n rows.processes ≡ Some p → (m : ℕ) × (process_of n (notified pids rows).processes ≡ Some (record p { pending = m }))
 heard rows pids n p at = grind (arith, nat_tests, choose (list_any (λ m. m == p.pid) pids) (posted_process SIGCHLD None p) p (λ q. (m : ℕ) × (q ≡ record p { pending = m })) (λ e. (_, refl)) (λ e. (p.pending, refl)), changed_process n (λ q. list_any (λ m. m == q.pid) pids) (posted_process SIGCHLD None) (posted_lwp SIGCHLD None) rows p (λ q. refl) at)
 

@@ -59,7 +59,7 @@ after_sound m o is s = both (sound_rows o.rows) (sound_installed (after m o).mac
 live_number : (rows : Rows) (u n : ℕ) → IsLiveOf rows u n → is_live_at n rows ≡ true
 live_number rows u n is = search (rules, any_more, both, and_left, and_right)
 
--- no pair of a user goes where each live process stays live
+-- no pair of a user goes if each live process stays live
 pub left_live : (m : Machine) → sound m ≡ true → (rows : Rows) → ((n : ℕ) → is_live_at n m.rows ≡ true → is_live_at n rows ≡ true) → (u : ℕ) → IsUser u → filter (λ i. is_live_at i.debugger rows) (installed_by u m) ≡ installed_by u m
 left_live m is rows stays u user = filter-all (λ i. is_live_at i.debugger rows) (λ i. is_live_of m.rows u i.debugger ≡ true) (λ i was. stays i.debugger (live_number m.rows u i.debugger was)) (installed_by u m) (live_pairs m is u user)
 

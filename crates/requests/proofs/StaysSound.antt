@@ -1,6 +1,6 @@
 -- Every step keeps a host sound.
 use Rattle.requests.proofs.CommonNames.{◌≡◌, [], ◌∷◌, true, sym, subst, sound, SoundKept, SoundRuns, step_fits, step, step_of, list}
-use Rattle.requests.proofs.Born.{spawn_sound}
+use Rattle.requests.proofs.SoundAfterSpawn.{spawn_sound}
 use Rattle.requests.proofs.PerStep.{by_step, calls_sound}
 use Rattle.requests.proofs.SoundAfterCall.{checked_sound}
 use Rattle.requests.proofs.SoundAfterTurn.{turn_sound}

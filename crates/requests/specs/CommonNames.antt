@@ -41,7 +41,7 @@ pub use Rattle.step_types.specs.{Events.event_name, Plain.PlainStep, Plain.bare,
 pub use Rattle.step_types.specs.{declared.Options.Options, declared.Reply.Reply, declared.Request.Request, declared.Settings.Settings, declared.StatusKind.StatusKind}
 pub use Rattle.step_types.specs.{declared.step.Step.Step}
 pub use Rattle.trace_rows.specs.{Detach.signal_alone, declared.Resumption.Resumption, declared.StopInfo.StopInfo, declared.Stepping.Stepping}
-pub use Rattle.row_isolation.specs.Closed.{Closed, GoodLwp, GoodProc, LiveOwner, LiveRow}
+pub use Rattle.trace_rows.specs.Closed.{Closed, GoodLwp, GoodProc, LiveOwner, LiveRow}
 pub use Rattle.lwpinfo.specs.Info.{info, lwp_info, lwp_list}
 pub use Rattle.wait4.specs.Collect.{answer, candidates, collect, fits, is_child, reportable, reported, rows_after, told, without_report}
 pub use Rattle.wait4.specs.declared.Collected.{Collected}

@@ -9,7 +9,7 @@ use Rattle.requests.specs.Step.{Machine, step}
 abbrev pub RefusalChangesNothing : Type 0
 RefusalChangesNothing = (u : ℕ) (s : PlainStep) (m : Machine) → IsUser u → sound m ≡ true → is_refusal (step u s m).reply ≡ true → (step u s m).machine ≡ m
 
--- a step that answers Nothing, as a wait or a handle does where no child has something to report, changes nothing
+-- a step that answers Nothing, as a wait or a handle does if no child has something to report, changes nothing
 abbrev pub NoReportChangesNothing : Type 0
 NoReportChangesNothing = (u : ℕ) (s : PlainStep) (m : Machine) → sound m ≡ true → (step u s m).reply ≡ Reply.Nothing → (step u s m).machine ≡ m
 

@@ -45,8 +45,8 @@ fn compute(tables: &mut Tables, p: &ProcData, l: &LwpData) -> Reply
     stop_with(tables, p, l, &plain(Signal::TRAP))
 }
 
-/// Raise: posts a signal to the LWP itself. Refused with EINVAL where the number is not a signal's.
-#[tactic(auto, using(crate::proofs::Actors::runs_live))]
+/// Raise: posts a signal to the LWP itself. Refused with EINVAL if the number is not a signal's.
+#[tactic(auto, using(crate::proofs::HasLwpAfterChange::runs_live))]
 fn raise(tables: &mut Tables, settings: Settings, number: u32, p: &ProcData, l: &LwpData) -> Reply
     requires sound { IsSound tables.old.rows }
     requires acting { IsActing p.now l.now tables.old.rows }
@@ -81,7 +81,7 @@ fn enter(tables: &mut Tables, call: Call, p: &ProcData, l: &LwpData) -> Reply
     requires { IsActing p.now l.now tables.old.rows }
     ensures { Gives (enters call p.now l.now tables.old.rows) tables.new.rows result }
 {
-    set_mode(tables, p.pid, l.tid, Mode::InCall(call));
+    set_mode(tables, l.tid, Mode::InCall(call));
     match entry_flags(p.mask) {
         Some(flags) => stop_with(tables, p, l, &trap(flags, 0, call)),
         None => Reply::Done,

@@ -1,6 +1,6 @@
 //! The work of a step, by its kind.
 
-ghost use Rattle.std.specs.Prelude.{◌≡◌, ◌≤◌, [], None, false, length, get_or};
+ghost use Rattle.std.specs.Prelude.{◌≡◌, ◌≤◌, [], None, true, false, length, get_or, is_some};
 ghost use Rattle.pid_blocks.specs.Blocks.{slot};
 ghost use Rattle.trace_rows.specs.Facts.{IsSound};
 ghost use Rattle.requests.specs.Callers.{IsCaller};
@@ -11,14 +11,15 @@ ghost use Rattle.step_types.specs.Plain.{bare};
 ghost use Rattle.requests.specs.Step.{calls, uncalled};
 ghost use Rattle.step_types.specs.Plain.{caller_of, installs};
 
-use crate::calls::{sigaction, wait};
-use crate::commands::ptrace;
-use crate::deciding::handle;
+use crate::handle::handle;
 use crate::handlers::HandlerTable;
-use crate::lists::list;
-use crate::lwp_turns::turn;
-use crate::sends::kill;
-use crate::spawns::spawn;
+use crate::kill::kill;
+use crate::list::list;
+use crate::ptrace::ptrace;
+use crate::sigaction::sigaction;
+use crate::spawn::spawn;
+use crate::turn::turn;
+use crate::wait::wait;
 use crate::{Reply, Step};
 use pid_blocks::Uid;
 use proc_table::{ProcData, Tables};
@@ -60,13 +61,13 @@ pub fn called<F: Decider + Send + Drop, H>(
     requires sound { IsSound tables.old.rows }
     requires few { length (get_or handlers.now (slot user) []) ≤ 64 }
     requires caller { IsCaller user caller.now tables.old.rows }
+    requires asked { is_some (caller_of (bare step.now)) ≡ true }
     requires other { installs (bare step.now) ≡ false }
     ensures { let m = machine_of settings tables.old handlers.now in
         Attempts (takes_memory user (bare step.now) m) (outcome_of (calls user (bare step.now) caller.now m)) tables.old.rows
         tables.new.rows result }
 {
     match *step {
-        Step::Spawn => spawn(tables, user),
         Step::List { .. } => list(tables, alloc, user),
         Step::Sigaction {
             sig,
@@ -75,7 +76,6 @@ pub fn called<F: Decider + Send + Drop, H>(
         } => Ok(sigaction(tables, caller, sig, disposition)),
         Step::Kill { which, sig, .. } => Ok(kill(tables, settings, user, caller.pid, which, sig)),
         Step::Wait4 { which, options, .. } => Ok(wait(tables, caller, which, options)),
-        Step::Install { .. } => unreachable!(),
         Step::Handle { .. } => Ok(handle(tables, handlers, settings, user, caller)),
         Step::Ptrace {
             request,
@@ -83,6 +83,6 @@ pub fn called<F: Decider + Send + Drop, H>(
             arg,
             ..
         } => ptrace(tables, alloc, settings, user, caller, request, target, arg),
-        Step::Turn { tid, act } => turn(tables, settings, user, tid, act),
+        _ => unreachable!(),
     }
 }

@@ -23,7 +23,7 @@ use trace_rows::settle;
 use trace_stop::release;
 
 /// Returns the oldest LWP of the process whose number differs from `tid`.
-#[tactic(auto, using(std::proofs::lemmas::Bool::Decides::nat_tests, crate::proofs::Programs::other_none, crate::proofs::Programs::other_first, crate::proofs::Programs::other_next))]
+#[tactic(auto, using(std::proofs::lemmas::Bool::Decides::nat_tests, crate::proofs::RunProgram::other_none, crate::proofs::RunProgram::other_first, crate::proofs::RunProgram::other_next))]
 fn other_lwp(tables: &Tables, pid: Pid, tid: Tid) -> Option<LwpData>
     requires { HasLwp pid tid tables.now.rows }
     ensures other { result ≡ find (is_other pid tid) tables.now.rows.lwps }
@@ -40,7 +40,7 @@ fn other_lwp(tables: &Tables, pid: Pid, tid: Tid) -> Option<LwpData>
 }
 
 /// Removes the other LWPs of a process.
-#[tactic(auto, using(crate::proofs::Programs::other_there, crate::proofs::Programs::other_left, crate::proofs::Programs::other_dropped, crate::proofs::Programs::others_none))]
+#[tactic(auto, using(crate::proofs::RunProgram::other_there, crate::proofs::RunProgram::other_left, crate::proofs::RunProgram::other_dropped, crate::proofs::RunProgram::others_none))]
 fn keep_lwp(tables: &mut Tables, pid: Pid, tid: Tid)
     requires { HasLwp pid tid tables.old.rows }
     ensures rows { tables.new.rows ≡ only_lwp pid tid tables.old.rows }
@@ -81,7 +81,7 @@ fn run_program(tables: &mut Tables, p: &ProcData, l: &LwpData)
     ensures rows { tables.new.rows ≡ exec_rows p.now l.now tables.old.rows }
     ensures there { HasLwp p.now.pid l.now.tid tables.new.rows }
 {
-    set_mode(tables, p.pid, l.tid, Mode::User);
+    set_mode(tables, l.tid, Mode::User);
     keep_lwp(tables, p.pid, l.tid);
     release_parent(tables, p);
     drop_handlers(tables, p.pid);

@@ -15,7 +15,7 @@ use stop_handlers::{ByPolicy, Decider, Decision, Handler, Policy, StopView};
 /// The answer of a debugger's handlers about a stop.
 #[derive(Clone, Copy, Debug, PartialEq, Eq, Drop)]
 pub struct Decided {
-    /// The index, from 0, of the deciding handler among the debugger's; `None` where all decline.
+    /// The index, from 0, of the deciding handler among the debugger's; `None` if all decline.
     pub index: Option<u32>,
     pub decision: Decision,
 }

@@ -157,7 +157,7 @@ impl<F: Decider + Send + Drop> Host<F> {
         Ok(asking)
     }
 
-    /// Installs a handler of the caller. Refused with EAGAIN where the user's debuggers have 64. An error means out of
+    /// Installs a handler of the caller. Refused with EAGAIN if the user's debuggers have 64. An error means out of
     /// memory, and changes nothing.
     fn install(&mut self, user: Uid, number: u32, handler: Handler<F>) -> Result<Reply, AllocError>
         requires { IsUser user }

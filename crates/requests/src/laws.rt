@@ -12,7 +12,7 @@ pub fn stays_sound()
 {}
 
 /// An unused host is sound, and so is a sound host after any list of steps.
-#[tactic(auto, using(crate::proofs::Born::empty_sound))]
+#[tactic(auto, using(crate::proofs::SoundAfterSpawn::empty_sound))]
 pub fn runs_stay_sound()
     ensures first { SoundAtFirst }
     ensures runs { SoundRuns }

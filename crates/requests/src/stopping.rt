@@ -1,7 +1,8 @@
 //! Stops of a process at a turn, and the end of a call.
 
-ghost use Rattle.std.specs.Prelude.{◌≡◌, ◌&&◌, is_some};
+ghost use Rattle.std.specs.Prelude.{◌≡◌, ◌&&◌, ℕ, is_some, true};
 ghost use Rattle.event_masks.specs.Exits.{asks};
+ghost use Rattle.lwp_table.specs.Lwps.{lwp_of};
 ghost use Rattle.step_types.specs.declared.Reply.TheVariants as reply;
 ghost use Rattle.requests.specs.Actors.{HasLwp};
 ghost use Rattle.requests.specs.Outcome.{Gives, stops_with, stops_or, trap};
@@ -11,7 +12,7 @@ ghost use Rattle.requests.specs.Turn.{plain};
 use crate::Reply;
 use event_masks::{Call, EventMask, StopFlags, call_code, exit_flags};
 use lwp_table::{LwpData, Mode};
-use pid_blocks::{Pid, Tid};
+use pid_blocks::Tid;
 use proc_table::{ProcData, Tables};
 use signals::Signal;
 use trace_rows::{StopInfo, stop};
@@ -61,14 +62,13 @@ pub fn stop_with(tables: &mut Tables, p: &ProcData, l: &LwpData, shown: &StopInf
 }
 
 /// Sets the mode of the LWP.
-pub fn set_mode(tables: &mut Tables, pid: Pid, tid: Tid, mode: Mode)
-    requires { HasLwp pid tid tables.old.rows }
+pub fn set_mode(tables: &mut Tables, tid: Tid, mode: Mode)
+    requires { is_some (lwp_of tid tables.old.rows.lwps) ≡ true }
     ensures rows { tables.new.rows ≡ in_mode mode tid tables.old.rows }
-    ensures there { HasLwp pid tid tables.new.rows }
+    ensures there { (pid : ℕ) → HasLwp pid tid tables.old.rows → HasLwp pid tid tables.new.rows }
 {
     let l = tables.lwp(tid).unwrap();
     tables.set_lwp(LwpData { mode, ..l });
-    let _unused = pid;
 }
 
 /// Returns whether the process has a tracer that asks for the event.
@@ -78,7 +78,7 @@ pub fn is_asked(p: &ProcData, event: EventMask) -> bool
     p.tracer.is_some() && p.mask.asks(event)
 }
 
-/// Returns the stop at the exit of a call, if the event mask asks for one. It names the child where it reports a fork.
+/// Returns the stop at the exit of a call, if the event mask asks for one. It names the child if it reports a fork.
 pub fn exit_stop(p: &ProcData, call: Call, child: u32) -> Option<StopInfo>
     ensures { result ≡ exit_stop p.now call child }
 {
@@ -91,7 +91,7 @@ pub fn exit_stop(p: &ProcData, call: Call, child: u32) -> Option<StopInfo>
     }
 }
 
-/// Stops the process by the LWP if there is a stop, and returns its reply. Else returns `answer`.
+/// Stops the process by the LWP if there is a stop, and returns its reply. Otherwise it returns `answer`.
 pub fn stop_or(
     tables: &mut Tables,
     shown: &Option<StopInfo>,
@@ -108,7 +108,7 @@ pub fn stop_or(
     }
 }
 
-/// Ends a call: sets the mode of its LWP, and stops it if there is a stop. Else returns the call's answer.
+/// Ends a call: sets the mode of its LWP, and stops it if there is a stop. Otherwise it returns the call's answer.
 pub fn finish(
     tables: &mut Tables,
     mode: Mode,
@@ -121,6 +121,6 @@ pub fn finish(
     ensures { Gives (stops_or shown.now answer p.now l.now (in_mode mode l.now.tid tables.old.rows))
         tables.new.rows result }
 {
-    set_mode(tables, p.pid, l.tid, mode);
+    set_mode(tables, l.tid, mode);
     stop_or(tables, shown, answer, p, l)
 }

@@ -8,7 +8,7 @@ pub use Rattle.requests.specs.Machine.{Machine, empty}
 pub use Rattle.step_types.specs.{Plain.UserStep, Plain.PlainStep, declared.Reply.Reply}
 pub use Rattle.requests.specs.Run.{asked_by, replies}
 pub use Rattle.requests.specs.View.{alone}
-pub use Rattle.row_isolation.proofs.FilteredLists.{All-map, All-where}
+pub use Rattle.trace_rows.proofs.FilteredLists.{All-map, All-where}
 pub use Rattle.scenario_runs.proofs.WriteLemmas.{Front, appends_more}
 pub use Rattle.scenario_runs.specs.Lines.{Answered, lines, lines_after, lines_of, text_of}
 pub use Rattle.scenario_runs.specs.Runs.{Writes, answered, paired, shown}

@@ -24,7 +24,7 @@ none_of_others : (u w : ℕ) (answers : List Answered) → u ≢ w → answers_b
 none_of_others u w [] differ = refl
 none_of_others u w (a ∷ rest) differ = grind (arith, nat_tests, none_of_others u w rest differ)
 
--- where all but one user have nothing
+-- if all but one user have nothing
 nothing_above : (f : ℕ → List ℕ) (n m u : ℕ) → ((w : ℕ) → u ≢ w → f w ≡ []) → u < m → concat (map f (rising n m)) ≡ []
 nothing_above f zero m u none below = refl
 nothing_above f (suc n) m u none below = grind (arith, none m, nothing_above f n (m + 1) u none)
@@ -45,7 +45,7 @@ shown_other : (style : Style) (u w : ℕ) (answers : List Answered) → u ≢ w 
 shown_other style u w answers differ =
     ap text_of (own_lines style u [] [] (answers_by w answers) refl ∙ ap (lines style) (none_of_others u w answers differ))
 
--- where all answers are to users, no one else has any
+-- if all answers are to users, no one else has any
 abbrev pub ToUsers : List Answered → Type 0
 ToUsers answers = AllByRecursion (λ a. IsUser a.uid) answers
 

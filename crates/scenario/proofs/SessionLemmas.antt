@@ -4,7 +4,7 @@ use Rattle.scenario.proofs.CommonNames.{AllByRecursion, nat_tests, get_or-map, A
 use Rattle.scenario.proofs.CommonNames.{alone, Entry, entries_by, OwnEntries, Plan, answers_by, answers_by_scripts, scripts_in, told_to, All-both}
 use Rattle.requests.specs.Isolation.{replies_to}
 use Rattle.step_types.specs.Replies.{is_memory}
-use Rattle.row_isolation.proofs.FilteredLists.{filter_same}
+use Rattle.trace_rows.proofs.FilteredLists.{filter_same}
 use Rattle.host_lock.specs.Journal.{asked, entries_of}
 use Rattle.sessions.specs.Made.{made}
 use Rattle.sessions.proofs.Schedules.{made_all, made_by}

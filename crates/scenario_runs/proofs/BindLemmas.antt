@@ -45,7 +45,7 @@ answered_there u bare_step ps qs others m n o is had = (is.0, subst (λ step. Ma
 pub needs_none : (u : ℕ) (bare_step : Step ⊤) (ps : List (List Rule)) (m n : Machine) (r : Reply) → Makes u (with_handler {B = List Rule} None bare_step) m n (Some r) → IsAnswered u bare_step ps ps m n (Some r)
 needs_none u bare_step ps m n r h = grind arith
 
--- nor changed anything where it needs one
+-- nor changed anything if it needs one
 pub nothing_made : (u : ℕ) (o : Option PlainStep) (m n : Machine) → Makes u o m n None → n ≡ m
 nothing_made u o m n h = grind arith
 

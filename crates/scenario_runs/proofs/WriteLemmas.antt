@@ -22,11 +22,11 @@ front_is a b rest all f = (length f.0, rw (← f.1, take-append_seam) f.2)
 pub front_taken : (a b c : Option (List ℕ)) (rest all : List ℕ) → Front a b rest all → Keeps b c → (n : ℕ) × Appends a c (take n all)
 front_taken a b c rest all f q = front_is a c rest all (f.0, f.1, appends_kept a b c f.0 f.2 q)
 
--- the same, where the rest is a slice `&rest[n..]`
+-- the same, if the rest is a slice `&rest[n..]`
 pub front_sliced : (a b c : Option (List ℕ)) (rest all : List ℕ) (n : ℕ) → Front a b rest all → Appends b c (take n rest) → Front a c (take (length rest - n) (drop n rest)) all
 front_sliced a b c rest all n f q = rw (← length-drop n rest, take-length) (front_more a b c rest all n f q)
 
--- the same, where a write took no byte
+-- the same, if a write took no byte
 pub front_ended : (a b c : Option (List ℕ)) (rest all : List ℕ) → Front a b rest all → Appends b c [] → (n : ℕ) × Appends a c (take n all)
 front_ended a b c rest all f q = front_is a c rest all (front_more a b c rest all 0 f q)
 

@@ -1,4 +1,12 @@
 //! Runs scenarios: from the steps of users to the lines of their replies.
+//!
+//! `run` makes each step on a host and appends its line at once, in words or as JSON. `short_lines` writes the common
+//! replies without a `String`.
+//!
+//! It is below `scenario`, which adds threads, so that a session by lines and the C library need none.
+//!
+//! Begin with `running`. The main clause `writes` of `run_with`: what is written are the lines of the replies that
+//! the machine gives to the scenario's steps (specs/Runs and Lines).
 #![tactic(auto)]
 
 mod binding;

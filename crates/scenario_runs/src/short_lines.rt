@@ -55,7 +55,7 @@ fn push_errno(line: &mut ArrayString<ROOM>, errno: Errno)
     line.push_str("\n");
 }
 
-/// Adds the words of a reply to a line, and ends it. Returns false, and adds nothing, where the reply isn't one of the
+/// Adds the words of a reply to a line, and ends it. Returns false, and adds nothing, if the reply isn't one of the
 /// most frequent.
 pub fn push_short(line: &mut ArrayString<ROOM>, reply: &Reply) -> bool
     requires { array_string_len line.old ≤ 90 }

@@ -18,7 +18,7 @@ pub use Rattle.scenario_text.specs.Plan.{Plan, asked, with_policies, first_polic
 pub use Rattle.scenario_text.specs.Streams.{AreRead, IsListOf, IsNamed, StepsAre, pushed, rules_taken, taken, with_named, with_named_rule}
 pub use Rattle.scenario_text.specs.{Fields.Gives, Fields.atom_in, Fields.atom_of, Fields.each, Fields.gather, Fields.integer, Fields.items_of, Fields.seen, Fields.◌>>=◌, declared.fault.Fault.Fault}
 pub use Rattle.scenario_text.specs.{Keys.key_named, Keys.key_rows, Keys.keys_in, Keys.set_named, Keys.◌∪◌, Rules.policy_of, Rules.rule_fields_by, Rules.rule_fields_in, Rules.rule_from, Rules.rule_of}
-pub use Rattle.scenario_text.specs.{Names.named, OneStep.AnswersBy, OneStep.IsStep, Steps.fields_by, Steps.fields_in, Steps.step_from, Steps.step_of, declared.fields.KeyError.TheVariants.TooManyRules}
+pub use Rattle.scenario_text.specs.{Fields.named, OneStep.AnswersBy, OneStep.IsStep, Steps.fields_by, Steps.fields_in, Steps.step_from, Steps.step_of, declared.fields.KeyError.TheVariants.TooManyRules}
 pub use Rattle.scenario_text.specs.Scenarios.{StandsFor, Takes, Yields, head_settings, no_value, numbered, steps_from, too_long}
 pub use Rattle.scenario_text.specs.{declared.fault.Fault.TheVariants.BadShape, declared.fault.Fault.TheVariants.Memory, declared.fault.Fault.TheVariants.TooManySteps, declared.rules.RuleList.RuleList}
 pub use Rattle.scenario_text.specs.{declared.fields.KeyError.KeyError, declared.keys.Keys.Keys, declared.listing.Listed.Listed}

@@ -2,7 +2,7 @@
 use Rattle.scenario_text.specs.CommonNames.{ℕ, List, codes, Fault}
 use Rattle.scenario_text.specs.declared.fault.Fault.TheVariants as fault
 
--- 3 where reading or memory failed, 1 where the input is refused
+-- 3 if reading or memory failed, 1 if the input is refused
 abbrev pub fault_status : Fault → ℕ
 fault_status fault.Read = 3
 fault_status fault.Memory = 3

@@ -2,8 +2,7 @@
 use Rattle.std.specs.Prelude.{◌≡◌, ◌∷◌, ◌+◌, if◌then◌else◌}
 use Rattle.scenario_text.specs.CommonNames.{ℕ, ℤ, pos, negsuc, List, [], Option, Some, None, Result, Ok, Err, ok_or, option_and_then, nat_lt, true, Scalar, integer_in, text_in, Data, Items, no_items}
 use Rattle.scenario_text.specs.CommonNames.{item, as_number, as_i64, as_str, as_array, with, EventMask, StopFlags, no_events, no_flags, mask_with, both, events_named, flag_named, Options, no_options}
-use Rattle.scenario_text.specs.CommonNames.{KeyError, Shape, Name, Number, WaitOption, Nohang, Untraced, Continued}
-use Rattle.scenario_text.specs.Names.{option_named}
+use Rattle.scenario_text.specs.CommonNames.{KeyError, Shape, Name, Number, WaitOption, Nohang, Untraced, Continued, bytes_eq, codes}
 
 infixl 10 ◌>>=◌
 abbrev pub ◌>>=◌ : {E A B : Type 0} → Result A E → (A → Result B E) → Result B E
@@ -70,6 +69,15 @@ optional default f None = Ok default
 optional default f (Some d) = f d
 
 -- ---- arrays of names and of numbers; a repeated item counts once
+
+-- the value of the text in a table
+abbrev pub named : {X : Type 0} → List (List ℕ × X) → List ℕ → Option X
+named [] text = None
+named (row ∷ rows) text = if bytes_eq text row.0 then Some row.1 else named rows text
+
+-- the options of wait4(2)
+abbrev pub option_named : List ℕ → Option WaitOption
+option_named = named ((codes "WNOHANG", Nohang) ∷ (codes "WUNTRACED", Untraced) ∷ (codes "WCONTINUED", Continued) ∷ [])
 
 -- every wait4 acts as with WNOHANG
 abbrev pub with_option : Options → WaitOption → Options

@@ -1,7 +1,7 @@
 -- The keys of steps and of rules.
 use Rattle.std.specs.Prelude.{◌==◌, ◌∷◌, if◌then◌else◌}
 use Rattle.scenario_text.specs.CommonNames.{⊤, ℕ, List, [], Bool, Option, Some, None, Result, Ok, Err, codes, bit_and, bit_or, Members, no_members, member, KeyError, Shape, Key, Keys}
-use Rattle.scenario_text.specs.{Fields.◌>>=◌, Names.named}
+use Rattle.scenario_text.specs.{Fields.◌>>=◌, Fields.named}
 use Rattle.scenario_text.specs.declared.keys.Key.TheVariants as key
 use Rattle.scenario_text.specs.declared.keys.TheConstants.Keys as keys
 

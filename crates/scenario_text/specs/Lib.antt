@@ -2,7 +2,6 @@ pub mod Plan
 pub mod CommonNames
 pub mod Fields
 pub mod Keys
-pub mod Names
 pub mod Rules
 pub mod Steps
 pub mod Faults

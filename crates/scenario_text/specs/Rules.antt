@@ -1,11 +1,11 @@
 -- The rules of a policy, from their JSON values.
 use Rattle.std.specs.Prelude.{if◌then◌else◌}
 use Rattle.scenario_text.specs.CommonNames.{ℕ, List, Option, Some, None, Result, Ok, Err, codes, nat_lt, Data, Items, Members, object, items_len, get_member, no_flags, Rule, Decision, KeyError, Shape}
-use Rattle.scenario_text.specs.CommonNames.{Keys, SIGNAL, FLAGS, DECISION, PASS, DecisionKind, RuleFields}
+use Rattle.scenario_text.specs.CommonNames.{Keys, SIGNAL, FLAGS, DECISION, PASS, DecisionKind, RuleFields, decision_named}
 use Rattle.scenario_text.specs.Fields.{◌>>=◌, Atom, atom_of, number_within, name_in, items_of, optional, required, each, signal_in, flags_of}
-use Rattle.scenario_text.specs.{declared.fields.KeyError.TheVariants.TooManyRules, Keys.◌∪◌, Keys.keys_in, Keys.with_only, Names.decision_named}
+use Rattle.scenario_text.specs.{declared.fields.KeyError.TheVariants.TooManyRules, Keys.◌∪◌, Keys.keys_in, Keys.with_only}
 use Rattle.stop_handlers.specs.declared.Decision.TheVariants as decision
-use Rattle.scenario_text.specs.declared.names.DecisionKind.TheVariants as kind
+use Rattle.stop_handlers.specs.declared.DecisionKind.TheVariants as kind
 
 abbrev pub some_signal : Atom → Result (Option ℕ) KeyError
 some_signal a = signal_in a >>= (λ signal. Ok (Some signal))

@@ -1,16 +1,16 @@
 -- A step of a scenario, from its JSON value. Its keys are checked one by one, and the first failure is the flaw.
 use Rattle.scenario_text.specs.CommonNames.{ℕ, List, Option, Result, Ok, Err, codes, Data, Members, object, get_member, PlainStep, Call, Act, Request, no_options, UserStep, Fields, KeyError, Shape, User}
-use Rattle.scenario_text.specs.CommonNames.{Number, Keys, ActKind, CallKind, Op}
+use Rattle.scenario_text.specs.CommonNames.{Number, Keys, ActKind, CallKind, StepKind, op_named, disposition_named, act_named, call_named, request_named}
 use Rattle.scenario_text.specs.Fields.{◌>>=◌, Atom, atom_of, integer, within, word, name_in, required, optional, options_of, mask_of, set_of}
-use Rattle.scenario_text.specs.{Keys.◌∪◌, Keys.keys_in, Keys.with_only, Names.op_named, Names.disposition_named, Names.act_named, Names.call_named, Names.request_named, Rules.rules_of}
+use Rattle.scenario_text.specs.{Keys.◌∪◌, Keys.keys_in, Keys.with_only, Rules.rules_of}
 use Rattle.step_types.specs.declared.step.Step.TheVariants as plain
 use Rattle.event_masks.specs.declared.Call.TheVariants as call
 use Rattle.step_types.specs.declared.Act.TheVariants as act
 use Rattle.step_types.specs.declared.Request.TheVariants as request
 use Rattle.scenario_text.specs.declared.keys.TheConstants.Keys as key
-use Rattle.scenario_text.specs.declared.names.ActKind.TheVariants as acts
-use Rattle.scenario_text.specs.declared.names.CallKind.TheVariants as calls
-use Rattle.scenario_text.specs.declared.names.Op.TheVariants as ops
+use Rattle.step_types.specs.declared.ActKind.TheVariants as acts
+use Rattle.event_masks.specs.declared.CallKind.TheVariants as calls
+use Rattle.step_types.specs.declared.step.StepKind.TheVariants as ops
 
 abbrev pub user_in : Atom → Result ℕ KeyError
 user_in a = integer a >>= within 1001 1064 User
@@ -103,7 +103,7 @@ asked_of caller r f = request_of caller r f
 -- ---- steps
 
 -- the step of an op; its keys are checked one by one
-unfoldable pub rest_of : Op → Fields → Result PlainStep KeyError
+unfoldable pub rest_of : StepKind → Fields → Result PlainStep KeyError
 rest_of ops.Spawn f = with_only (key.USER ∪ key.OP) f.keys plain.Spawn
 rest_of ops.Ptrace f = do
   caller ← f.caller

@@ -6,7 +6,8 @@ use Rattle.scenario_text.specs.CommonNames.{read_members, members_among, Data, I
 use Rattle.scenario_text.specs.CommonNames.{ScenarioKey, RuleList, Stop, max_steps}
 use Rattle.scenario_text.specs.Fields.{Atom, atom_of, integer, word, name_in, items_of, required, optional, options_of, mask_of, set_of, flags_of, ◌>>=◌}
 use Rattle.scenario_text.specs.{Keys.◌∪◌, Keys.key_set, Steps.user_in, Scenarios.at_step, Scenarios.steps_from}
-use Rattle.scenario_text.specs.{Names.op_named, Names.disposition_named, Names.act_named, Names.call_named, Names.request_named, Names.decision_named, Rules.some_signal, Rules.pass_in, Rules.rules_of}
+use Rattle.scenario_text.specs.CommonNames.{op_named, disposition_named, act_named, call_named, request_named, decision_named}
+use Rattle.scenario_text.specs.{Rules.some_signal, Rules.pass_in, Rules.rules_of}
 use Rattle.scenario_text.specs.declared.keys.Key.TheVariants as key
 use Rattle.scenario_text.specs.declared.keys.TheConstants.Keys as keys
 use Rattle.scenario_text.specs.declared.parsing.ScenarioKey.TheVariants as scenario_key

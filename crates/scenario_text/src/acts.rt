@@ -1,14 +1,13 @@
 //! The acts of an LWP at its turn.
 ghost use Rattle.std.specs.Prelude.{◌≡◌};
 ghost use Rattle.scenario_text.specs.Steps.{call_of, call_keys, turn_keys, act_of};
-ghost use Rattle.scenario_text.specs.declared.names.ActKind.TheVariants as acts;
+ghost use Rattle.step_types.specs.declared.ActKind.TheVariants as acts;
 
 use crate::atoms::within;
 use crate::fields::{Fields, KeyError, only};
 use crate::keys::Keys;
-use crate::names::{ActKind, CallKind};
-use event_masks::Call;
-use step_types::Act;
+use event_masks::{Call, CallKind};
+use step_types::{Act, ActKind};
 
 /// Returns the call, with the exit code of an exit and the number of another call.
 fn call_of(step: &Fields, kind: CallKind) -> Result<Call, KeyError>

@@ -4,13 +4,11 @@ ghost use Rattle.event_masks.specs.Exits.{mask_with, both};
 ghost use Rattle.event_masks.specs.Reading.{events_named, flag_named};
 ghost use Rattle.signals.specs.Sets.{with as signal_added};
 ghost use Rattle.scenario_text.specs.declared.fields.KeyError.{KeyError as Flaw};
-ghost use Rattle.scenario_text.specs.Fields.{with_option, signal_in, adds, gather, gathered, Atom, atom_in, name_in};
-ghost use Rattle.scenario_text.specs.Names.{option_named};
+ghost use Rattle.scenario_text.specs.Fields.{option_named, with_option, signal_in, adds, gather, gathered, Atom, atom_in, name_in};
 ghost use Rattle.scenario_text.specs.Streams.{Reads, ReadsItems};
 
 use crate::atoms::{signal_in, text};
 use crate::fields::KeyError;
-use crate::names::{WaitOption, option_named};
 use event_masks::{EventMask, StopFlags};
 use json::Invalid;
 use json_values::{Opening, Scalar, Tokens, next_scalar, open_value, pass_members};
@@ -24,6 +22,25 @@ pub(crate) trait Gathered: Copy + Drop {
     /// Returns the set with one more item.
     fn with_item(self, item: &Scalar<'_>) -> Result<Self, KeyError>
         ensures { result ≡ added self (atom_in item.now) };
+}
+
+/// An option of wait4(2).
+#[derive(Clone, Copy)]
+pub(crate) enum WaitOption {
+    Nohang,
+    Untraced,
+    Continued,
+}
+
+fn option_named(name: &str) -> Option<WaitOption>
+    ensures { result ≡ option_named name.now }
+{
+    match name {
+        "WNOHANG" => Some(WaitOption::Nohang),
+        "WUNTRACED" => Some(WaitOption::Untraced),
+        "WCONTINUED" => Some(WaitOption::Continued),
+        _ => None,
+    }
 }
 
 /// Returns the options with one more. `WNOHANG` adds nothing: no wait blocks.

@@ -42,8 +42,8 @@ pub enum Fault {
 }
 
 impl Fault {
-    /// Returns the exit status of a program that ends with the fault: 3 where it could not read or ran out of memory, 1
-    /// where it refused its input.
+    /// Returns the exit status of a program that ends with the fault: 3 if it could not read or ran out of memory, 1
+    /// if it refused its input.
     pub fn status(&self) -> u8
         ensures { result ≡ fault_status self.now }
     {

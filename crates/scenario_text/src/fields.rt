@@ -4,11 +4,10 @@ ghost use Rattle.serde_json.specs.Data.{no_members};
 ghost use Rattle.scenario_text.specs.Keys.{only};
 
 use crate::keys::Keys;
-use crate::names::{ActKind, CallKind, Op};
-use event_masks::EventMask;
+use event_masks::{CallKind, EventMask};
 use pid_blocks::Uid;
 use signals::{Disposition, SigSet};
-use step_types::{Options, Request};
+use step_types::{ActKind, Options, Request, StepKind};
 use stop_handlers::Policy;
 
 /// The flaw of a step.
@@ -28,7 +27,7 @@ pub(crate) struct Fields {
     /// The keys that the step has.
     pub(crate) keys: Keys,
     pub(crate) user: Result<Uid, KeyError>,
-    pub(crate) op: Result<Op, KeyError>,
+    pub(crate) op: Result<StepKind, KeyError>,
     pub(crate) caller: Result<u32, KeyError>,
     pub(crate) which: Result<i64, KeyError>,
     pub(crate) options: Result<Options, KeyError>,

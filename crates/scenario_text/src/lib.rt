@@ -1,4 +1,13 @@
 //! Reads scenarios: from JSON bytes to the steps of users.
+//!
+//! `parse` reads a whole scenario, `parse_step` one step. Both return the first fault with its byte (`fault`). The
+//! steps stay plain: policies are kept apart, in the order of the installs.
+//!
+//! It uses `json_values`, so that a step of text becomes a step without a tree of values in between, and knows
+//! no host.
+//!
+//! Begin with `parsing`, then `members` and `steps`. The main clause of `parse`: the scenario is the one that the
+//! definition reads from the data of `serde_json` (specs/Scenarios), and a fault means that there is none.
 #![tactic(auto)]
 
 mod acts;
@@ -10,7 +19,6 @@ mod keys;
 pub mod laws;
 mod listing;
 mod members;
-mod names;
 mod one_step;
 mod parsing;
 mod plan;

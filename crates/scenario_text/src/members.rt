@@ -1,7 +1,7 @@
 //! Reads what the keys of a step say.
 ghost use Rattle.std.specs.Prelude.{◌≡◌, ◌<◌, OnOk, length};
 ghost use Rattle.scenario_text.specs.Fields.{Gives, atom_in, name_in};
-ghost use Rattle.scenario_text.specs.Names.{op_named, disposition_named, act_named, call_named, request_named};
+ghost use Rattle.scenario_text.specs.CommonNames.{op_named, disposition_named, act_named, call_named, request_named};
 ghost use Rattle.scenario_text.specs.Plan.{asked};
 ghost use Rattle.scenario_text.specs.Steps.{fields_in, step_of};
 ghost use Rattle.scenario_text.specs.Streams.{Reads, ReadsMembers, with_atom, with_named, with_value};
@@ -11,46 +11,43 @@ use crate::arrays::read_set;
 use crate::atoms::{integer, text, user_in, word};
 use crate::fields::{Fields, KeyError};
 use crate::keys::{Key, Keys, key_named, set_of};
-use crate::names::{
-    ActKind, CallKind, Op, act_named, call_named, disposition_named, op_named, request_named,
-};
 use crate::rules::read_rules;
 use crate::steps::step_from;
-use event_masks::EventMask;
+use event_masks::{CallKind, EventMask};
 use json::Invalid;
 use json_values::{Opening, Scalar, Tokens, next_scalar, open_value, pass_items, pass_value};
 use pid_blocks::Uid;
 use signals::{Disposition, SigSet};
-use step_types::{Options, PlainStep, Request};
+use step_types::{ActKind, Options, PlainStep, Request, StepKind};
 
-fn op_in(atom: &Scalar<'_>) -> Result<Op, KeyError>
+fn op_in(atom: &Scalar<'_>) -> Result<StepKind, KeyError>
     ensures { result ≡ name_in op_named (atom_in atom.now) }
 {
-    op_named(text(atom)?).ok_or(KeyError::Name)
+    StepKind::by_name(text(atom)?).ok_or(KeyError::Name)
 }
 
 fn disposition_in(atom: &Scalar<'_>) -> Result<Disposition, KeyError>
     ensures { result ≡ name_in disposition_named (atom_in atom.now) }
 {
-    disposition_named(text(atom)?).ok_or(KeyError::Name)
+    Disposition::by_name(text(atom)?).ok_or(KeyError::Name)
 }
 
 fn act_in(atom: &Scalar<'_>) -> Result<ActKind, KeyError>
     ensures { result ≡ name_in act_named (atom_in atom.now) }
 {
-    act_named(text(atom)?).ok_or(KeyError::Name)
+    ActKind::by_name(text(atom)?).ok_or(KeyError::Name)
 }
 
 fn call_in(atom: &Scalar<'_>) -> Result<CallKind, KeyError>
     ensures { result ≡ name_in call_named (atom_in atom.now) }
 {
-    call_named(text(atom)?).ok_or(KeyError::Name)
+    CallKind::by_name(text(atom)?).ok_or(KeyError::Name)
 }
 
 fn request_in(atom: &Scalar<'_>) -> Result<Request, KeyError>
     ensures { result ≡ name_in request_named (atom_in atom.now) }
 {
-    request_named(text(atom)?).ok_or(KeyError::Name)
+    Request::by_name(text(atom)?).ok_or(KeyError::Name)
 }
 
 /// Sets what a key says whose value is a whole number or a text.

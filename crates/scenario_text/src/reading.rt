@@ -36,7 +36,7 @@ fn front_of<R: Read>(alloc: Global, reader: &mut R) -> Result<Vec<u8>, Fault>
 ///
 /// # Errors
 ///
-/// `Read` where the reader failed, else those of `parse`.
+/// `Read` if the reader failed, else those of `parse`.
 #[tactic(auto, using(crate::proofs::Answering::stands))]
 pub fn read<R: Read>(alloc: Global, reader: &mut R) -> Result<Scenario, Fault>
     ensures stands { IfSome (R.remaining reader.old) (λ input. Tells result (StandsFor input)) }

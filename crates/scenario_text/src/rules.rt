@@ -3,7 +3,7 @@ ghost use Rattle.std.specs.Prelude.{◌≡◌, ◌<◌, ◌≤◌, OnOk, length}
 ghost use Rattle.event_masks.specs.Exits.{no_flags};
 ghost use Rattle.serde_json.specs.Data.{no_members};
 ghost use Rattle.scenario_text.specs.Fields.{atom_in, name_in, within};
-ghost use Rattle.scenario_text.specs.Names.{decision_named};
+ghost use Rattle.stop_handlers.specs.Decisions.{decision_named};
 ghost use Rattle.scenario_text.specs.declared.fields.KeyError.TheVariants.{Number};
 ghost use Rattle.scenario_text.specs.Rules.{rule_fields_in, pass_in, some_signal, decision_of, rule_keys, rule_from, rule_of, rules_of, policy_of};
 ghost use Rattle.scenario_text.specs.Streams.{Reads, ReadsItems, ReadsMembers};
@@ -12,14 +12,13 @@ use crate::arrays::read_set;
 use crate::atoms::{integer, signal_in, text, within};
 use crate::fields::{KeyError, only};
 use crate::keys::{Key, Keys, key_named, set_of};
-use crate::names::{DecisionKind, decision_named};
 use event_masks::StopFlags;
 use json::Invalid;
 use json_values::{
     Opening, Scalar, Tokens, next_scalar, open_value, pass_items, pass_members, pass_value,
 };
 use signals::{Pass, Signal};
-use stop_handlers::{Decision, Policy, Rule};
+use stop_handlers::{Decision, DecisionKind, Policy, Rule};
 
 /// What each key of a rule says, or its flaw.
 #[derive(Clone, Copy, Drop)]
@@ -57,7 +56,7 @@ fn some_signal(atom: &Scalar<'_>) -> Result<Option<Signal>, KeyError>
 fn decision_in(atom: &Scalar<'_>) -> Result<DecisionKind, KeyError>
     ensures { result ≡ name_in decision_named (atom_in atom.now) }
 {
-    decision_named(text(atom)?).ok_or(KeyError::Name)
+    DecisionKind::by_name(text(atom)?).ok_or(KeyError::Name)
 }
 
 fn decision_of(rule: &RuleFields, kind: DecisionKind) -> Result<Decision, KeyError>

@@ -3,15 +3,14 @@ ghost use Rattle.std.specs.Prelude.{◌≡◌};
 ghost use Rattle.scenario_text.specs.Fields.{Gives};
 ghost use Rattle.scenario_text.specs.Plan.{asked};
 ghost use Rattle.scenario_text.specs.Steps.{rest_of, step_from};
-ghost use Rattle.scenario_text.specs.declared.names.Op.TheVariants as ops;
+ghost use Rattle.step_types.specs.declared.step.StepKind.TheVariants as ops;
 
 use crate::acts::act_of;
 use crate::fields::{Fields, KeyError, only};
 use crate::keys::Keys;
-use crate::names::Op;
 use crate::tracing::ptrace_of;
 use pid_blocks::Uid;
-use step_types::PlainStep;
+use step_types::{PlainStep, StepKind};
 
 #[tactic(auto, unfolding(crate::specs::Steps::rest_of))]
 fn spawn_of(step: &Fields) -> Result<PlainStep, KeyError>
@@ -112,19 +111,19 @@ fn turn_of(step: &Fields) -> Result<PlainStep, KeyError>
 }
 
 /// Returns the step with this op, from the keys of the op.
-fn rest_of(step: &Fields, op: Op) -> Result<PlainStep, KeyError>
+fn rest_of(step: &Fields, op: StepKind) -> Result<PlainStep, KeyError>
     ensures { result ≡ rest_of op step.now }
 {
     match op {
-        Op::Spawn => spawn_of(step),
-        Op::Ptrace => ptrace_of(step),
-        Op::Wait4 => wait4_of(step),
-        Op::Kill => kill_of(step),
-        Op::Sigaction => sigaction_of(step),
-        Op::List => list_of(step),
-        Op::Install => install_of(step),
-        Op::Handle => handle_of(step),
-        Op::Turn => turn_of(step),
+        StepKind::Spawn => spawn_of(step),
+        StepKind::Ptrace => ptrace_of(step),
+        StepKind::Wait4 => wait4_of(step),
+        StepKind::Kill => kill_of(step),
+        StepKind::Sigaction => sigaction_of(step),
+        StepKind::List => list_of(step),
+        StepKind::Install => install_of(step),
+        StepKind::Handle => handle_of(step),
+        StepKind::Turn => turn_of(step),
     }
 }
 

@@ -2,7 +2,7 @@
 ghost use Rattle.std.specs.Prelude.{◌≡◌};
 ghost use Rattle.step_types.specs.declared.Request.TheVariants as ptrace;
 ghost use Rattle.scenario_text.specs.Steps.{ptrace_keys, request_of, asked_of, rest_of};
-ghost use Rattle.scenario_text.specs.declared.names.Op.TheVariants as ops;
+ghost use Rattle.step_types.specs.declared.step.StepKind.TheVariants as ops;
 
 use crate::fields::{Fields, KeyError, only};
 use crate::keys::Keys;

@@ -29,7 +29,7 @@ pairs_length R [] (y ∷ ys) p = absurd p
 pairs_length R (x ∷ xs) [] p = absurd p
 pairs_length R (x ∷ xs) (y ∷ ys) p = let r = pairs_length R xs ys p.1 in omega arith
 
--- no session is missing where all are handed in
+-- no session is missing if all are handed in
 pub not_missing : {F J : Type 0} (h : HostData) (ss : List SessionData) (r : CloseRefusal F J) → GivesBack h ss r → h.sessions ≤ length ss → ⊥
 not_missing h ss (Missing host sessions) back all = absurd (omega (arith, back.2))
 

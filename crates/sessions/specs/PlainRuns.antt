@@ -23,6 +23,6 @@ pub record RanBy {O : Type 0} (made_of : O → List Reply) (m : Machine) (ps : L
   pub transcripts : AllAnswer made_of log ps ts
   pub own : OwnEntries m log
 
--- the same, of which no journal is kept
+-- the same, without a journal
 abbrev pub Ran : {O : Type 0} → (O → List Reply) → Machine → List (ℕ × List PlainStep) → Machine → List (Transcript O) → Type 0
 Ran made_of m ps h ts = (log : List Entry) × RanBy made_of m ps log h ts

@@ -13,11 +13,11 @@ IsShort s = vec_len s.steps ≤ max_calls
 abbrev pub plain_script : {F : Type 0} → Script F → ℕ × List PlainStep
 plain_script s = (s.uid, s.steps.items)
 
--- the replies themselves, where they are handed out
+-- the replies themselves, if they are handed out
 abbrev pub whole : Vec Reply Global → List Reply
 whole replies = replies.items
 
--- the transcript has one reply for each step of a script, in order, where `plain` gives its user and steps; the journal's entries of this number are the steps with their
+-- the transcript has one reply for each step of a script, in order, if `plain` gives its user and steps; the journal's entries of this number are the steps with their
 -- replies, except those with the reply ENOMEM
 abbrev pub Plays : {S O : Type 0} → (S → ℕ × List PlainStep) → (O → List Reply) → List Entry → ℕ → S → Transcript O → Type 0
 Plays plain made_of log k s t =

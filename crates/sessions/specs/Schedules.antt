@@ -21,7 +21,7 @@ IsOnlyScript {F} u ss i s = (slice_get ss i ≡ Some s) × (s.uid ≡ u) × ((j 
 abbrev pub IsAnswered : Transcript (Vec Reply Global) → Type 0
 IsAnswered t = AllByRecursion (λ r. is_memory r ≡ false) t.replies.items
 
--- two runs on hosts of which a user sees the same: if the user's only scripts in them have the same steps, and each of
+-- two runs on hosts that show a user the same: if the user's only scripts in them have the same steps, and each of
 -- these is answered, then the replies are the same, and so is what the user sees at the end
 abbrev pub EverySchedule : Type 0 → Type 0
 EverySchedule F = (m n : Machine) (scripts others : Vec (Script F) Global) (k l : Machine) (log journal : List Entry) (ts ws : List (Transcript (Vec Reply Global)))
@@ -31,7 +31,7 @@ EverySchedule F = (m n : Machine) (scripts others : Vec (Script F) Global) (k l 
     → slice_get ts i ≡ Some t → slice_get ws j ≡ Some w → IsAnswered t → IsAnswered w
     → (t.replies.items ≡ w.replies.items) × (view u k ≡ view u l)
 
--- two journals from hosts of which a user sees the same: if the steps of the user's entries differ only in numbers that
+-- two journals from hosts that show a user the same: if the steps of the user's entries differ only in numbers that
 -- the user doesn't see, then the replies are the same, and so is what the user sees at the end
 abbrev pub AlikeJournals : Type 0
 AlikeJournals = (m n : Machine) (log journal : List Entry) (u : ℕ) → IsUser u → sound m ≡ true → OwnEntries m log → OwnEntries n journal → view u m ≡ view u n

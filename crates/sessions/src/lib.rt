@@ -1,4 +1,12 @@
 //! Runs scripts of many users at the same time on one shared host.
+//!
+//! A script is a user's list of steps. `run_sessions` gives each a worker, in as many threads as it is told, and
+//! returns each script's report.
+//!
+//! It uses `host_lock`, and is apart from it since a script isn't the only way to use a shared host.
+//!
+//! Begin with `run`. The main clause `own` of `run_sessions`: whatever the schedule, each user's replies are those of
+//! the user's own scripts. Law `laws::every_schedule` compares every two schedules.
 #![tactic(auto)]
 
 mod boxing;

@@ -29,7 +29,7 @@ fn announce<F: Decider + Send + Drop, G: Gate>(
     }
 }
 
-/// Makes the steps of a script in order, and the report of the replies, of which `draft` is the draft.
+/// Makes the steps of a script in order, and the report of the replies, which begins as `draft`.
 pub(crate) fn work<F: Decider + Send + Drop, J: CallLog + Send + Drop, T: Report, G: Gate, R: Wait>(
     rt: &R,
     alloc: Global,

@@ -13,7 +13,7 @@ difference-is a b small other =
     same_from_bits_below 32 (bit_and a (2 ^ 32 - 1 - b)) (without a b) (omega arith) (xor_lt 32 (bit_or a b) b (or_lt 32 a b narrow wide) wide)
     (λ i within. grind (arith, bit_at_not w32 b i wide within, bit_at_and, bit_at_xor, bit_at_or, bit_at-lt))
 
--- a number is in the set where its bit is 1
+-- a number is in the set if its bit is 1
 pub has-one : (set k : ℕ) → bit_at set k ≡ 1 → has set (k + 1) ≡ true
 has-one set k one = search (rules, bit_and, and_pow, pow_pos)
 

@@ -15,7 +15,7 @@ impl SigSet {
         SigSet { bits: 0 }
     }
 
-    /// Returns the set of this signal alone.
+    /// Returns the set with only this signal.
     pub fn of(signal: Signal) -> SigSet
         ensures { result ≡ bit signal }
     {

@@ -3,3 +3,4 @@ pub mod Events
 pub mod Plain
 pub mod Replies
 pub mod Words
+pub mod Names

@@ -1,4 +1,13 @@
 //! The steps that users make, the replies to them, and what both contain: the plain types below every table and host.
+//!
+//! `Step` is generic over what an install carries: a handler with a closure, a policy or nothing. A step without its
+//! handler is a `PlainStep`; definitions speak of these. `printing` and `words` write replies as the program prints
+//! them.
+//!
+//! The crate has types and their words only, so that readers of texts and callers in C need no host.
+//!
+//! Begin with this file and `step`. The main clauses are those of the words of replies (specs/Words), and law
+//! `laws::words_differ`: no two statuses have the same word.
 #![tactic(auto)]
 
 mod copying;
@@ -6,6 +15,7 @@ mod events;
 mod host_settings;
 pub mod laws;
 mod lists;
+mod names;
 mod printing;
 mod short_steps;
 mod statuses;
@@ -15,7 +25,7 @@ use event_masks::{Call, EventMask, StopFlags};
 use pid_blocks::{Errno, Pid, Tid};
 use signals::{SigSet, Signal};
 use std::marker::Model;
-pub use step::{PlainStep, Step};
+pub use step::{PlainStep, Step, StepKind};
 use stop_handlers::{Decision, StopView};
 
 /// What a debugger's end does to its tracees.
@@ -130,6 +140,16 @@ pub enum Act {
     Raise(u32),
     Block(SigSet),
     Enter(Call),
+    Leave,
+}
+
+/// The kind of an act, without the data that it carries.
+#[derive(Clone, Copy, Debug, PartialEq, Eq, Drop)]
+pub enum ActKind {
+    Compute,
+    Raise,
+    Block,
+    Enter,
     Leave,
 }
 

@@ -105,7 +105,7 @@ impl fmt::Display for Rest<'_> {
     }
 }
 
-/// Prints the words of a reply as docs/FORMAT.md, "The output", lists them: `stopped 100000 5 flags=PL_FLAG_SCE`.
+/// Prints the words of a reply as docs/FORMAT.md lists them: `stopped 100000 5 flags=PL_FLAG_SCE`.
 impl fmt::Display for Reply {
     ghost output = { λ r. Some (join_with_byte 32 (reply_words r)) };
 

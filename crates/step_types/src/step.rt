@@ -57,6 +57,20 @@ pub enum Step<H> {
     },
 }
 
+/// The kind of a step: its op in a scenario.
+#[derive(Clone, Copy, Debug, PartialEq, Eq, Drop)]
+pub enum StepKind {
+    Spawn,
+    List,
+    Sigaction,
+    Kill,
+    Wait4,
+    Install,
+    Handle,
+    Ptrace,
+    Turn,
+}
+
 /// A step with its handler's policy in place of the handler.
 pub type PlainStep = Step<Policy>;
 

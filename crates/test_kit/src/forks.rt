@@ -8,7 +8,7 @@ use stop_handlers::{Decision, Policy, Rule};
 /// A fork of 1001, the tracee of 1000. Then 1000 traces the child too, and 1001 gets a signal. The only handler of 1000
 /// has the policy `fork_policy`.
 pub const FORK_STOPS: &str = "
-ptrace 1000 PT_SET_EVENT_MASK 1001 8 -> ok
+ptrace 1000 PT_SET_EVENT_MASK 1001 PTRACE_FORK -> ok
 ptrace 1000 PT_CONTINUE 1001 -> ok
 turn 100001 enter fork -> ok
 turn 100001 leave -> stopped 100001 5 flags=PL_FLAG_SCX+PL_FLAG_FORKED
@@ -23,7 +23,7 @@ handle 1000 -> nothing
 ";
 
 /// Returns a rule for a signal, and stops with at least these flags.
-pub fn rule(signal: u32, flags: StopFlags, decision: Decision) -> Result<Rule, TestError> {
+fn rule(signal: u32, flags: StopFlags, decision: Decision) -> Result<Rule, TestError> {
     let signal = Some(Signal::new(signal)?);
     Ok(Rule {
         signal,

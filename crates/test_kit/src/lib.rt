@@ -12,9 +12,9 @@ mod test_error;
 mod views;
 
 pub use dice::Dice;
-pub use forks::{FORK_STOPS, fork_policy, rule};
+pub use forks::{FORK_STOPS, fork_policy};
 pub use lines::{lines_of, step_in, steps_in};
-pub use rows::{Row, Section, rows_of, sections_of};
-pub use sessions::{check_replies, follow, host_after, together_and_alone};
+pub use rows::{Row, rows_of};
+pub use sessions::{check_replies, follow, host_after};
 pub use test_error::{TestError, expect};
 pub use views::{check_hosts, sees_same};

@@ -14,14 +14,14 @@ const FIRST: u32 = 1001;
 /// Returns the user and the step in these words, or `None` if they are none.
 fn asked(words: &[&str], policy: Option<&Policy>) -> Option<(Uid, PlainStep)> {
     let (first, rest) = words.split_first()?;
-    let (user, words) = match first.parse() {
-        Ok(user) => (user, rest),
-        Err(_) => (FIRST, words),
+    let (user, words) = match first.strip_suffix(":") {
+        Some(user) => (user.parse().ok()?, rest),
+        None => (FIRST, words),
     };
     Some((Uid::new(user).ok()?, step_of(words, policy)?))
 }
 
-/// Returns the user and the step in these words: `[USER] STEP`, as `1002 turn 104000 leave`. Without a user it is of user
+/// Returns the user and the step in these words: `[USER:] STEP`, as `1002: turn 104000 leave`. Without a user it is of user
 /// 1001. An install has this policy.
 pub fn step_in(
     alloc: Global,

@@ -1,4 +1,4 @@
-//! Tables of text: in each row what is given, an arrow, and what is expected. Sections part a longer text.
+//! Tables of text: in each row what is given, an arrow, and what is expected.
 
 use crate::TestError;
 use std::alloc::Global;
@@ -42,32 +42,4 @@ pub fn rows_of(alloc: Global, table: &str) -> Result<Vec<Row<'_>>, TestError> {
         }
     }
     Ok(rows)
-}
-
-/// A section of a text: its heading, and the lines after it.
-#[derive(Clone, Copy, Drop)]
-pub struct Section<'a> {
-    /// The words in brackets.
-    pub start: &'a str,
-    pub name: &'a str,
-    pub text: &'a str,
-}
-
-/// Returns a section, or `None` if it has no heading.
-fn section_of(text: &str) -> Option<Section<'_>> {
-    let (heading, text) = text.trim_ascii().split_once('\n')?;
-    let (start, name) = heading.strip_prefix("[")?.split_once("] ")?;
-    Some(Section { start, name, text })
-}
-
-/// Returns the sections of a text, which empty lines part. A section begins with a heading `[START] NAME`.
-pub fn sections_of(alloc: Global, text: &str) -> Result<Vec<Section<'_>>, TestError> {
-    let mut sections = Vec::new(alloc);
-    for part in text.split("\n\n") {
-        let Some(section) = section_of(part) else {
-            return Err(TestError::Line(format!(in alloc; "`{part}` has no heading")?));
-        };
-        sections.push(section)?;
-    }
-    Ok(sections)
 }

@@ -1,10 +1,8 @@
 //! Sessions made on hosts, each reply compared with its line.
 
-use crate::lines::{lines_of, step_in, steps_in};
+use crate::lines::{step_in, steps_in};
 use crate::rows::{Row, rows_of};
-use crate::views::check_hosts;
 use crate::{TestError, expect};
-use pid_blocks::Uid;
 use requests::{Host, Reply};
 use std::alloc::Global;
 use stop_handlers::{ByPolicy, Decider, Policy};
@@ -58,32 +56,4 @@ pub fn host_after(
     let replies = run_list(alloc, &mut host, steps)?;
     check_replies(alloc, lines, replies.as_slice())?;
     Ok(host)
-}
-
-/// Makes the user's own steps on another host, and checks that they have the same replies, and that the user sees the
-/// same at the end.
-fn check_alone(
-    alloc: Global,
-    shared: &Host<ByPolicy>,
-    lines: &[Row<'_>],
-    user: Uid,
-    policy: Option<&Policy>,
-) -> Result<(), TestError> {
-    let own = lines_of(alloc, lines, user, policy)?;
-    let alone = host_after(alloc, own.as_slice(), policy)?;
-    let name = "a user sees another host than alone";
-    check_hosts(alloc, shared, &alone, &[user], name)
-}
-
-/// Makes the session of the users 1001 and 1002 on one host, and each user's own steps on another. Checks that each line
-/// has the same reply there, and that the user sees the same at the end. An install has this policy.
-pub fn together_and_alone(
-    alloc: Global,
-    text: &str,
-    policy: Option<&Policy>,
-) -> Result<(), TestError> {
-    let lines = rows_of(alloc, text)?;
-    let shared = host_after(alloc, lines.as_slice(), policy)?;
-    check_alone(alloc, &shared, lines.as_slice(), Uid::new(1001)?, policy)?;
-    check_alone(alloc, &shared, lines.as_slice(), Uid::new(1002)?, policy)
 }

@@ -1,6 +1,6 @@
-//! Steps in words: an op with the values of its keys, in the order of docs/FORMAT.md, section 2.
+//! Steps in words: an op with the values of its keys, in the order of docs/FORMAT.md.
 
-use event_masks::Call;
+use event_masks::{Call, EventMask};
 use requests::{Act, PlainStep, Request, Step};
 use signals::{Disposition, SigSet, Signal};
 use stop_handlers::Policy;
@@ -8,39 +8,6 @@ use wait4::Options;
 
 fn number(word: &str) -> Option<u32> {
     word.parse().ok()
-}
-
-fn request(name: &str) -> Option<Request> {
-    Some(match name {
-        "PT_TRACE_ME" => Request::TraceMe,
-        "PT_ATTACH" => Request::Attach,
-        "PT_CONTINUE" => Request::Continue,
-        "PT_STEP" => Request::Step,
-        "PT_SUSPEND" => Request::Suspend,
-        "PT_RESUME" => Request::Resume,
-        "PT_DETACH" => Request::Detach,
-        "PT_KILL" => Request::Kill,
-        "PT_SET_EVENT_MASK" => Request::SetEventMask,
-        "PT_GET_EVENT_MASK" => Request::GetEventMask,
-        "PT_LWPINFO" => Request::LwpInfo,
-        "PT_GETNUMLWPS" => Request::GetNumLwps,
-        "PT_GETLWPLIST" => Request::GetLwpList,
-        "PT_TO_SCE" => Request::ToSce,
-        "PT_TO_SCX" => Request::ToScx,
-        "PT_SYSCALL" => Request::Syscall,
-        "PT_FOLLOW_FORK" => Request::FollowFork,
-        "PT_LWP_EVENTS" => Request::LwpEvents,
-        _ => return None,
-    })
-}
-
-fn disposition(name: &str) -> Option<Disposition> {
-    Some(match name {
-        "default" => Disposition::Default,
-        "ignore" => Disposition::Ignore,
-        "catch" => Disposition::Catch,
-        _ => return None,
-    })
 }
 
 fn options(names: &[&str]) -> Options {
@@ -82,18 +49,32 @@ fn act(words: &[&str]) -> Option<Act> {
     })
 }
 
+/// Returns the data of PT_SET_EVENT_MASK for these events.
+fn mask(names: &[&str]) -> Option<u32> {
+    let mut mask = EventMask::none();
+    for name in names {
+        mask = mask.with(EventMask::by_name(name)?);
+    }
+    Some(mask.0)
+}
+
 fn ptrace(caller: &str, words: &[&str]) -> Option<PlainStep> {
+    let caller = number(caller)?;
+    if let ["PT_SET_EVENT_MASK", target, events @ ..] = words {
+        let (target, data) = (number(target)?, mask(events)?);
+        return Some(Step::ptrace(caller, Request::SetEventMask, target, data));
+    }
     let (name, target, data) = match words {
         [name] => (name, 0, 0),
         [name, target] => (name, number(target)?, 0),
         [name, target, data] => (name, number(target)?, number(data)?),
         _ => return None,
     };
-    Some(Step::ptrace(number(caller)?, request(name)?, target, data))
+    Some(Step::ptrace(caller, Request::by_name(name)?, target, data))
 }
 
-/// Returns the step in these words, as `ptrace 1000 PT_ATTACH 1001` or `turn 100001 enter exit 3`. The mask of
-/// PT_SET_EVENT_MASK is its number, and `install 1000` installs `policy`.
+/// Returns the step in these words, as `ptrace 1000 PT_ATTACH 1001` or `turn 100001 enter exit 3`. `install 1000` installs
+/// `policy`.
 pub(crate) fn step_of(words: &[&str], policy: Option<&Policy>) -> Option<PlainStep> {
     Some(match words {
         ["spawn"] => Step::Spawn,
@@ -104,7 +85,11 @@ pub(crate) fn step_of(words: &[&str], policy: Option<&Policy>) -> Option<PlainSt
             Step::kill(number(caller)?, which.parse().ok()?, number(signal)?)
         }
         ["sigaction", caller, signal, action] => {
-            Step::sigaction(number(caller)?, number(signal)?, disposition(action)?)
+            Step::sigaction(
+                number(caller)?,
+                number(signal)?,
+                Disposition::by_name(action)?,
+            )
         }
         ["wait4", caller, which, names @ ..] => {
             Step::wait4(number(caller)?, which.parse().ok()?, options(names))

@@ -2,7 +2,7 @@
 
 use pid_blocks::BadUser;
 use signals::BadSignal;
-use std::alloc::{AllocError, AllocFailed, Global};
+use std::alloc::{AllocError, AllocFailed};
 use std::io;
 use stop_handlers::TooManyRules;
 use thiserror::Error;
@@ -30,14 +30,6 @@ impl TestError {
         match self {
             TestError::Memory | TestError::Write => 3,
             TestError::Wrong(_) | TestError::Line(_) => 1,
-        }
-    }
-
-    /// Returns the error with the name of the session in which it came.
-    pub fn within(self, alloc: Global, name: &str) -> TestError {
-        match format!(in alloc; "{name}: {self}") {
-            Ok(text) => TestError::Line(text),
-            Err(_) => TestError::Memory,
         }
     }
 }

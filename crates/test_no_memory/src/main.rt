@@ -1,7 +1,7 @@
 //! Makes every kind of step, lists of them, the laws of isolation on hosts, calls of a shared host, sessions in
 //! threads, and runs of whole scenarios, with threads and without. After a refusal for lack of memory it checks that
 //! nothing changed, and tries again. So a run in which allocations are refused prints what a run with ample memory
-//! does, or ends with status 3 if it is refused again and again. tests/failures.sh makes such runs.
+//! does, or ends with status 3 if it is refused again and again. The test named failures makes such runs.
 #![tactic(auto)]
 
 /// Tries a call until it succeeds, at most `TRIES` times, and returns its value. The error says that memory ran out.

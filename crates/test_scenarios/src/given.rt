@@ -1,6 +1,6 @@
 //! The texts on standard input.
 
-use byte_io::{LineEnd, read_line};
+use byte_lines::{LineEnd, read_line};
 use std::alloc::Global;
 use std::io;
 use std::io::{BufReader, Read};

@@ -2,8 +2,8 @@
 //! those on standard input, each after a line with its number of bytes, and texts by chance. It ends with status 1 if
 //! one text is read differently.
 //!
-//! The tests are those of scenarios, from bytes to text, and of sessions line by line. They have a crate of their own,
-//! so that the tested crates are proved once.
+//! The tests are those of readers and writers that fail, in runs and in sessions line by line. They have a crate of
+//! their own, so that the tested crates are proved once.
 #![tactic(auto)]
 
 mod by_chance;

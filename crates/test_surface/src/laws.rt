@@ -117,8 +117,8 @@ fn both_lists(
 
 const LISTS: &str = "
 spawn -> new 1000 100000
-1002 spawn -> new 2000 104000
-1002 ptrace 2000 PT_ATTACH 1000 -> error ESRCH 3
+1002: spawn -> new 2000 104000
+1002: ptrace 2000 PT_ATTACH 1000 -> error ESRCH 3
 list 1000 -> pids 1000
 ";
 
@@ -147,12 +147,12 @@ fn alike_lists(
 /// The first user names the second one's process and LWP.
 const FOREIGN: &str = "
 spawn -> new 1000 100000
-1002 spawn -> new 2000 104000
+1002: spawn -> new 2000 104000
 ptrace 1000 PT_ATTACH 2000 -> error ESRCH 3
 turn 104000 compute -> error ESRCH 3
 wait4 1000 2000 -> error ECHILD 10
 kill 1000 2000 9 -> error ESRCH 3
-1002 list 2000 -> pids 2000
+1002: list 2000 -> pids 2000
 list 2000 -> error ESRCH 3
 list 1000 -> pids 1000
 ";
@@ -163,7 +163,7 @@ spawn -> new 1000 100000
 ptrace 1000 PT_ATTACH 1500 -> error ESRCH 3
 turn 100007 compute -> error ESRCH 3
 wait4 1000 1500 -> error ECHILD 10
-1002 ptrace 2000 PT_ATTACH 1000 -> error ESRCH 3
+1002: ptrace 2000 PT_ATTACH 1000 -> error ESRCH 3
 kill 1000 1500 9 -> error ESRCH 3
 list 1500 -> error ESRCH 3
 list 1000 -> pids 1000

@@ -3,9 +3,11 @@
 //! gone doesn't build.
 #![tactic(auto)]
 
+mod handlers;
 mod laws;
 mod numbers;
 mod refusals;
+mod statuses;
 mod steps;
 mod stops;
 mod tables;
@@ -17,7 +19,9 @@ fn main(rt: HostRuntime) -> Result<(), TestError> {
     let alloc = rt.alloc();
     numbers::check(&rt, alloc)?;
     tables::check(&rt, alloc)?;
+    statuses::check(&rt, alloc)?;
     steps::check(&rt, alloc)?;
+    handlers::check(&rt, alloc)?;
     stops::check(&rt, alloc)?;
     refusals::check(&rt, alloc)?;
     views::check(&rt, alloc)?;

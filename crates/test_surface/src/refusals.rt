@@ -20,11 +20,11 @@ pub fn check(rt: &impl Print, alloc: Global) -> Result<(), TestError> {
 /// Process 1000 traces process 1001, whose LWP is in a call of fork(2).
 const IN_FORK: &str = "
 spawn -> new 1000 100000
-1002 spawn -> new 2000 104000
+1002: spawn -> new 2000 104000
 spawn -> new 1001 100001
 ptrace 1000 PT_ATTACH 1001 -> ok
 wait4 1000 -1 -> status 1001 4479
-ptrace 1000 PT_SET_EVENT_MASK 1001 8 -> ok
+ptrace 1000 PT_SET_EVENT_MASK 1001 PTRACE_FORK -> ok
 ptrace 1000 PT_CONTINUE 1001 -> ok
 turn 100001 enter fork -> ok
 ";

@@ -27,7 +27,7 @@ pub fn check(rt: &impl Print, alloc: Global) -> Result<(), TestError> {
 /// Process 1000 has attached to process 1001, and a wait has reported the stop.
 const REPORTED: &str = "
 spawn -> new 1000 100000
-1002 spawn -> new 2000 104000
+1002: spawn -> new 2000 104000
 spawn -> new 1001 100001
 ptrace 1000 PT_ATTACH 1001 -> ok
 wait4 1000 -1 -> status 1001 4479

@@ -18,7 +18,7 @@ pub fn check(rt: &impl Print, alloc: Global) -> Result<(), TestError> {
 /// Two processes of the first user, which installs a policy, and one of the second.
 const THREE_AND_A_POLICY: &str = "
 spawn -> new 1000 100000
-1002 spawn -> new 2000 104000
+1002: spawn -> new 2000 104000
 spawn -> new 1001 100001
 install 1000 -> ok
 ";

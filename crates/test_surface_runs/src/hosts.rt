@@ -28,7 +28,7 @@ pub fn spawns(
     let user = user.get();
     let mut text = String::new(alloc);
     for place in 0..count {
-        writeln!(text, "{user} spawn -> new {} {}", pid + place, tid + place)?;
+        writeln!(text, "{user}: spawn -> new {} {}", pid + place, tid + place)?;
     }
     Ok(text)
 }

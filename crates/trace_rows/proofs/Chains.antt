@@ -131,7 +131,7 @@ module _ (rows : Rows) (s : MidStepInvariant rows) where
   short : (n : ℕ) → length (chain 250 ps n) ≤ 250
   short n = grind (arith, chain-suc 249 ps n, of_row n)
 
--- one link more finds nothing more where a chain has ended
+-- one link more finds nothing more if a chain has ended
 pub chain-ended : (k : ℕ) (xs : List ProcData) (n : ℕ) → length (chain (suc k) xs n) ≤ suc k → chain (suc k) xs n ≡ chain k xs n
 unfolding chain
 chain-ended zero xs n le = grind arith

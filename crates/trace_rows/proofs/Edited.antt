@@ -50,7 +50,7 @@ pub Differ-edit : (h : LwpData → Option LwpData) → ((l : LwpData) → IfSome
 Differ-edit h g [] all = tt
 Differ-edit h g (l ∷ ls) all = grind (arith, g l, Differ-edit h g ls all.1, lacks_edit h g l.tid ls all.0)
 
--- Counts where none of those counted is gone, and where one may be
+-- Counts if none of those counted is gone, and if one may be
 
 pub count_kept : {X : Type 0} (t r : X → Bool) (h : X → Option X) (R : X → Type 0) → ((x : X) → R x → t x ≡ true → (y : X) × (h x ≡ Some y) × (r y ≡ true)) → (xs : List X) → AllByRecursion R xs → count_by t xs ≤ count_by r (filter_map h xs)
 count_kept t r h R keep [] all = omega arith

@@ -61,7 +61,7 @@ pub any_holds : {X : Type 0} (q : X → Bool) (P : X → Type 0) (R : Type 0) �
 any_holds q P R h [] all is = absurd (true≢false (sym is))
 any_holds q P R h (x ∷ xs) all is = grind (arith, is, h x all.0, any_holds q P R h xs all.1)
 
--- one that is found passes another test, where that holds of it
+-- one that is found passes another test, if that holds of it
 pub find_passes : {X : Type 0} (q t : X → Bool) (xs : List X) (x : X) → find q xs ≡ Some x → t x ≡ true → list_any t xs ≡ true
 find_passes q t [] x is pass = absurd (cc)
 find_passes q t (y ∷ xs) x is pass = grind (arith, find_passes q t xs x, is, pass)

@@ -28,3 +28,9 @@ pub mod SoundAfterThread
 pub mod Found
 pub mod CommonNames
 pub mod CommonLemmas
+pub mod FilteredLists
+pub mod IsolationRelation
+pub mod IsolationOfSignals
+pub mod IsolationOfEdits
+pub mod SoundRowsAreApart
+pub mod IsolationOfEnds

@@ -18,5 +18,5 @@ pub posted_process-same : (s : ℕ) (to : Option ℕ) (p : ProcData)
     → ((posted_process s to p).pid ≡ p.pid) × ((posted_process s to p).uid ≡ p.uid) × ((posted_process s to p).tracer ≡ p.tracer) × ((posted_process s to p).parent ≡ p.parent)
 posted_process-same s to p = grind (arith, nat_tests)
 
--- for goals where no process is notified
+-- for goals in which no process is notified
 pub ruleset tells_none = (notified-none, notified-absent)

@@ -43,7 +43,7 @@ process_edited f keeps n (p ∷ ps) rise = grind (arith, nat_tests, keeps p, pro
 pub found_above : (t : ProcData → Bool) (n : ℕ) (ps : List ProcData) (p : ProcData) → AllAbove n ps → find t ps ≡ Some p → n < p.pid
 found_above t n ps p above is = every_found (λ q. n < q.pid) t ps p above is
 
--- where numbers differ, each element is found by its own
+-- if numbers differ, each element is found by its own
 pub own_found : {X : Type 0} (number : X → ℕ) (xs : List X) → Once number xs → AllByRecursion (λ x. find (λ y. number y == number x) xs ≡ Some x) xs
 own_found number [] differ = tt
 own_found number (x ∷ xs) differ = (grind (arith, nat_tests), All-imply _ _ (λ y h. grind (arith, nat_tests, h.0, h.1)) xs (All-both _ _ xs differ.0 (own_found number xs differ.1)))

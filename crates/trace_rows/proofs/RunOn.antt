@@ -7,7 +7,7 @@ use Rattle.proc_table.proofs.LwpWalk.{unput}
 use Rattle.proc_table.proofs.Changes.{changed, changed-at, filter_map-map}
 use Rattle.trace_rows.proofs.StoppedByOwnLwp.{own_reporter}
 
--- the LWPs without what one of them has reported, and without it where it has exited
+-- the LWPs without what one of them has reported, and without it if it has exited
 abbrev pub dropped : Bool → LwpData → List LwpData → List LwpData
 dropped gone l ls = cond gone (without_lwp l.tid ls) (with_lwp (unreported l) ls)
 

@@ -1,4 +1,4 @@
--- Rows after an edit are as rows must be, where each row keeps its part.
+-- Rows after an edit are as rows must be, if each row keeps its part.
 use Rattle.trace_rows.proofs.CommonNames.{lwp_count_of, process_count, IsUser, nat_tests, cases_Bool, option_and_then, AllByRecursion, tid_block, InBlock, shows, PL_FLAG_EXITED, LwpData, lwp_of, ProcData, is_live, reporting, process_of}
 use Rattle.trace_rows.proofs.CommonNames.{Rows, owner, by_owner, each, edit_processes, edit_lwps, owns, lwp_count, Rise, InOwnBlock, InOwnersBlock, names_own, IsLiveOf, IsLiveChild, Linked, FitProcess, waited_for, Standing, FitLwp}
 use Rattle.trace_rows.proofs.CommonNames.{WithOwner, MidStepInvariant, IsSound, ◌≡◌, ◌⊎◌, inl, inr, ℕ, zero, suc, ◌≤◌, List, filter_map, Bool, true, false, ◌==◌, if◌then◌else◌, Option, Some, None, IfSome, refl, sym, ap, ◌∙◌, arith}
@@ -58,7 +58,7 @@ module _ {P : ProcData → Type 0} {Q : ProcData → LwpData → Type 0} (rows :
   all_lwps = All-imply (λ l. (lwp_of l.tid rows.lwps ≡ Some l) × (WithOwner rows (Standing rows) l × WithOwner rows Q l)) (WithOwner rows (Beside rows P Q)) (λ l h p at. record { at = at; there = h.0; row = row_at l.pid p at; stood = h.1.0 p at; fact = h.1.1 p at }) rows.lwps
       (All-both _ _ rows.lwps (own_lwps rows.lwps s.stands.differ) (All-both _ (WithOwner rows Q) rows.lwps s.stands.standing s.lwps))
 
--- Chains, where tracers stay or go
+-- Chains, if tracers stay or go
 
 pub meets_less : (ps qs : List ProcData) → ((n t : ℕ) → tracer_of qs n ≡ Some t → tracer_of ps n ≡ Some t) → (links q n : ℕ) → meets links qs q n ≡ true → meets links ps q n ≡ true
 unfolding meets
@@ -85,7 +85,7 @@ no_ring f ps rise same leaves n none = by_bool (meets 250 (filter_map f ps) n n)
 abbrev pub LivesOn : Rows → (ℕ → Bool) → ℕ → ℕ → Type 0
 LivesOn rows over u n = IsLiveOf rows u n × (over n ≡ false)
 
--- where no process ends
+-- if no process ends
 abbrev pub nobody : ℕ → Bool
 nobody n = false
 
@@ -103,7 +103,7 @@ abbrev pub IfKept : Rows → Rows → (ℕ → Bool) → (ProcData → Type 0) �
 IfKept rows after over P' p None = is_live p ≡ true → over p.pid ≡ true
 IfKept rows after over P' p (Some q) = KeptRow rows after over P' p q
 
--- what an LWP of p keeps as k, where p becomes q
+-- what an LWP of p keeps as k, if p becomes q
 pub record KeptLwp (rows after : Rows) (over : ℕ → Bool) (Q' : ProcData → LwpData → Type 0) (p q : ProcData) (k : LwpData) : Type 0 where
   pub exited : shows k.flags PL_FLAG_EXITED ≡ true → 2 ≤ lwp_count p.pid after
   pub waits : IfSome (waited_for k.mode) (λ c. IsLiveChild rows p c × (over c ≡ false))
@@ -148,7 +148,7 @@ module _ {rows after : Rows} {P P' : ProcData → Type 0} {p q : ProcData} (row 
   pub kept_row : IfSome (reporting q) (λ tid. names_own after p tid ≡ true) → (is_live p ≡ true → 1 ≤ lwp_count p.pid after) → P' q → KeptRow rows after nobody P' p q
   kept_row named peopled fits = grind (arith, row.link.tracer, like, named, peopled, fits)
 
-  -- where its LWPs stay, and it reports as before, or nothing
+  -- if its LWPs stay, and it reports as before, or nothing
   pub kept_all : (reporting q ≡ reporting p) ⊎ (reporting q ≡ None) → Stay rows after p → P' q → KeptRow rows after nobody P' p q
   kept_all report stay fits = grind (arith, row.link, like, report, stay, peopled_on row stay, fits)
 
@@ -173,7 +173,7 @@ module _ (rows : Rows) (f : ProcData → Option ProcData) (g : ProcData → LwpD
   pub one_left : (p : ProcData) → process_of p.pid rows.processes ≡ Some p → (l : LwpData) → l.pid ≡ p.pid → (k : LwpData) → g p l ≡ Some k → (k : LwpData) × (by_owner g l (owner rows l) ≡ Some k) × (k.tid ≡ l.tid) × (k.pid ≡ l.pid)
   one_left p at l own k is = search (rules, if_at)
 
-  -- where the LWPs of a process stay, of each of which R holds
+  -- if the LWPs of a process stay, of each of which R holds
   pub stay_where : (R : LwpData → Type 0) → AllByRecursion R rows.lwps → (p : ProcData) → process_of p.pid rows.processes ≡ Some p → ((l : LwpData) → R l → l.pid ≡ p.pid → (k : LwpData) × (g p l ≡ Some k)) → Stay rows after p
   stay_where R all p at keeps = search (rules, count_kept, eqb-true, any_forward, and_right, one_left)
 

@@ -34,11 +34,11 @@ module _ (settings : Settings) (rows : Rows) (p : ProcData) (s : IsSound rows) (
   ends_live : (q : ProcData) → Known q → ends q ≡ true → is_live q ≡ true
   ends_live q k e = grind (arith, nat_tests, row_is k at, e, live)
 
-  -- a doomed number is p, or where debuggers kill it has a chain to p
+  -- a doomed number is p, or if debuggers kill it has a chain to p
   doomed : (t : ℕ) (R : Type 0) → over t ≡ true → (t ≡ p.pid → R) → (settings.kill_on_debugger_exit ≡ true → meets 250 rows.processes p.pid t ≡ true → R) → R
   doomed t R is self far = any_holds _ _ _ (λ r k h. grind (arith, nat_tests, h, self, far)) rows.processes known is
 
-  -- where debuggers kill, a live process that doesn't end has no tracer that ends
+  -- if debuggers kill, a live process that doesn't end has no tracer that ends
   killed : settings.kill_on_debugger_exit ≡ true → (q : ProcData) → Known q → is_live q ≡ true → ends q ≡ false → (t : ℕ) → q.tracer ≡ Some t → over t ≡ false
   killed kills q k alive stays t is = by_bool (over t) (λ dies. doomed t ⊥ dies
       (λ same. far (meets_step rows.processes 249 p.pid q.pid t link (or_left (t == p.pid) (meets 249 rows.processes p.pid t) (eq-eqb t p.pid same))))
@@ -50,7 +50,7 @@ module _ (settings : Settings) (rows : Rows) (p : ProcData) (s : IsSound rows) (
       far : meets 250 rows.processes p.pid q.pid ≡ true → ⊥
       far near = grind (arith, kills, alive, near, stays)
 
-  -- where they don't, and p traces no live process, p ends alone
+  -- if they don't, and p traces no live process, p ends alone
   alone : settings.kill_on_debugger_exit ≡ false → (q : ProcData) → traces p.pid q ≡ false → (t : ℕ) → q.tracer ≡ Some t → over t ≡ false
   alone spares q free t is = by_bool (over t) (λ dies. doomed t ⊥ dies (λ same. grind (arith, nat_tests, same, is, free)) (λ kill met. cc))
 

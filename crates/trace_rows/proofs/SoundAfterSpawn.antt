@@ -44,7 +44,7 @@ count_more q xs x = omega (arith, count_last q xs x)
 pub any_last : {X : Type 0} (q : X → Bool) (xs : List X) (x : X) → list_any q xs ≡ true → list_any q (xs ++ (x ∷ [])) ≡ true
 any_last q xs x is = list_any-append q xs (x ∷ []) ∙ rw is refl
 
--- The processes that rows name, in rows where no process is p
+-- The processes that rows name, in rows in which no process is p
 
 pub named_other : (rows : Rows) (n : ℕ) → is_process rows n ≡ false → (u m : ℕ) → IsLiveOf rows u m → m ≢ n
 named_other rows n free u m live same = any_holds _ _ _ (λ p other is. grind (arith, nat_tests, other, is, same)) rows.processes (none_of _ rows.processes free) live

@@ -4,7 +4,7 @@ use Rattle.trace_rows.proofs.CommonNames.{IsStopped, every_found, process_of-pid
 use Rattle.trace_rows.proofs.Every.{any_holds}
 use Rattle.trace_rows.proofs.Numbers.{own_lwps}
 
--- the LWP with the number is the process's, where one of the process's has it
+-- the LWP with the number is the process's, if one of the process's has it
 pub own_found : (tid pid : ℕ) (ls : List LwpData) → Differ ls → list_any (λ l. nat_eq l.tid tid && nat_eq l.pid pid) ls ≡ true → (l : LwpData) × (lwp_of tid ls ≡ Some l) × (l.pid ≡ pid)
 own_found tid pid ls d any = any_holds _ _ _ (λ l own is. grind (arith, nat_tests, own, is)) ls (own_lwps ls d) any
 

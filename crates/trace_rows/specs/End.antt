@@ -20,7 +20,7 @@ unfoldable pub meets : ℕ → List ProcData → ℕ → ℕ → Bool
 meets zero processes p n = false
 meets (suc links) processes p n = exists (λ t. (t == p) || meets links processes p t) (tracer_of processes n)
 
--- whether the row q ends with p: p itself, and, where debuggers kill, each live process with a chain of tracers to p
+-- whether the row q ends with p: p itself, and, if debuggers kill, each live process with a chain of tracers to p
 abbrev pub is_doomed : Settings → List ProcData → ℕ → ProcData → Bool
 is_doomed settings processes p q = (q.pid == p) || (settings.kill_on_debugger_exit && is_live q && meets max_processes processes p q.pid)
 

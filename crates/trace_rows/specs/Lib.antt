@@ -10,3 +10,5 @@ pub mod Laws
 pub mod Reports
 pub mod Edits
 pub mod Before
+pub mod Closed
+pub mod EndLaws

@@ -1,5 +1,6 @@
-//! Laws of chains of tracers and of detaching.
+//! Laws of chains of tracers, of detaching, and of one user's rows at the end of a process.
 
+ghost use Rattle.trace_rows.specs.EndLaws.{EndOwn, EndOthers};
 ghost use Rattle.trace_rows.specs.Laws.{ChainsEnd, ChainsMeet, TraceeDeeper, DetachedSound};
 
 /// A chain of tracers has at most 249 links.
@@ -24,4 +25,11 @@ pub fn tracee_deeper()
 #[tactic(auto, using(crate::proofs::SoundAfterDetach::detached_sound))]
 pub fn detached_sound()
     ensures { DetachedSound }
+{}
+
+/// Among its user's rows, the end of a process has the same result as if no other user had rows. It leaves
+/// every other user's rows unchanged.
+pub fn ends_are_apart()
+    ensures own { EndOwn }
+    ensures others { EndOthers }
 {}

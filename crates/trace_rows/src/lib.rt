@@ -1,4 +1,14 @@
 //! Signals posted to processes, and their trace stops.
+//!
+//! Posting adds a signal to a row, settling drops what is ignored, a stop writes the trace state that a tracer's wait
+//! reports. Resuming and detaching change the tracee's row. None of these ends a process: `trace_stop` does.
+//!
+//! It is apart from `trace_stop` since an end walks along links from process to process and needs the laws of these
+//! changes first.
+//!
+//! Begin with `signaling` and `tracing`. Here are also the definitions of sound rows, as a test that computes
+//! (specs/Sound) and as facts of each row (specs/Facts), and the lemma by which an edit keeps rows sound
+//! (proofs/SoundAfterEdit).
 #![tactic(auto)]
 
 ghost use Rattle.std.specs.Prelude.{◌≡◌};

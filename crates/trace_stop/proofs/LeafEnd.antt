@@ -55,7 +55,7 @@ end_each_same ends ends' over over' p status rows all same =
     (All-imply (λ r. ends r ≡ ends' r) _ (λ r e. (rw e refl, λ l. rw e refl)) rows.processes all))
     ∙ ap (λ (d : ℕ → Bool). end_each ends' d p status rows) (fun_ext same)
 
--- the numbers that end where q alone does
+-- the numbers that end if q alone does
 one_number : (t : ProcData → Bool) (q n : ℕ) (ps : List ProcData) → AllByRecursion (λ r. t r ≡ (r.pid == q)) ps → list_any (λ r. (r.pid == n) && t r) ps ≡ (list_any (λ r. r.pid == q) ps && (n == q))
 one_number t q n [] all = refl
 one_number t q n (r ∷ ps) all = grind (arith, nat_tests, all.0, one_number t q n ps all.1)

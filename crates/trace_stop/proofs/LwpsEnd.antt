@@ -41,7 +41,7 @@ module _ (rows : Rows) (s : IsSound rows) (q : ℕ) (p : ProcData) (at : process
       (λ l h. record { r = h.0.0; found = h.0.1; number = process_of-pid l.pid h.0.0 ps h.0.1; stands = h.1 h.0.0 h.0.1 }) rows.lwps
       (All-both (InOwnersBlock rows) (WithOwner rows (Standing rows)) rows.lwps s.stands.in_owners_block s.stands.standing)
 
-  -- an LWP waits for p only where p is its process's child
+  -- an LWP waits for p only if p is its process's child
   waits_own : (l : LwpData) (o : Owned l) → (l.pid == p.parent) ≡ false → released (alone q) o.r l ≡ l
   waits_own l o other = let waits = o.stands.waits in let number = o.number in let parent = parent_of o.r in grind (arith, nat_tests, waits, number, parent, other)
 
@@ -49,7 +49,7 @@ module _ (rows : Rows) (s : IsSound rows) (q : ℕ) (p : ProcData) (at : process
   ended_as g same = ap (λ ls. record rows { lwps = ls }) (map_kept made (λ l. l.pid == q) g rows.lwps
       (All-imply Owned _ (λ l o. let found = o.found in let number = o.number in let is = same l o in rw found (grind (arith, nat_tests, number, is))) rows.lwps owned))
 
-  -- where p has a parent, and where it has none
+  -- if p has a parent, and if it has none
   pub ended_with : (parent : ProcData) → process_of p.parent ps ≡ Some parent → map_lwps parent.pid (released (alone q) parent) (without_lwps q rows) ≡ lwps_ended q rows
   ended_with parent its = ended_as (own_lwp parent.pid (released (alone q) parent))
       (λ l o. let found = o.found in let number = process_of-pid p.parent parent ps its in let waits = waits_own l o in grind (arith, nat_tests, found, its, number, waits))

@@ -84,7 +84,7 @@ module _ (k : ProcData) (rows : Rows) where
       ∙ ap (λ t. tell t (each (replaced k.pid (Some k)) same_lwp rows)) (fun_ext (λ x. or-false (m == x) ∙ ap (λ n. n == x) left.1))
       ∙ sym (ap (λ b. made_of (if b then None else Some k)) left.0)
 
--- what the row z and the notifications keep of q's end, where z is replaced or removed, and those of t are notified
+-- what the row z and the notifications keep of q's end, if z is replaced or removed, and those of t are notified
 pub record Replaces (alive : ℕ → Bool) (q : ℕ) (z : ProcData) (o : Option ProcData) (t : ℕ → Bool) : Type 0 where
   pub number : IfSome o (λ s. s.pid ≡ z.pid)
   pub fits : IfSome o (LeavingRow alive q)

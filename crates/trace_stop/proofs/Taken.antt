@@ -8,7 +8,7 @@ use Rattle.trace_stop.proofs.Told.{heard, notified_row, tell, told_by, tells, wh
 use Rattle.trace_stop.proofs.LeafEnd.{count_fewer}
 use Rattle.trace_stop.proofs.Steps.{replaced, same_lwp, drop_each, set_each, collected_none, collected_some, collector_none, collector_some, zombie_made, Replaces, step_leaving, step_same}
 
--- what a step on the way to q's end leaves, where it takes one of those that pass a test
+-- what a step on the way to q's end leaves, if it takes one of those that pass a test
 pub record Step (q : ℕ) (u : ProcData → Bool) (rows rows' : Rows) : Type 0 where
   pub leaving : IsLeaving q rows'
   pub fewer : count_by u rows'.processes < count_by u rows.processes
@@ -47,7 +47,7 @@ parent-told : (q : ℕ) (t : ℕ → Bool) (r : ProcData) → ((notified_row t r
 unfolding notified_row heard
 parent-told q t r = grind arith
 
--- no row passes a test where none above zero does, and the other way
+-- no row passes a test if none above zero does, and the other way
 pub none_from : (t : ProcData → Bool) (ps : List ProcData) → AllByRecursion InOwnBlock ps → find (λ p. ltb 0 p.pid && t p) ps ≡ None → list_any t ps ≡ false
 none_from t [] in_own_blocks none = refl
 none_from t (p ∷ ps) in_own_blocks none = grind (arith, nat_tests, none_from t ps in_own_blocks.1)

@@ -6,7 +6,7 @@ use Rattle.trace_stop.proofs.CommonNames.{any_same, KeepsNumbers, KeepsOwners, e
 use Rattle.std.proofs.lemmas.Nat.Bits.{bit_at_or, bit_at_xor, same_from_bits}
 use Rattle.trace_rows.proofs.CommonNames.{notifies_of}
 
--- tests where one is narrowed by a condition
+-- a test, and the same narrowed by a condition
 pub any_but : {X : Type 0} (f g : X → Bool) (c : Bool) (xs : List X) → AllByRecursion (λ x. g x ≡ (f x && c)) xs → list_any g xs ≡ (list_any f xs && c)
 any_but f g c [] all = refl
 any_but f g c (x ∷ xs) all = grind (arith, nat_tests, all.0, any_but f g c xs all.1)

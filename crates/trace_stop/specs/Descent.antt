@@ -1,4 +1,4 @@
--- From a process that ends down to its tracees, where a debugger's end kills and where it detaches.
+-- From a process that ends down to its tracees, if a debugger's end kills and if it detaches.
 use Rattle.std.specs.Prelude.{◌≡◌, ◌==◌, ◌&&◌, ◌||◌}
 use Rattle.trace_rows.specs.CommonNames.{ℕ, Bool, true, false, ltb, Option, Some, option_map_or, list_any, ProcData, is_live, traces, Rows}
 use Rattle.step_types.specs.declared.Settings.{Settings}

@@ -1,8 +1,8 @@
 //! The comparison of a run's lines with those of a file.
 use crate::CommandError;
-use crate::explaining::unread;
-use command_line::Selection;
-use line_diff::Difference;
+use crate::asking::Selection;
+use crate::explaining::{FileName, unread};
+use byte_lines::Difference;
 use pid_blocks::Uid;
 use scenario_runs::{BareStep, Fault, Scenario};
 use std::alloc::{AllocError, Global};
@@ -64,7 +64,8 @@ fn line_of_difference(
         other: expected,
         end: "no more lines",
     };
-    let mut text = format!(in alloc; "{path}:{line}: expected {wanted}, got {had}")?;
+    let name = FileName { name: path };
+    let mut text = format!(in alloc; "{name}:{line}: expected {wanted}, got {had}")?;
     if let Some(step) = step_of_line(scenario.bare_steps(), shown, line) {
         write!(text, "\n  it answers {step}")?;
     }
@@ -154,7 +155,7 @@ pub(crate) fn count_of(steps: &[(Uid, BareStep)], user: Uid) -> usize {
     steps.iter().filter(|step| step.0 == user).count()
 }
 
-/// The step with this number where the steps are sorted by user.
+/// The step with this number, if the steps are sorted by user.
 fn step_by_users(steps: &[(Uid, BareStep)], line: usize) -> Option<StepPlace> {
     let mut left = line;
     for number in 1001..1065 {

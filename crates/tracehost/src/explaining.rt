@@ -1,13 +1,13 @@
 //! Explanations of refused input: where the first mistakes are, and what was likely meant.
 use crate::CommandError;
+use crate::asking::{Mode, Selection};
 use crate::expecting::count_of;
-use command_line::{Mode, Selection};
 use diagnostics::{Source, explain};
 use scenario_runs::{Fault, MAX_STEP_BYTES, Scenario, parse};
 use std::alloc::{AllocError, Global};
 use std::io::Read;
 use std::rt::Files;
-use std::{fs, io};
+use std::{fmt, fs, io};
 
 /// How many bytes of a scenario are read: one more than it may have.
 const MAX_READ: u64 = 4194305;
@@ -27,7 +27,7 @@ fn words_of(alloc: Global, error: &io::Error) -> Result<String, AllocError> {
     }
 }
 
-/// The trouble of an input that can't be read: the fault alone where no memory is left for more.
+/// The trouble of an input that can't be read: only the fault if no memory is left for more.
 pub(crate) fn unread(alloc: Global, name: &str, error: &io::Error) -> CommandError {
     if error.kind() == io::ErrorKind::OutOfMemory {
         return CommandError::Fault(Fault::Memory);
@@ -41,7 +41,28 @@ pub(crate) fn unread(alloc: Global, name: &str, error: &io::Error) -> CommandErr
 /// The name of an input that can't be read, and the system's reason.
 fn reason_of(alloc: Global, name: &str, error: &io::Error) -> Result<String, AllocError> {
     let words = words_of(alloc, error)?;
+    let name = FileName { name };
     format!(in alloc; "  {name}: {words}\n")
+}
+
+/// A file's name with its control characters escaped, so that it can't write to a terminal's title or cursor.
+#[derive(Clone, Copy, Drop)]
+pub(crate) struct FileName<'a> {
+    pub(crate) name: &'a str,
+}
+
+impl fmt::Display for FileName<'_> {
+    fn fmt<W: fmt::Write>(&self, f: &mut fmt::Formatter<W>) -> fmt::Result {
+        for character in self.name.chars() {
+            if character.is_control() {
+                let escaped = character.escape_default();
+                write!(f, "{escaped}")?;
+            } else {
+                write!(f, "{character}")?;
+            }
+        }
+        Ok(())
+    }
 }
 
 /// The bytes of a reader to their end, or to the first that is too many.

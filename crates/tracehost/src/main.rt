@@ -11,17 +11,20 @@
 #![tactic(auto)]
 
 ghost use Rattle.std.specs.Prelude.{◌≡◌};
-ghost use Rattle.tracehost.specs.Options.{line_style, line_options};
+ghost use Rattle.tracehost.specs.Options.{line_options};
 
+mod asking;
+mod command_line;
 mod expecting;
 mod explaining;
 
+use crate::asking::{Mode, RunRequest, Selection, Terminals};
+use crate::command_line::{Message, Refusal, asked_of};
 use crate::expecting::{none_differs, read_expected};
 use crate::explaining::{Explained, explain_empty_run, explained_scenario, prompt, unread};
-use command_line::{Message, Mode, Refusal, RunRequest, Selection, Terminals, asked_of};
+use byte_lines::first_difference;
 use json_trace::TraceWriter;
-use line_diff::first_difference;
-use line_sessions::{ServeError, serve};
+use open_sessions::{ServeError, serve};
 use scenario::run_threads_with;
 use scenario_runs::{
     Fault, LineOptions, RunFault, Scenario, Style, policy_handlers, read, run_with,
@@ -37,7 +40,7 @@ use stop_handlers::{Decider, Handler};
 use trace_stop::Settings;
 
 /// The version of the program and of all that comes with it.
-const VERSION: &str = "0.11.0";
+const VERSION: &str = "0.12.0";
 
 /// Why the program ends with another status than 0.
 #[derive(Drop)]
@@ -104,16 +107,6 @@ impl From<ServeError> for CommandError {
     }
 }
 
-/// The style of the lines.
-fn style_of(style: command_line::Style) -> Style
-    ensures { result ≡ line_style style }
-{
-    match style {
-        command_line::Style::Text => Style::Text,
-        command_line::Style::Json => Style::Json,
-    }
-}
-
 /// The settings of a host whose debuggers' ends kill or detach what they trace.
 fn settings_of(kills_on_exit: bool) -> Settings
     ensures { result ≡ record { kill_on_debugger_exit = kills_on_exit } }
@@ -131,7 +124,7 @@ fn options_of(shown: &Selection) -> LineOptions
 {
     LineOptions {
         user: shown.user,
-        style: style_of(shown.style),
+        style: shown.style,
     }
 }
 
@@ -339,13 +332,7 @@ fn go<R: Files + Input + Print + Eprint + Env + AllocGlobal + Threads + Wait + S
         Mode::Lines {
             kills_on_exit,
             style,
-        } => serve_lines(
-            rt,
-            settings_of(kills_on_exit),
-            style_of(style),
-            file,
-            explains,
-        ),
+        } => serve_lines(rt, settings_of(kills_on_exit), style, file, explains),
     }
 }
 

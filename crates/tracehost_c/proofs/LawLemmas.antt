@@ -1,6 +1,6 @@
 -- The calls on a handle, as calls of its session.
 use Rattle.std.{proofs.Common.{◌≡◌, ℕ, List, [], ◌∷◌, Option, Some, None, ◌⊎◌, inl, inr, refl}, specs.Prelude.{Ok}}
-use Rattle.{step_types.specs.Plain.{PlainStep}, flat_forms.specs.declared.replies.FlatReply.{FlatReply}}
+use Rattle.{step_types.specs.Plain.{PlainStep}, tracehost_c.specs.declared.replies.FlatReply.{FlatReply}}
 use Rattle.open_sessions.specs.{Answers.{LineReply}, Calls.{OpenSession, Answers}, Laws.{Call, typed, by_line, AnswersCall, AnswersCalls}}
 use Rattle.tracehost_c.specs.Calls.{StepOf, answered, full, TypedCall, not_open, no_step, in_session, LineCall, line_not_open, line_no_memory, line_full, line_answered}
 use Rattle.tracehost_c.specs.Laws.{HandleCall, typed_call, line_call, Made, AllMade, answered_call, answered_calls}

@@ -1,7 +1,7 @@
 -- What the calls from C do, by the code that they return.
 use Rattle.std.specs.Prelude.{◌≡◌, ◌⊎◌, ℕ, Bool, if◌then◌else◌, List, Option, Some, None, IsSome, IsSomeAnd, length, map}
 use Rattle.{pid_blocks.specs.Users.IsUser, requests.specs.View.view, step_types.specs.Plain.PlainStep, scenario_runs.specs.declared.style.Style.{Style, TheVariants.{Text, Json}}}
-use Rattle.flat_forms.specs.{declared.{replies.FlatReply.FlatReply, rows.{FlatProcess.FlatProcess, FlatLwp.FlatLwp}}, Replies.flat, FlatRows.{flat_process, flat_lwp}}
+use Rattle.tracehost_c.specs.{declared.{replies.FlatReply.FlatReply, rows.{FlatProcess.FlatProcess, FlatLwp.FlatLwp}}, Replies.flat, FlatRows.{flat_process, flat_lwp}}
 use Rattle.open_sessions.specs.{Answers.{last_numbers, shown}, Calls.{OpenSession, last_text, Steps, Answers, IsFull, FullFor}}
 
 abbrev pub style_of : Bool → Style

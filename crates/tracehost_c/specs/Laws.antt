@@ -1,6 +1,6 @@
 -- The calls on one handle, one after another, and what a user can tell of them.
 use Rattle.std.specs.Prelude.{◌≡◌, ℕ, ◌==◌, ◌||◌, if◌then◌else◌, List, [], ◌∷◌, Option, Some, None, option_map}
-use Rattle.{requests.specs.Isolation.Apart, step_types.specs.Plain.PlainStep, flat_forms.specs.declared.replies.FlatReply.FlatReply}
+use Rattle.{requests.specs.Isolation.Apart, step_types.specs.Plain.PlainStep, tracehost_c.specs.declared.replies.FlatReply.FlatReply}
 use Rattle.open_sessions.specs.{Answers.LineReply, Calls.OpenSession, Laws.{Call, typed, by_line, AnswersCalls, PrivateCalls}}
 use Rattle.tracehost_c.specs.Calls.{LineCall, TypedCall}
 

@@ -2,11 +2,11 @@
 ghost use Rattle.std.specs.Prelude.{ℕ, ◌≡◌, ◌≢◌, ◌≤◌, None, Some};
 ghost use Rattle.open_sessions.specs.Answers.{last_numbers};
 ghost use Rattle.open_sessions.specs.Calls.{last_text};
-ghost use Rattle.flat_forms.specs.declared.replies.FlatReply.{FlatReply as Flat};
+ghost use Rattle.tracehost_c.specs.declared.replies.FlatReply.{FlatReply as Flat};
 ghost use Rattle.tracehost_c.specs.Calls.{style_of, LineCall, Shows, StepOf, TypedCall};
 
 use crate::handle::Tracehost;
-use flat_forms::FlatReply;
+use crate::replies::FlatReply;
 use open_sessions::{Session, SessionFault};
 use pid_blocks::Uid;
 use requests::PlainStep;

@@ -1,30 +1,47 @@
 //! Sessions for callers in C. `include/tracehost.h` has the calls as C sees them.
+//!
+//! Each call of the header is an `extern "C"` function in this file. A handle is a box with a session, or closed, and
+//! each clause says what its call does to both. What a caller in C has to keep of pointers is said in the header.
+//!
+//! It is apart from `open_sessions`, so that exported names and layouts are in one crate.
+//!
+//! Begin with the header, then with specs/Calls. The main law is `laws::handle_calls_are_private`: of all calls on a
+//! handle, each user's answers are those of the user's own calls.
 #![tactic(auto)]
 
 ghost use Rattle.std.specs.Prelude.{◌≡◌, ◌≢◌, ◌≤◌, ◌↔◌, None, Some, IsSome, IsNone, replicate, option_map};
 ghost use Rattle.pid_blocks.specs.Users.{IsUser};
 ghost use Rattle.requests.specs.Machine.{empty};
 ghost use Rattle.step_types.specs.declared.step.Step.TheVariants as op;
-ghost use Rattle.flat_forms.specs.Numbers.{act_numbered, request_numbered, disposition_numbered, options_numbered};
-ghost use Rattle.flat_forms.specs.Rules.{policy_numbered};
+ghost use Rattle.signals.specs.Dispositions.{disposition_numbered};
+ghost use Rattle.step_types.specs.Names.{request_numbered};
+ghost use Rattle.tracehost_c.specs.Numbers.{act_of as numbered_act, options_numbered};
+ghost use Rattle.tracehost_c.specs.Rules.{policy_numbered};
 ghost use Rattle.tracehost_c.specs.Calls.{style_of, LineCall, ShowsLast, ShowsNumbers, ShowsView, TypedCall};
 
+mod acts;
 mod calls;
 pub mod handle;
 pub mod laws;
+mod options;
+mod replies;
+mod rows;
+mod rules;
 mod views;
 
+use acts::act_of;
 use calls::{
     ANSWERED, INVALID, NO_MEMORY, NOT_OPEN, make, put_line, put_numbers, put_text, refused,
 };
-use flat_forms::{
-    FlatLwp, FlatProcess, FlatReply, FlatRule, act_of, disposition_of, options_of, policy_of,
-    request_of,
-};
 use handle::Tracehost;
 use open_sessions::Session;
+use options::options_of;
 use pid_blocks::Uid;
-use requests::Step;
+use replies::FlatReply;
+use requests::{Request, Step};
+use rows::{FlatLwp, FlatProcess};
+use rules::{FlatRule, policy_of};
+use signals::Disposition;
 use std::alloc::Global;
 use trace_stop::Settings;
 use views::put_view;
@@ -223,7 +240,7 @@ pub extern "C" fn tracehost_sigaction(
     ensures { TypedCall user (option_map (λ d. op.Sigaction caller signal d) (disposition_numbered disposition))
         handle.old.held.session handle.new.held.session reply.old reply.new result }
 {
-    match disposition_of(disposition) {
+    match Disposition::by_number(disposition) {
         Some(disposition) => make(
             alloc,
             handle,
@@ -331,7 +348,7 @@ pub extern "C" fn tracehost_ptrace(
     ensures { TypedCall user (option_map (λ r. op.Ptrace caller r target «data») (request_numbered request))
         handle.old.held.session handle.new.held.session reply.old reply.new result }
 {
-    match request_of(request) {
+    match Request::by_number(request) {
         Some(request) => make(
             alloc,
             handle,
@@ -355,7 +372,7 @@ pub extern "C" fn tracehost_turn(
     argument: u32,
     reply: &mut FlatReply,
 ) -> u32
-    ensures { TypedCall user (option_map (λ a. op.Turn lwp a) (act_numbered act call argument))
+    ensures { TypedCall user (option_map (λ a. op.Turn lwp a) (numbered_act act call argument))
         handle.old.held.session handle.new.held.session reply.old reply.new result }
 {
     match act_of(act, call, argument) {

@@ -1,11 +1,11 @@
 //! What a user sees, as rows of numbers.
 ghost use Rattle.std.specs.Prelude.{◌≡◌, ◌≢◌, map};
 ghost use Rattle.requests.specs.View.{view};
-ghost use Rattle.flat_forms.specs.FlatRows.{flat_process, flat_lwp};
+ghost use Rattle.tracehost_c.specs.FlatRows.{flat_process, flat_lwp};
 ghost use Rattle.tracehost_c.specs.Calls.{Shows};
 
 use crate::calls::{ANSWERED, NO_MEMORY};
-use flat_forms::{FlatLwp, FlatProcess};
+use crate::rows::{FlatLwp, FlatProcess};
 use lwp_table::LwpData;
 use open_sessions::Session;
 use pid_blocks::Uid;

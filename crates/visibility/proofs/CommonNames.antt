@@ -9,12 +9,12 @@ pub use Rattle.requests.proofs.CommonNames.{Options, is_child, fits, candidates,
 pub use Rattle.step_types.specs.{Plain.UserStep, declared.Reply.Reply}
 pub use Rattle.requests.proofs.IsolationLaws.{alone_law, at_slot, keeps_apart, live_only, one_step, other_step, run_is, seen_alone, twin, two_lists}
 pub use Rattle.requests.proofs.SoundHostIsApart.{users_are_apart_in_a_sound_host}
-pub use Rattle.requests.proofs.Walk.{above, above_first, above_next, above_none, first_above, next_over}
+pub use Rattle.requests.proofs.ProcessesAbove.{above, above_first, above_next, above_none, first_above, next_over}
 pub use Rattle.requests.specs.Isolation.{Alike, AlikeSteps, AlikeWhich, ApartAtFirst, ApartInAView, ForeignNumber, OwnList, Ran, RunsArePrivate, TwoRuns, Unseen, answered, handles, installs, kills}
 pub use Rattle.requests.specs.Isolation.{lists, ptraces, sigactions, somes, spawns, turns, waits}
 pub use Rattle.requests.specs.Run.{asked_by, last, replies}
 pub use Rattle.requests.specs.View.{View, alone, view, with_view}
-pub use Rattle.row_isolation.proofs.FilteredLists.{filter-none, find_only, find_some}
+pub use Rattle.trace_rows.proofs.FilteredLists.{filter-none, find_only, find_some}
 pub use Rattle.std.proofs.Common.{vec_capacity, vec_len}
 pub use Rattle.std.proofs.lemmas.List.{map-append}
 pub use Rattle.std.proofs.lemmas.Option.{slice_get_within, get_or_from_slice_get}

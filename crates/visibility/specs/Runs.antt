@@ -16,7 +16,7 @@ asked s = record { uid = s.0; step = s.1 }
 abbrev pub reply_given : Reply → Option Reply
 reply_given r = if is_memory r then None else Some r
 
--- the effect of a step on a host: the machine's reply and the machine's host; or, where the step takes memory and the
+-- the effect of a step on a host: the machine's reply and the machine's host; or, if the step takes memory and the
 -- machine wouldn't refuse it, out of memory and the host as it was
 abbrev pub MakesStep : Option Reply → ℕ → PlainStep → Machine → Machine → Type 0
 MakesStep None u s m k = (k ≡ m) × (may_want u s m ≡ true)

@@ -12,7 +12,7 @@ use requests::{Host, Reply, Step};
 use std::alloc::{AllocError, Global};
 use stop_handlers::{Decider, Handler};
 
-/// Makes one step of a user in two hosts of which the user sees the same. If neither runs out of memory, the replies
+/// Makes one step of a user in two hosts that show the user the same. If neither runs out of memory, the replies
 /// are equal, and the user sees the same of both hosts afterwards.
 pub fn one_step<F: Decider + Send + Drop>(
     alloc: Global,
@@ -100,7 +100,7 @@ fn both_lists<F: Decider + Send + Drop>(
     Ok((told, said))
 }
 
-/// Makes two lists of steps of all users in two hosts of which a user sees the same. If the answered steps of that user
+/// Makes two lists of steps of all users in two hosts that show a user the same. If the answered steps of that user
 /// are the same in both, so are the user's replies, and what the user sees of both hosts afterwards. All room for
 /// replies is allocated before either host changes: an error means out of memory, and changes nothing.
 pub fn two_lists<F: Decider + Send + Drop>(
@@ -127,7 +127,7 @@ pub fn two_lists<F: Decider + Send + Drop>(
     Ok((told, said))
 }
 
-/// Makes two lists of steps of all users in two hosts of which a user sees the same. If the answered steps of that user
+/// Makes two lists of steps of all users in two hosts that show a user the same. If the answered steps of that user
 /// differ only in numbers that the user doesn't see where they are used, the user's replies are the same, and so is what
 /// the user sees of both hosts afterwards. An error means out of memory, and changes nothing.
 pub fn foreign_numbers<F: Decider + Send + Drop>(

@@ -10,13 +10,13 @@ pub fn a_followed_fork()
     ensures { ForkIsFollowed }
 {}
 
-/// A step gives its user the reply and the view that it gives in a host where no other user has made a step.
+/// A step gives its user the reply and the view that it gives in a host in which no other user has made a step.
 #[tactic(auto, using(requests::proofs::IsolationLaws::alone_law))]
 pub fn alone()
     ensures { Alone }
 {}
 
-/// One step in two hosts of which its user sees the same: the reply is the same, and so is the view afterwards.
+/// One step in two hosts that show its user the same: the reply is the same, and so is the view afterwards.
 #[tactic(auto, using(requests::proofs::IsolationLaws::one_step))]
 pub fn one_step()
     ensures { OneStep }
@@ -34,13 +34,13 @@ pub fn own_run()
     ensures { OwnRun }
 {}
 
-/// Two lists with the same steps of a user, from hosts of which the user sees the same, give that user the same replies
+/// Two lists with the same steps of a user, from hosts that show the user the same, give that user the same replies
 /// and the same view.
 pub fn two_lists()
     ensures { TwoLists }
 {}
 
-/// In a list of all users' steps each user's replies and view are those of the user's own steps in a host where no
+/// In a list of all users' steps each user's replies and view are those of the user's own steps in a host in which no
 /// other user has made a step.
 pub fn own_list()
     ensures { OwnList }
@@ -53,7 +53,7 @@ pub fn foreign_number()
     ensures { ForeignNumber }
 {}
 
-/// Two lists of all users' steps, from hosts of which a user sees the same. The user's own steps differ only in numbers
+/// Two lists of all users' steps, from hosts that show a user the same. The user's own steps differ only in numbers
 /// that the user doesn't see at the places where they are used. Then the user's replies are the same, and so is the
 /// user's view afterwards.
 /// Equal lists of steps differ in no number, so this contains `two_lists`.
@@ -90,12 +90,12 @@ pub fn users_are_apart_at_first()
 {}
 
 /// Apart from steps that ran out of memory, each user's replies and view are those of the user's own steps in a host
-/// where no other user has made a step.
+/// in which no other user has made a step.
 pub fn runs_are_private()
     ensures { RunsArePrivate }
 {}
 
-/// Two runs with the same answered steps of a user, from hosts of which the user sees the same, give that user the same
+/// Two runs with the same answered steps of a user, from hosts that show the user the same, give that user the same
 /// replies and the same view.
 pub fn two_runs()
     ensures { TwoRuns }

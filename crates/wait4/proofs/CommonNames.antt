@@ -5,11 +5,11 @@ pub use Rattle.proc_table.proofs.Firsts.{find-above_zero}
 pub use Rattle.proc_table.proofs.Least.{least_or_none}
 pub use Rattle.proc_table.proofs.Seen.{any-found}
 pub use Rattle.proc_table.proofs.Stays.{named-untraced}
-pub use Rattle.row_isolation.proofs.FilteredLists.{All-where}
-pub use Rattle.row_isolation.proofs.IsolationOfSignals.{notified_same, user_not_one}
-pub use Rattle.row_isolation.proofs.IsolationRelation.{SameOwnership, Sim, each_same, either, named, not_own, rows_query}
-pub use Rattle.row_isolation.proofs.SoundRowsAreApart.{others_after, own_after, own_start, owns_owner, owns_user, sound_closed}
-pub use Rattle.row_isolation.specs.Closed.{Closed, GoodProc}
+pub use Rattle.trace_rows.proofs.FilteredLists.{All-where}
+pub use Rattle.trace_rows.proofs.IsolationOfSignals.{notified_same, user_not_one}
+pub use Rattle.trace_rows.proofs.IsolationRelation.{SameOwnership, Sim, each_same, either, named, not_own, rows_query}
+pub use Rattle.trace_rows.proofs.SoundRowsAreApart.{others_after, own_after, own_start, owns_owner, owns_user, sound_closed}
+pub use Rattle.trace_rows.specs.Closed.{Closed, GoodProc}
 pub use Rattle.std.proofs.Common.{SFits, ltb, negsuc, of_z, pos, suc, to_z, w64, zero, ℤ}
 pub use Rattle.std.proofs.Math.Path.{fun_ext}
 pub use Rattle.std.proofs.lemmas.Int.{to_z-of_z}

@@ -2,7 +2,7 @@
 use Rattle.wait4.proofs.CommonNames.{arith, ◌≡◌, ◌≢◌, ℕ, ℤ, find, true, ◌==◌, ◌&&◌, if◌then◌else◌, Option, Some, IfSome, refl, ap, ◌∙◌, eqb-true, subst, eq-eqb, inl, rules, nat_tests, IsUser}
 use Rattle.wait4.proofs.CommonNames.{ProcData, State, Rows, pid_owner, Options, answer, is_child, fits, reportable, collected_in, collected, stays, told, collect_one, candidates, reported, collect}
 use Rattle.wait4.proofs.CommonNames.{without_report, rows_after, GoodProc, All-where, Sim, SameOwnership, not_own, either, named, rows_query, each_same, If_more, user_not_one, notified_same, and_left}
-use Rattle.row_isolation.proofs.FilteredLists.{find_some}
+use Rattle.trace_rows.proofs.FilteredLists.{find_some}
 
 pub child_own : (u caller : ℕ) → IsUser u → pid_owner caller ≡ u → (p : ProcData) → GoodProc p → is_child caller p ≡ true → p.uid ≡ u
 child_own u caller user mine p good is = search (rules, eqb-true, user_not_one, either, not_own)

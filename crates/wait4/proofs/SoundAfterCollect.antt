@@ -42,7 +42,7 @@ module _ (caller : ℕ) (p : ProcData) (rows : Rows) (s : IsSound rows) (at : pr
       tell : MayTell made p.parent
       tell ne = live_told made p.uid p.parent (lives_after rows nobody to to_lwp FitProcess FitLwp FitProcess FitLwp (holds_sound rows s) the_edit p.uid p.parent ((row_at rows (holds_sound rows s) p.pid p at).link.parent ne, refl)) ne
 
--- what holds of a reported process, where the wait reads a signed number of 64 bits
+-- what holds of a reported process, if the wait reads a signed number of 64 bits
 module _ (caller : ℕ) (which : ℤ) (fit : SFits w64 which) (options : Options) (rows : Rows) (s : IsSound rows) (p : ProcData) (is : reported caller (to_z w64 (of_z w64 which)) options rows ≡ Some p) where
   pub reported_row : process_of p.pid rows.processes ≡ Some p
   reported_row = reported-has (λ q. process_of q.pid rows.processes ≡ Some q) caller which options rows p (own_rows rows.processes s.stands.rising) (rw (to_z-of_z w64 which fit) at is)

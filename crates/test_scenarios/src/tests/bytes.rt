@@ -1,7 +1,7 @@
 //! Lines of a reader and bytes to a writer that move one byte a call, are interrupted, or fail.
 
 use super::wire::Wire;
-use byte_io::{LineEnd, read_line, write_flushed};
+use byte_lines::{LineEnd, read_line, write_flushed};
 use std::io::BufReader;
 use std::process::Abort;
 use std::test::Fail;

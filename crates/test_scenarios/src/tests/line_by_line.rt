@@ -1,7 +1,7 @@
-//! Sessions line by line: their answers, and readers and writers that fail.
+//! Sessions line by line with readers and writers that fail.
 
 use super::wire::Wire;
-use line_sessions::{ServeError, serve};
+use open_sessions::{ServeError, serve};
 use scenario_runs::Style;
 use std::io::BufReader;
 use std::process::Abort;
@@ -24,47 +24,6 @@ refused BadUser
 1001 2 error ESRCH 3
 1001 3 pids 1000
 ";
-
-#[test]
-fn lines_and_answers(rt: HostRuntime) -> Result<(), Fail> {
-    let mut reader = LINES.as_bytes();
-    let mut writer = Vec::new(rt.alloc());
-    serve(
-        rt.alloc(),
-        Settings::standard(),
-        Style::Text,
-        &mut reader,
-        &mut writer,
-    )?;
-    assert_eq!(rt; writer.as_slice(), ANSWERS.as_bytes());
-    Ok(())
-}
-
-/// Checks the answer to a line of `length` bytes that begins with a step.
-fn check_length<R: Abort + AllocGlobal>(rt: &R, length: usize, want: &str) -> Result<(), Fail> {
-    let mut line = Vec::new(rt.alloc());
-    line.extend_from_slice(b"{\"user\":1001,\"op\":\"spawn\"}")?;
-    line.resize(length, b' ')?;
-    line.push(b'\n')?;
-    let mut reader = line.as_slice();
-    let mut writer = Vec::new(rt.alloc());
-    serve(
-        rt.alloc(),
-        Settings::standard(),
-        Style::Text,
-        &mut reader,
-        &mut writer,
-    )?;
-    assert!(rt; writer.as_slice() == want.as_bytes(), "at {length}");
-    Ok(())
-}
-
-#[test]
-fn longest_lines(rt: HostRuntime) -> Result<(), Fail> {
-    check_length(&rt, 65536, "1001 1 new 1000 100000\n")?;
-    check_length(&rt, 65537, "refused TooLong\n")?;
-    check_length(&rt, 65538, "refused TooLong\n")
-}
 
 #[test]
 fn readers_that_fail(rt: HostRuntime) -> Result<(), Fail> {

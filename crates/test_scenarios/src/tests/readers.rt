@@ -1,3 +1,5 @@
+//! Readers that fail or are interrupted, and what is read of a text that is too long.
+
 use super::wire::Wire;
 use super::{ITS_LINES, SPAWN_AND_LIST};
 use scenario_runs::{Fault, RunOptions, read, run};
@@ -11,6 +13,16 @@ fn readers_that_fail(rt: HostRuntime) -> Result<(), Fail> {
         let mut reader = Wire::new(alloc, &SPAWN_AND_LIST.as_bytes()[..i], 0, true);
         assert_eq!(rt; read(alloc, &mut reader).err(), Some(Fault::Read), "at {i}");
     }
+    Ok(())
+}
+
+/// A text with more bytes than a scenario may have is read up to the first of these.
+#[test]
+fn a_text_that_is_too_long(rt: HostRuntime) -> Result<(), Fail> {
+    let bytes = vec![in rt.alloc(); 32u8; 4194306]?;
+    let mut reader = bytes.as_slice();
+    assert_eq!(rt; read(rt.alloc(), &mut reader).err(), Some(Fault::TooLong));
+    assert_eq!(rt; reader.len(), 1);
     Ok(())
 }
 

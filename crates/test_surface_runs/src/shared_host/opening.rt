@@ -168,7 +168,7 @@ pub fn a_user_may_have_two_sessions<R: Wait>(rt: &R, alloc: Global) -> Result<()
 /// Three calls of the first session, with one of the second between them.
 const FOUR: &str = "
 spawn -> new 1000 100000
-1002 spawn -> new 2000 104000
+1002: spawn -> new 2000 104000
 spawn -> new 1001 100001
 list 1000 -> pids 1000 1001
 ";
@@ -176,7 +176,7 @@ list 1000 -> pids 1000 1001
 /// Each user's next process after that.
 const NEXT: &str = "
 spawn -> new 1002 100002
-1002 spawn -> new 2001 104001
+1002: spawn -> new 2001 104001
 ";
 
 pub fn a_host_waits_for_all_its_sessions<R: Wait>(rt: &R, alloc: Global) -> Result<(), TestError> {
@@ -211,7 +211,7 @@ fn call_in_order<R: Wait>(
 /// A call of the second session, which has learned the moment after the call of the first one.
 const BOTH: &str = "
 spawn -> new 1000 100000
-1002 spawn -> new 2000 104000
+1002: spawn -> new 2000 104000
 ";
 
 pub fn a_call_stands_behind_the_moment_that_was_learned<R: Wait>(
@@ -220,7 +220,7 @@ pub fn a_call_stands_behind_the_moment_that_was_learned<R: Wait>(
 ) -> Result<(), TestError> {
     let users = (Uid::new(1001)?, Uid::new(1002)?);
     let earlier = rows_of(alloc, "spawn -> new 1000 100000")?;
-    let later = rows_of(alloc, "1002 spawn -> new 2000 104000")?;
+    let later = rows_of(alloc, "1002: spawn -> new 2000 104000")?;
     let opened = open_new(alloc, users).ok_or(TestError::Memory)?;
     let (host, mut first, mut second) = opened;
     let lines = (earlier.as_slice(), later.as_slice());

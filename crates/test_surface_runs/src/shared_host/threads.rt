@@ -57,7 +57,7 @@ pub fn two_threads_spawn<R: Threads + Wait + Sync>(rt: &R, alloc: Global) -> Res
 /// The first user has two processes. The second user's process is made between them.
 const THREE: &str = "
 spawn -> new 1000 100000
-1002 spawn -> new 2000 104000
+1002: spawn -> new 2000 104000
 spawn -> new 1001 100001
 ";
 

@@ -1,5 +1,5 @@
 use Rattle.requests.proofs.CommonNames.{false, refl, arith, nat_tests}
-use Rattle.requests.proofs.Actors.{acting_has, has-lwp_changed}
+use Rattle.requests.proofs.HasLwpAfterChange.{acting_has, has-lwp_changed}
 use Rattle.requests.proofs.acts.compute.Goals as goal
 
 pub stop_with-requires : goal.stop_with-requires

@@ -1,5 +1,5 @@
 use Rattle.requests.proofs.CommonNames.{refl, sym, ◌∙◌, after_exec, process_of-pid, change_process-at, process_there, named-same, arith, nat_tests}
-use Rattle.requests.proofs.Actors.{row_itself}
+use Rattle.requests.proofs.HasLwpAfterChange.{row_itself}
 use Rattle.requests.proofs.execve.drop_handlers.Goals as goal
 
 pub set_process-requires : goal.set_process-requires

@@ -1,5 +1,5 @@
 use Rattle.requests.proofs.CommonNames.{sym, ◌∙◌, arith, nat_tests}
-use Rattle.requests.proofs.Programs.{other_there, less_without}
+use Rattle.requests.proofs.RunProgram.{other_there, less_without}
 use Rattle.requests.proofs.execve.keep_lwp.Goals as goal
 
 pub loop-other-smaller : goal.loop-other-smaller

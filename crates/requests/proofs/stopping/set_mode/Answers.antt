@@ -1,6 +1,6 @@
 use Rattle.requests.proofs.CommonNames.{◌≡◌, sym, refl, ◌∙◌, subst, lwp_of-tid, change_lwp-at, HasLwp, in_mode, arith, nat_tests}
-use Rattle.requests.proofs.Tracees.{lwp_may_change}
-use Rattle.requests.proofs.Actors.{has-lwp_changed}
+use Rattle.requests.proofs.StoppedTracee.{lwp_may_change}
+use Rattle.requests.proofs.HasLwpAfterChange.{has-lwp_changed}
 use Rattle.requests.proofs.stopping.set_mode.Goals as goal
 
 pub set_lwp-requires : goal.set_lwp-requires
@@ -13,4 +13,4 @@ pub returns-clause-rows : goal.returns-clause-rows
 returns-clause-rows c = done c
 
 pub returns-clause-there : goal.returns-clause-there
-returns-clause-there c = subst (HasLwp c.args.pid c.args.tid) (sym (done c)) (has-lwp_changed c.args.tid (λ k. record k { mode = c.args.mode }) (λ k. refl) (λ k. refl) c.args.pid c.args.tid c.args.tables.now.rows c.requires)
+returns-clause-there c pid at = subst (HasLwp pid c.args.tid) (sym (done c)) (has-lwp_changed c.args.tid (λ k. record k { mode = c.args.mode }) (λ k. refl) (λ k. refl) pid c.args.tid c.args.tables.now.rows at)

@@ -14,7 +14,7 @@ stopped_by tid shown p = record p { state = Trace tid shown.sig false }
 abbrev showing : StopInfo → LwpData → LwpData
 showing shown l = record l { flags = shown.flags; child = shown.child; code = shown.code }
 
--- where both rows are written, and the tracer, if any, is notified
+-- if both rows are written, and the tracer, if any, is notified
 stop-done : (pid tid : ℕ) (shown : StopInfo) (rows mid made out : Rows) (p : ProcData) (l : LwpData) → TableInvariant rows → process_of pid rows.processes ≡ Some p → lwp_of tid rows.lwps ≡ Some l
     → mid ≡ set_process (stopped_by tid shown p) rows → made ≡ set_lwp (showing shown l) mid → out ≡ notified (tracers p.tracer) made → (out ≡ stop pid tid shown rows) × (MayStop pid tid shown rows → IsSound out)
 stop-done pid tid shown rows mid made out p l k at there set written told =

@@ -1,4 +1,4 @@
-use Rattle.{std.proofs.{Common.{arith, ap, sym, ◌∙◌}, lemmas.List.length-map}, flat_forms.specs.FlatRows.flat_lwp, tracehost_c.proofs.RowLemmas.{more, all}}
+use Rattle.{std.proofs.{Common.{arith, ap, sym, ◌∙◌}, lemmas.List.length-map}, tracehost_c.specs.FlatRows.flat_lwp, tracehost_c.proofs.RowLemmas.{more, all}}
 use Rattle.tracehost_c.proofs.views.put_lwps.Goals as goal
 
 pub loop-place-preserved : goal.loop-place-preserved

@@ -1,4 +1,4 @@
-use Rattle.{std.{proofs.Common.{◌≡◌, ◌++◌, take, drop}, specs.Prelude.map}, flat_forms.specs.FlatRows.flat_process}
+use Rattle.{std.{proofs.Common.{◌≡◌, ◌++◌, take, drop}, specs.Prelude.map}, tracehost_c.specs.FlatRows.flat_process}
 use Rattle.tracehost_c.proofs.views.put_processes.Given as goal
 
 abbrev pub invariant-loop-place : goal.invariant-loop-place

@@ -1,6 +1,6 @@
 use Rattle.requests.proofs.CommonNames.{sym, ◌∙◌, bare, machine_of}
 use Rattle.requests.proofs.SoundWithoutEnded.{rows_sound, few_installed}
-use Rattle.requests.proofs.Finished.{host_barred, host_caller, host_uncalled, host_called}
+use Rattle.requests.proofs.HostSteps.{host_barred, host_caller, host_uncalled, host_called}
 use Rattle.requests.proofs.host.Host.attempt.Goals as goal
 
 pub uncalled-done-requires-clause-sound : goal.uncalled-done-requires-clause-sound

@@ -1,5 +1,5 @@
 use Rattle.requests.proofs.CommonNames.{◌<◌, ◌≤◌, length, refl, subst, Machine, installed_by, machine_of, Step, Tries, arith, nat_tests}
-use Rattle.requests.proofs.Finished.{host_barred, host_full, host_installed, host_wants}
+use Rattle.requests.proofs.HostSteps.{host_barred, host_full, host_installed, host_wants}
 use Rattle.requests.proofs.host.Host.install.Given.{Over}
 use Rattle.requests.proofs.host.Host.install.Goals.{in-Ok-install, in-Err-install}
 use Rattle.requests.proofs.host.Host.install.Goals as goal

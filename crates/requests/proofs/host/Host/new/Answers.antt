@@ -1,4 +1,4 @@
-use Rattle.requests.proofs.Born.{empty_sound}
+use Rattle.requests.proofs.SoundAfterSpawn.{empty_sound}
 use Rattle.requests.proofs.host.Host.new.Goals as goal
 
 pub invariant_of-result : goal.invariant_of-result

@@ -1,0 +1,204 @@
+"""The options of tracehost-run."""
+
+from __future__ import annotations
+
+import argparse
+import os
+import sys
+from collections.abc import Callable
+from typing import NoReturn
+
+from . import record, report
+from .program import which
+from .report import say, writing
+
+USAGE = 2
+VERSION = "0.12.0"
+
+
+class _Print(argparse.Action):
+    """Prints a text and ends. argparse's own actions don't tell if it can't be written."""
+
+    def __init__(self, option_strings: list[str], dest: str, help: str, text: Callable[[], str]) -> None:
+        super().__init__(option_strings, dest, nargs=0, help=help)
+        self._text = text
+
+    def __call__(self, parser: argparse.ArgumentParser, *_: object) -> None:
+        with writing():
+            print(self._text(), end="", flush=True)
+        parser.exit()
+
+
+class Parser(argparse.ArgumentParser):
+    """A mistake is one line, with status 2."""
+
+    def error(self, message: str) -> NoReturn:
+        say(message)
+        sys.exit(USAGE)
+
+
+MOST, MOST_CHOICES = (1 << 62) - 1, (1 << 31) - 1
+"""The broker's numbers: a seed, and choices of a run."""
+
+
+def _count(text: str, most: int = MOST) -> int:
+    number = int(text)
+    if not 1 <= number <= most:
+        raise ValueError
+    return number
+
+
+def _choices(text: str) -> int:
+    return _count(text, MOST_CHOICES)
+
+
+def _natural(text: str) -> int:
+    number = int(text)
+    if number < 0:
+        raise ValueError
+    return number
+
+
+def _seconds(text: str) -> float:
+    number = float(text)
+    if not 0 < number < 1e6:
+        raise ValueError
+    return number
+
+
+_seconds.__name__ = "number of seconds"
+_count.__name__ = f"number from 1 to {MOST}"
+_choices.__name__ = f"number from 1 to {MOST_CHOICES}"
+_natural.__name__ = "number from 0"
+
+
+def parser() -> Parser:
+    """The options."""
+    made = Parser(
+        prog="tracehost-run",
+        description="Runs a program of tracehost-cc on the model of FreeBSD's process tracing.",
+        allow_abbrev=False,
+        add_help=False,
+    )
+    add = made.add_argument
+    add("-h", "--help", action=_Print, text=made.format_help, help="prints this")
+    which = made.add_argument_group("which schedules").add_argument
+    which("--seed", type=_count, metavar="N", help="this schedule; else the plain one: a thread goes on until it waits")
+    which("--schedules", type=_count, metavar="N", help="the plain one and those of the seeds 1 to N, until one fails")
+    which(
+        "--preemptions",
+        type=_natural,
+        metavar="K",
+        help="all with at most K preemptions, until one fails (--schedules limits them)",
+    )
+    which("--switches", metavar="LIST", help="the plain one but for these choices: LWP.POINT:LWP,.. as a failing run prints them")
+    which("--replay", metavar="FILE", help="the one that --record FILE has kept; prints where it goes another way")
+    which(
+        "--strategy", choices=["random", "pct"], default="random", help="how a seed chooses: random switches, or priorities (PCT)"
+    )
+    which("--depth", type=_choices, default=3, metavar="D", help="of a bug, for pct: D - 1 changes of priority (3)")
+    which("--length", type=_choices, metavar="K", help="choices of a run, for pct; else those of the plain schedule")
+    which(
+        "--sleeps",
+        choices=["any", "last"],
+        default="any",
+        help="under a seed a sleep ends at any time, or when nobody else can go on",
+    )
+    which("--calls", action="store_true", help="others go on only between calls, not inside of them")
+    add("--jobs", type=_count, default=1, metavar="N", help="so many runs at a time (1)")
+    add("--record", metavar="FILE", help="the run, or the one that fails: FILE (scenario), FILE.lines, FILE.schedule, FILE.html")
+    add("--gdb", action="store_true", help="starts gdb on the process that fails, before it ends")
+    add("--with", dest="tool", metavar="COMMAND", help="starts COMMAND with that process's number")
+    add(
+        "--strict",
+        action="store_true",
+        help="only the model: no handler for a signal that a debugger passes on, stops for "
+        "discarded signals too, and no registers",
+    )
+    add("--kill-on-debugger-exit", choices=["0", "1"], help="the sysctl of this name (1)")
+    add("--limit", type=_count, default=20000, metavar="N", help="a run of more questions has no end (20000)")
+    add("--patience", type=_seconds, default=20.0, metavar="S", help="a thread that makes no call for so many seconds hangs (20)")
+    add(
+        "--output-limit",
+        type=_count,
+        default=64 << 20,
+        metavar="BYTES",
+        help="a run may print so many, where its output is kept (67108864)",
+    )
+    add("--digest", action="store_true", help="prints a digest of each run: its steps, answers and output")
+    add("--verify", action="store_true", help="has each run's record replayed by tracehost --expect")
+    add("--coverage", action="store_true", help="prints the calls at which another could go on, and never did")
+    add("--figures", action="store_true", help="prints what the runs took")
+    add(
+        "--model",
+        metavar="PROGRAM",
+        help="the program tracehost, for --verify and --record; else $TRACEHOST, else tracehost on the path",
+    )
+    add("--version", action=_Print, text=lambda: f"tracehost-run {VERSION}\n", help="prints the version")
+    add("program", nargs="?", metavar="PROGRAM")
+    add("arguments", nargs=argparse.REMAINDER, metavar="ARGUMENT")
+    return made
+
+
+def one_of(given: argparse.Namespace, made: Parser) -> None:
+    chosen = [name for name in ("seed", "schedules", "switches", "replay") if getattr(given, name) is not None]
+    if given.preemptions is not None and "schedules" in chosen:
+        chosen.remove("schedules")
+    if given.preemptions is not None:
+        chosen.append("preemptions")
+    if len(chosen) > 1:
+        made.error(f"--{chosen[0]} and --{chosen[1]} don't go together")
+    if given.gdb and given.tool is not None:
+        made.error("--gdb and --with don't go together")
+    if given.gdb and which("gdb") is None:
+        made.error("--gdb: gdb isn't on the path")
+    if given.switches is not None:
+        try:
+            record.switches_of(given.switches)
+        except ValueError:
+            made.error(f"--switches: {given.switches!r} is no list of LWP.POINT:LWP")
+
+
+def model_of(given: argparse.Namespace, made: Parser) -> str:
+    named = given.model or os.environ.get("TRACEHOST")
+    if named is not None:
+        found = which(named)
+        if found is None:
+            made.error(f"{named}: there is no such program ({'--model' if given.model else 'TRACEHOST'} names it)")
+        return found
+    own = os.path.join(report.TOP, "tracehost")
+    found = (own if os.access(own, os.X_OK) else None) or report.beside("tracehost") or which("tracehost")
+    if found is None:
+        made.error("there is no program tracehost beside this one, or on the path; --model or TRACEHOST may name it")
+    return found
+
+
+def replayed(given: argparse.Namespace, made: Parser) -> None:
+    """The options of a recorded schedule."""
+    try:
+        schedule = record.read_schedule(given.replay)
+    except (OSError, ValueError) as why:
+        made.error(f"--replay: {given.replay}.schedule: {getattr(why, 'strerror', None) or why}")
+    given.switches = schedule["switches"]
+    given.calls, given.strict, given.limit = (
+        bool(schedule.get("calls")),
+        bool(schedule.get("strict")),
+        int(schedule.get("limit", given.limit)),
+    )
+    kill = schedule.get("kill_on_debugger_exit")
+    given.kill_on_debugger_exit = None if kill is None else str(int(kill))
+    if given.program is None:
+        given.program, *given.arguments = schedule["program"]
+
+
+def recordable(path: str, made: Parser) -> None:
+    """A record that can't be written is refused before anything runs."""
+    import tempfile
+
+    try:
+        with tempfile.TemporaryFile(dir=os.path.dirname(path) or "."):
+            pass
+        if os.path.exists(path):
+            os.close(os.open(path, os.O_WRONLY))
+    except OSError as why:
+        made.error(f"--record: {path}: {why.strerror}")

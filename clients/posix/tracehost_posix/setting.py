@@ -1,0 +1,75 @@
+"""What all runs of a command have in common, and a schedule to run.
+
+A schedule is the plain one with some *switches*. Two numbers name a choice: the LWP that ran, and how many choices were made
+while it ran. So a switch keeps its place if one before it is taken away.
+"""
+
+from __future__ import annotations
+
+from collections.abc import Iterable
+from typing import NamedTuple
+
+
+class Broken(Exception):
+    """The run can't go on: the broker, the runtime or the host has failed, and nothing is known of the program."""
+
+
+class Options(NamedTuple):
+    """What a run may do."""
+
+    calls: bool = False
+    """Others go on only between calls, not inside of them."""
+    strict: bool = False
+    """No handler runs for a signal that a debugger passes on, and a traced process stops for signals that are discarded."""
+    limit: int = 20000
+    """After so many questions a run counts as endless."""
+    patience: float = 20.0
+    """A thread that makes no call for so many seconds hangs."""
+    output_limit: int = 64 << 20
+    """A run whose output is kept may print so many bytes."""
+    coverage: bool = False
+    """Notes the calls at which others could go on."""
+
+
+class Setting(NamedTuple):
+    """What all runs of a command have in common."""
+
+    command: list[str]
+    broker: str
+    model: str
+    """The program `tracehost`, for records."""
+    options: Options = Options()
+    kill_on_debugger_exit: bool | None = None
+    early: bool = True
+    """Under a seed a sleep ends at any time."""
+    verify: bool = False
+    """Each record is replayed by `tracehost --expect`."""
+
+
+class Switch(NamedTuple):
+    """A choice that isn't the plain schedule's: at this point of this LWP, another goes on."""
+
+    tid: int
+    point: int
+    to: int
+
+
+def text_of(switches: Iterable[Switch]) -> str:
+    """Switches for --switches: `LWP.POINT:LWP,..`."""
+    return ",".join(f"{switch.tid}.{switch.point}:{switch.to}" for switch in switches)
+
+
+class Task(NamedTuple):
+    """A schedule to run."""
+
+    seed: int | None = None
+    depth: int | None = None
+    """Of a bug, for priorities (PCT); None for random switches."""
+    length: int = 0
+    """Choices of a run, for priorities."""
+    switches: tuple[Switch, ...] | None = None
+    points: bool = False
+    """Whether the result has the choices that a search goes on from."""
+
+    def name(self) -> str:
+        return "the plain schedule" if self.seed is None else f"--seed {self.seed}"

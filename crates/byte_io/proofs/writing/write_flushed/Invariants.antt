@@ -1,5 +1,0 @@
-use Rattle.byte_io.proofs.WriteLemmas.{Front}
-use Rattle.byte_io.proofs.writing.write_flushed.Given as goal
-
-abbrev pub invariant-loop : goal.invariant-loop
-invariant-loop g l = Front (g.W.Write.contents l.initial.writer) (g.W.Write.contents l.writer) l.rest l.bytes

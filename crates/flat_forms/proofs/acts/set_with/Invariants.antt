@@ -1,5 +1,0 @@
-use Rattle.std.proofs.Common.{◌≡◌, ◌^◌, ◌%◌}
-use Rattle.flat_forms.proofs.acts.set_with.Given as goal
-
-abbrev pub invariant-loop-place : goal.invariant-loop-place
-invariant-loop-place l = l.set ≡ l.fn.bits % 2 ^ l.place

@@ -1,5 +1,0 @@
-use Rattle.{std.{proofs.Common.{◌≡◌, length, take}, specs.Prelude.Some}, flat_forms.specs.Rules.rules_numbered}
-use Rattle.flat_forms.proofs.rules.policy_of.Given as goal
-
-abbrev pub invariant-loop-place : goal.invariant-loop-place
-invariant-loop-place l = (length l.kept ≡ 16) × (rules_numbered (take l.place l.rules) ≡ Some (take l.place l.kept))

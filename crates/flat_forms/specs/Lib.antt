@@ -1,4 +1,0 @@
-pub mod Replies
-pub mod Numbers
-pub mod Rules
-pub mod FlatRows

@@ -1,8 +1,0 @@
-use Rattle.{std.proofs.Common.{◌+◌, length}, line_diff.proofs.WalkLemmas.Agrees}
-use Rattle.line_diff.proofs.comparing.first_difference.Given as goal
-
-abbrev pub invariant-loop-expected_rest : goal.invariant-loop-expected_rest
-invariant-loop-expected_rest l = Agrees l.expected l.got l.expected_rest l.got_rest l.line
-
-abbrev pub decreases-loop-expected_rest : goal.decreases-loop-expected_rest
-decreases-loop-expected_rest l = length l.expected_rest + length l.got_rest

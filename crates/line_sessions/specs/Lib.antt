@@ -1,3 +1,0 @@
-pub mod Sessions
-pub mod Turns
-pub mod Laws

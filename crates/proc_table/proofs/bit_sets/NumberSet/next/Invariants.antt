@@ -1,0 +1,12 @@
+use Rattle.{std.proofs.Common.{◌-◌, ◌≡◌, ℕ, ◌<◌, ◌≤◌, not}, proc_table.specs.Members.member}
+use Rattle.proc_table.proofs.bit_sets.NumberSet.next.Given as goal
+
+-- no number from `from` to below `at` is as wanted
+abbrev pub invariant-loop-at : goal.invariant-loop-at
+invariant-loop-at l = record {
+  reached : l.from ≤ l.at;
+  before : (n : ℕ) → l.from ≤ n → n < l.at → member l.self n ≡ not l.wanted;
+}
+
+abbrev pub decreases-loop-at : goal.decreases-loop-at
+decreases-loop-at l = l.end - l.at

@@ -1,6 +1,0 @@
-use Rattle.requests.proofs.CommonNames.{sym, ◌∙◌, arith, nat_tests}
-use Rattle.requests.proofs.Actors.{acting_seen}
-use Rattle.requests.proofs.lwp_turns.turn.Goals as goal
-
-pub turn_of-requires-clause-acting : goal.turn_of-requires-clause-acting
-turn_of-requires-clause-acting c = grind (arith, nat_tests, acting_seen c.args.user c.args.tid c.args.tables.now.rows c.in-Some.l c.in-Some-process.p c.seen_lwp.ensures.kept.differ (sym c.seen_lwp.ensures.row ∙ c.in-Some.is) (sym c.process.ensures.row ∙ c.in-Some-process.is))

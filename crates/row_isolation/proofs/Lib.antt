@@ -1,6 +1,0 @@
-pub mod FilteredLists
-pub mod IsolationRelation
-pub mod IsolationOfEdits
-pub mod IsolationOfSignals
-pub mod IsolationOfEnds
-pub mod SoundRowsAreApart

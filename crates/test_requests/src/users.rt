@@ -1,4 +1,0 @@
-//! Several users of one host.
-
-mod limits;
-mod sessions;

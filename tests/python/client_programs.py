@@ -1,0 +1,79 @@
+"""Programs of the client in C, compiled over a pipe and for sessions in the process, for the compiler's searches and valgrind."""
+
+from __future__ import annotations
+
+import shutil
+import sys
+from pathlib import Path
+from typing import NamedTuple
+
+import pytest
+from c_programs import HEADERS, RACES, VALGRIND, WARNINGS, compiled, output, sanitized, works
+from checking import TOP, accepted_files
+
+CLIENT = TOP / "clients/c"
+SOURCE = CLIENT / "tracehost_client.c"
+FAKE = CLIENT / "tests/fake.sh"
+IN_PROCESS = ["-DTRACEHOST_IN_PROCESS", *HEADERS]
+FLAGS = ["-std=c11", *WARNINGS, "-g", "-pthread"]
+
+
+class Way(NamedTuple):
+    """A way to compile and run the client's tests: flags, a command before each, and how often each is repeated."""
+
+    flags: list[str]
+    before: list[str]
+    words: dict[str, list[str]]
+    in_process: bool = False
+
+
+WAYS = {
+    "pipe": Way([*FLAGS, *sanitized()], [], {"test": ["1"], "threads": ["100"]}),
+    "races": Way(["-std=c11", "-g", "-pthread", *RACES], [], {"test": ["10"], "threads": ["10"]}),
+    "valgrind": Way(["-std=c11", "-g", "-pthread", "-O1"], VALGRIND, {"test": ["100", "emulated"], "threads": ["10"]}),
+    "in process": Way([*FLAGS, *sanitized(), *IN_PROCESS], [], {"test": ["1"], "threads": ["100"]}, in_process=True),
+}
+# the scenarios without options and without a fault
+FILES = [file for file in accepted_files() if not any((TOP / file).with_suffix(end).exists() for end in (".err", ".args"))]
+EXAMPLES = sorted(path.stem for path in (CLIENT / "examples").glob("*.c"))
+# each program of each way
+PROGRAMS = [(way, name) for way, how in WAYS.items() for name in how.words]
+PROGRAMS += [("pipe", "replay"), ("in process", "replay"), *(("pipe", name) for name in EXAMPLES)]
+
+
+class Programs:
+    """Programs of the client, each compiled once."""
+
+    def __init__(self, room: Path, archive: Path | None) -> None:
+        self._room, self._archive, self._made = room, archive, dict[tuple[str, str], Path]()
+
+    def __getitem__(self, which: tuple[str, str]) -> Path:
+        if which not in self._made:
+            way, name = which
+            if way == "races" and not works(*RACES):
+                pytest.skip("cc has no -fsanitize=thread")
+            if way == "valgrind" and shutil.which("valgrind") is None:
+                pytest.skip("not installed: valgrind")
+            self._made[which] = self._compiled(WAYS[way], name)
+        return self._made[which]
+
+    def _compiled(self, way: Way, name: str) -> Path:
+        if way.in_process and self._archive is None:
+            pytest.skip("there is no library")
+        folder = CLIENT / ("examples" if name in EXAMPLES else "tests")
+        archive = [self._archive] if way.in_process and self._archive else []
+        made = self._room / f"{name}{len(self._made)}"
+        return compiled(made, *way.flags, "-I", CLIENT, folder / f"{name}.c", SOURCE, *archive)
+
+
+@pytest.fixture(scope="session")
+def programs(library: Path, tmp_path_factory: pytest.TempPathFactory) -> Programs:
+    return Programs(tmp_path_factory.mktemp("programs"), library / "libtracehost.a")
+
+
+@pytest.fixture(scope="session")
+def words(tmp_path_factory: pytest.TempPathFactory) -> Path:
+    """A folder with the steps of all scenarios as clients/c/tests/replay.c reads them."""
+    folder = tmp_path_factory.mktemp("words")
+    output(sys.executable, TOP / "clients/c/tests/words.py", folder, *FILES)
+    return folder

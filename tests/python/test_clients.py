@@ -1,0 +1,91 @@
+"""The clients in C and C++, and that in Python over a pipe.
+
+Their tests are compiled over a pipe and for sessions in the process, with the compiler's sanitizers, for its search for
+races, and for valgrind. clients/python/tests and clients/c/tests have the modules of pytest.
+"""
+
+from __future__ import annotations
+
+import sys
+from pathlib import Path
+
+import pytest
+from c_programs import HEADERS, STRICT, WARNINGS, compiled, output, reads, sanitized
+from checking import TOP, needs
+from client_programs import CLIENT, FAKE, FLAGS, IN_PROCESS, PROGRAMS, SOURCE, WAYS, Programs, programs
+
+__all__ = ["programs"]  # a fixture
+CPP = ["11", "14", "17", "20"]
+CPP_HEADERS = ["include/tracehost.h", "include/tracehost.hpp", "clients/c/tracehost_client.h"]
+
+pytestmark = needs("cc")
+needs_cpp = needs("c++")
+
+
+@pytest.mark.parametrize(("way", "name"), PROGRAMS)
+def test_it_compiles_without_a_warning(programs: Programs, way: str, name: str) -> None:
+    assert programs[way, name].exists()
+
+
+@pytest.mark.parametrize("source", sorted(path.stem for path in CLIENT.glob("*.c")))
+def test_each_source_in_c99(source: str, tmp_path: Path) -> None:
+    """Without a warning of conversions, too."""
+    inside = IN_PROCESS if source == "in_process" else []
+    compiled(tmp_path / "c99.o", "-std=c99", *STRICT, *inside, "-c", CLIENT / f"{source}.c")
+
+
+def test_the_sanitizers_are_there() -> None:
+    if not sanitized():
+        pytest.skip("cc has no sanitizers, so the client in C runs without them")
+
+
+@pytest.mark.parametrize("name", ["test", "threads"])
+@pytest.mark.parametrize("way", WAYS)
+def test_the_client_in_c(programs: Programs, program: Path, tmp_path: Path, way: str, name: str) -> None:
+    how = WAYS[way]
+    output(*how.before, programs[way, name], program, FAKE, tmp_path, *how.words[name])
+
+
+def test_a_library_that_runs_out_of_memory(tmp_path: Path) -> None:
+    made = compiled(tmp_path / "codes", *FLAGS, *sanitized(), *IN_PROCESS, CLIENT / "tests/in_process/codes.c", SOURCE)
+    output(made)
+
+
+# ---- C++: the library's header, and tracehost.hpp
+
+
+def test_the_librarys_header_in_c99() -> None:
+    reads("-std=c99", *WARNINGS, TOP / "include/tracehost.h")
+
+
+@needs_cpp
+@pytest.mark.parametrize("header", CPP_HEADERS)
+@pytest.mark.parametrize("standard", CPP)
+def test_a_header_in_cpp(standard: str, header: str) -> None:
+    reads(f"-std=c++{standard}", *STRICT, "-x", "c++", TOP / header, compiler="c++")
+
+
+@needs_cpp
+@pytest.mark.parametrize("standard", CPP)
+def test_cpp(library: Path, tmp_path: Path, standard: str) -> None:
+    """The tests of tracehost.hpp."""
+    flags = [f"-std=c++{standard}", *FLAGS[1:], *sanitized(), *HEADERS]
+    source = TOP / "clients/cpp/tests/session.cpp"
+    output(compiled(tmp_path / "session", *flags, source, library / "libtracehost.a", compiler="c++"))
+
+
+@needs("clang++")
+@pytest.mark.parametrize("standard", CPP)
+def test_cpp_by_clang(standard: str) -> None:
+    """It warns of signs too."""
+    reads(f"-std=c++{standard}", *STRICT, *HEADERS, TOP / "clients/cpp/tests/session.cpp", compiler="clang++")
+
+
+# ---- Python
+
+
+@pytest.mark.parametrize("part", ["tracehost", "recording", "blocking", "shell"])
+def test_python_over_a_pipe(part: str, program: Path) -> None:
+    """The tests of clients/python/tests that are the same over a pipe and over the library."""
+    environment = {"TRACEHOST": str(program), "TRACEHOST_LIBRARY": ""}
+    output(sys.executable, "-W", "error", TOP / f"clients/python/tests/test_{part}.py", environment=environment)

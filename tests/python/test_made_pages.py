@@ -1,0 +1,177 @@
+"""The parts of pages that `tools/pages` makes are those of the present sources.
+
+Then, in a copy of the sources: a change makes a part older, the lists of docs/internals/TRUST.md change with what is cited,
+and a cited item that is gone is an error.
+"""
+
+from __future__ import annotations
+
+import re
+import shutil
+import sys
+from collections.abc import Callable, Iterator
+from pathlib import Path
+
+import pytest
+
+from checking import TOP, Ended, run
+
+sys.path.insert(0, str(TOP / "tools"))
+from crates import listed  # noqa: E402
+
+ARCHITECTURE, TRUST, PYTHON, POSIX = "docs/internals/ARCHITECTURE.md", "docs/internals/TRUST.md", "docs/PYTHON.md", "docs/POSIX.md"
+QUESTIONS = "clients/posix/broker/questions.c"
+LOWEST = next(iter(listed()))
+CLIENT = "clients/python/tracehost"
+SECONDS = 600  # a loaded machine takes its time
+
+
+def pages(*words: str, top: Path = TOP) -> Ended:
+    return run(sys.executable, top / "tools/pages", *words, seconds=SECONDS)
+
+
+@pytest.mark.parametrize("name", ["crates", "python", "calls", "definitions", "axioms", "kit"])
+def test_a_part_is_no_older_than_the_sources(name: str) -> None:
+    """That of C functions is compared if tools/kit_axioms.py has kept it of these sources: the proofs that make it take
+    minutes."""
+    checked = pages("check", name)
+    if checked.status == 3:
+        pytest.skip(checked.err.strip())
+    assert checked == Ended(0, "", "")
+
+
+def test_the_table_has_each_crate_once() -> None:
+    lines = (TOP / "crates.txt").read_text(encoding="utf-8").splitlines()
+    crates = [line.partition(":")[0].split()[0] for line in lines if line and not line.startswith("#")]
+    page = (TOP / ARCHITECTURE).read_text(encoding="utf-8")
+    table = page.partition("<!-- tools/pages crates -->")[2].partition("<!-- end -->")[0]
+    rows = [row.split(" | ") for row in table.splitlines() if row.startswith("| `")]
+    assert [row[0] for row in rows] == [f"| `{crate}`" for crate in crates]
+    assert all(len(row) == 3 and len(row[2]) > len("| x |") for row in rows)
+
+
+@pytest.fixture(scope="module")
+def whole(tmp_path_factory: pytest.TempPathFactory) -> Path:
+    """A copy of what the pages are made from."""
+    folder = tmp_path_factory.mktemp("copy")
+    for path in [*map(TOP.joinpath, ("tools", CLIENT)), *TOP.glob("crates/*/src"), *TOP.glob("crates/*/specs")]:
+        shutil.copytree(path, folder / path.relative_to(TOP))
+    for name in ("crates.txt", QUESTIONS, ARCHITECTURE, TRUST, PYTHON, POSIX):
+        (folder / name).parent.mkdir(parents=True, exist_ok=True)
+        shutil.copy(TOP / name, folder / name)
+    return folder
+
+
+Change = Callable[[str, str, str], None]
+
+
+@pytest.fixture
+def change(whole: Path) -> Iterator[Change]:
+    """Replaces the first text of a file of the copy that a pattern fits, until the test ends."""
+    before: dict[Path, str] = {}
+
+    def replace(name: str, pattern: str, new: str) -> None:
+        path = whole / name
+        text = path.read_text(encoding="utf-8")
+        before.setdefault(path, text)
+        changed, count = re.subn(pattern, new, text, count=1, flags=re.MULTILINE)
+        assert count == 1
+        path.write_text(changed, encoding="utf-8")
+
+    yield replace
+    for path, text in before.items():
+        path.write_text(text, encoding="utf-8")
+
+
+def file_with(pattern: str) -> str:
+    """The one file of a crate that has such a line."""
+    files = [path for part in ("src", "specs") for path in TOP.glob(f"crates/*/{part}/**/*.*")]
+    (found,) = (path for path in files if re.search(pattern, path.read_text(encoding="utf-8"), re.MULTILINE))
+    return str(found.relative_to(TOP))
+
+
+@pytest.mark.parametrize("name, file, pattern, new, page", [
+    ("crates", "crates.txt", f"^{LOWEST}:", f"{LOWEST}: memchr", ARCHITECTURE),
+    ("crates", f"crates/{LOWEST}/src/lib.rt", "^//! ", "//! Another ", ARCHITECTURE),
+    ("kit", "crates.txt", f"^{LOWEST}:", f"{LOWEST}: memchr", TRUST),
+    ("definitions", file_with("^-- a step by a user$"), "^-- a step by a user$", "-- one\n-- a step by a user", TRUST),
+    ("calls", QUESTIONS, '"enter kill leave compute"', '"enter kill leave"', POSIX),
+    ("python", f"{CLIENT}/host.py", "def list\\(", "def pids(", PYTHON),
+    ("python", f"{CLIENT}/steps.py", "The LWP runs in user mode", "It runs", PYTHON),
+])  # fmt: skip
+def test_a_change_makes_a_part_older(whole: Path, change: Change, name: str, file: str, pattern: str, new: str, page: str) -> None:
+    pytest.importorskip("hypothesis")
+    change(page, r"\A", "")
+    change(file, pattern, new)
+    assert pages("check", name, top=whole) == Ended(
+        1, "", f"pages: {page}: `{name}` is older than the sources; `tools/pages write` writes it\n"
+    )
+    assert pages("write", name, top=whole).status == 0
+    assert pages("check", name, top=whole) == Ended(0, "", "")
+
+
+# ---- the lists of TRUST.md
+
+
+def total(top: Path) -> int:
+    """The number of lines to read by the first table."""
+    found = re.search(r"^\| \d+ files \| ([\d,]+) \|", pages("print", "definitions", top=top).out, re.MULTILINE)
+    assert found
+    return int(found[1].replace(",", ""))
+
+
+@pytest.mark.parametrize(
+    ("more", "pattern", "new"),
+    [
+        (1, "^-- a step by a user$", "-- one\n-- a step by a user"),
+        (0, "^-- whether a step installs a handler$", "-- one\n-- whether a step installs a handler"),
+        (4, "^caller_of s = None$", "caller_of s = None ◌ installs"),
+    ],
+    ids=["a comment on a cited definition", "a comment on a definition that nothing cites", "a definition that cites one more"],
+)
+def test_the_list_follows_citations(whole: Path, change: Change, more: int, pattern: str, new: str) -> None:
+    before = total(whole)
+    change(file_with(pattern), pattern, new)
+    assert total(whole) - before == more
+
+
+def says(whole: Path, error: str) -> bool:
+    made = pages("print", "definitions", top=whole)
+    return made.status == 1 and made.out == "" and re.fullmatch(f"pages: {error}\n", made.err) is not None
+
+
+@pytest.mark.parametrize("name", ["Keys", "Fields", "KeyError", "Request", "LwpData"])
+def test_a_cited_type_that_is_gone_is_an_error(whole: Path, change: Change, name: str) -> None:
+    pattern = rf"^((?:pub(?:\(crate\))? )?(?:struct|enum)) {name}\b"
+    change(file := file_with(pattern), pattern, r"\1 Elsewhere")
+    assert says(whole, rf".*\b{name} leads to no type of {file.split('/')[1]}")
+
+
+def test_a_cited_definition_that_is_gone_is_an_error(whole: Path, change: Change) -> None:
+    pattern = r"^(?:abbrev )?(?:pub )?max_lwps :"
+    change(file := file_with(pattern), pattern, "pub elsewhere :")
+    assert says(whole, f".*max_lwps leads to no definition of {file.split('/')[1]}")
+
+
+@pytest.mark.parametrize("name", ["Kept", "Report", "Scripted"])
+def test_a_trait_of_a_clause_is_in_the_list(whole: Path, change: Change, name: str) -> None:
+    file = file_with(rf"^pub trait {name}\b")
+
+    def lines() -> int:
+        row = re.search(rf"^\| `{file}` \| (\d+) \| .*`{name}`", pages("print", "definitions", top=whole).out, re.MULTILINE)
+        assert row
+        return int(row[1])
+
+    before = lines()
+    change(file, rf"^pub trait {name}\b", rf"/// More.\npub trait {name}")
+    assert lines() == before + 1
+
+
+@pytest.mark.parametrize("name", ["::run_list`", "::machine::*`"])
+def test_a_contract_of_the_headline_that_is_gone_is_an_error(whole: Path, change: Change, name: str) -> None:
+    change(TRUST, re.escape(name), "::nowhere::gone`")
+    assert says(whole, r"\w+::nowhere::gone: 0 files of the crate have this function")
+
+
+def test_a_name_that_is_no_part() -> None:
+    assert pages("print", "nothing").status == 2

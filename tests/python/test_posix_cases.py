@@ -1,0 +1,36 @@
+"""The cases of clients/posix/tests: each passes plain and under 50 seeds, and `tracehost --expect` replays each record.
+
+Those of DIFFERENCES.txt assert what FreeBSD does and the model doesn't: they have to fail. TRACEHOST_TEST_SCALE multiplies
+the seeds.
+"""
+
+from __future__ import annotations
+
+import re
+
+import pytest
+from posix_kit import POSIX, SCALE, Posix, cases
+
+SEEDS = 50 * SCALE
+CASES = cases()
+DIFFERENCES = {
+    ".".join(found) for found in re.findall(r"^([a-z]\w*) (\w+)$", (POSIX / "tests/DIFFERENCES.txt").read_text(), re.MULTILINE)
+}
+
+
+def test_no_case_is_left_out(posix: Posix) -> None:
+    assert len(CASES) >= 340
+    assert DIFFERENCES < set(CASES)
+    listed = posix.execute("make", "-s", "-C", POSIX / "tests", "list").stdout
+    assert listed.split("\n") == [*(name.replace(".", " ") for name in CASES), ""]
+
+
+@pytest.mark.parametrize("name", CASES)
+def test_case(posix: Posix, name: str) -> None:
+    program, case = name.split(".")
+    done = posix.run("--schedules", SEEDS, "--verify", "--figures", posix.compiled(f"tests/{program}.c"), case, seconds=300 * SCALE)
+    if name in DIFFERENCES:
+        assert done.returncode == 1 and "fails under the plain schedule" in done.stderr, done.stderr
+    else:
+        assert done.returncode == 0, done.stderr
+        assert f"tracehost-run: {SEEDS + 1} runs, " in done.stderr

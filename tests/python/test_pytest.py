@@ -1,0 +1,110 @@
+"""The plugin for pytest and what is for Hypothesis, over a pipe and over the library: their tests, the suite of a small debugger,
+and the tests on docs/CLIENTS.md.
+"""
+
+from __future__ import annotations
+
+import os
+import re
+import shutil
+import subprocess
+import sys
+from pathlib import Path
+
+import pytest
+from checking import TOP, run
+
+pytest.importorskip("hypothesis")
+
+CLIENT = TOP / "clients/python"
+PAGE = (TOP / "docs/CLIENTS.md").read_text(encoding="utf-8")
+SECONDS = 1800
+
+
+class Suite:
+    """Runs pytest with the plugin, over a transport."""
+
+    def __init__(self, room: Path, program: Path, library: Path | None) -> None:
+        self.room, self.program = room, program
+        named = "" if library is None else str(library / "libtracehost.so")
+        self._environment = {**os.environ, "TRACEHOST": str(program), "TRACEHOST_LIBRARY": named, "PYTHONPATH": str(CLIENT)}
+
+    def __call__(self, base: str, *files: Path, status: int = 0) -> str:
+        """What pytest prints, without its closing summary: it repeats more if CI is set."""
+        words = ["-m", "pytest", "-q", "-rN", "-p", "tracehost.pytest_plugin", "-p", "no:cacheprovider"]
+        ran = subprocess.run(
+            [sys.executable, *words, f"--basetemp={self.room / base}", *files], cwd=self.room, env=self._environment,
+            stdin=subprocess.DEVNULL, stdout=subprocess.PIPE, text=True, timeout=SECONDS, check=False,
+        )  # fmt: skip
+        assert ran.returncode == status, ran.stdout
+        return ran.stdout
+
+    def left(self, base: str, test: str) -> None:
+        """A failed test has left a page, and a scenario with its lines."""
+        folder = self.room / base / f"tracehost_{test}0"
+        assert (folder / "session.html").stat().st_size > 0
+        assert run(self.program, folder / "session.json", "--expect", folder / "session.out").status == 0
+
+    def change(self, name: str, old: str, new: str) -> None:
+        text = (self.room / name).read_text()
+        assert old in text
+        (self.room / name).write_text(text.replace(old, new))
+
+
+@pytest.fixture(params=["pipe", "library"])
+def suite(request: pytest.FixtureRequest, tmp_path: Path, program: Path) -> Suite:
+    return Suite(tmp_path, program, request.getfixturevalue("library") if request.param == "library" else None)
+
+
+def test_the_plugins_own_tests(suite: Suite) -> None:
+    suite("own", CLIENT / "tests/test_pytest_plugin.py")
+
+
+def test_artifacts_over_a_pipe(tmp_path: Path, program: Path) -> None:
+    Suite(tmp_path, program, None)("artifacts", CLIENT / "tests/test_artifacts.py")
+
+
+def test_a_small_debugger(suite: Suite) -> None:
+    """Its suite passes. If it doesn't pass signals on, one of its ten tests fails, and leaves its session."""
+    for source in (CLIENT / "examples").glob("*small_debugger.py"):
+        shutil.copy(source, suite.room)
+    suite("suite", suite.room / "test_small_debugger.py")
+    suite.change("small_debugger.py", "passed = signal", "passed = 0")
+    said = suite("faulty", suite.room / "test_small_debugger.py", status=1)
+    assert re.search("^1 failed, 9 passed", said, re.MULTILINE)
+    suite.left("faulty", "test_a_signal_that_ends_the_target")
+
+
+# ---- the tests on docs/CLIENTS.md
+
+
+@pytest.fixture
+def page(suite: Suite) -> Suite:
+    """A block of the page that begins with `# NAME.py` is that file."""
+    for name, text in re.findall(r"^```python\n(?=# ([a-z_]+\.py)\n)(.*?)^```$", PAGE, re.MULTILINE | re.DOTALL):
+        (suite.room / name).write_text(text)
+    return suite
+
+
+def test_the_passing_tests_of_the_page(page: Suite) -> None:
+    page("passing", page.room / "test_attach.py", page.room / "test_steps.py")
+
+
+def test_the_failing_test_of_the_page(page: Suite) -> None:
+    """It shows what the page shows, and leaves its session. The change that the page names makes it pass."""
+    said = page("failing", page.room / "test_forwarding.py", status=1)
+    wanted = re.findall("^    (E  .*)$", PAGE, re.MULTILINE)
+    assert wanted and re.findall(r"^E +(?:assert|status).*$", said, re.MULTILINE) == wanted
+    page.left("failing", "test_a_signal_is_passed_on")
+    change = "PT_CONTINUE, news.pid, os.WSTOPSIG(news.status))"
+    page.change("forwarding.py", "PT_CONTINUE, news.pid)", change)
+    page("mended", page.room / "test_forwarding.py")
+
+
+def test_the_state_machine_of_the_page(page: Suite) -> None:
+    """It fails, by the shortest way that the page shows."""
+    said = page("machine", page.room / "test_collecting.py", status=1)
+    shown = re.search(r"^    state = Collecting.*?^    state\.teardown.*?$", PAGE, re.MULTILINE | re.DOTALL)
+    assert shown
+    wanted = [line.removeprefix("    ") for line in shown[0].splitlines()]
+    assert re.findall(r"^.*(state = Collecting\(\)|state\.[a-z_]*\(\)).*$", said, re.MULTILINE) == wanted
