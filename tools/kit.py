@@ -5,6 +5,7 @@ from __future__ import annotations
 import contextlib
 import importlib.machinery
 import importlib.util
+import os
 import shutil
 import sys
 from collections.abc import Iterator
@@ -41,8 +42,11 @@ def over_the_gate(name: str) -> Iterator[Any]:
     module.Crate.allowed = module.handles_of(str(TOP))
     module.rtlib.guarded()
     crate = module.Crate(f"{TOP}/crates/{name}", str(TOP), {})
-    held = module.rtlib.lock([*crate.below(), crate])
-    if missing := [below.name for below in crate.below() if not Path(below.rlib).is_dir()]:
-        raise Unavailable(f"run `rt ci` first: there is no library of {', '.join(missing)}")
-    yield crate
-    del held
+    locks = module.rtlib.lock([*crate.below(), crate])
+    try:
+        if missing := [below.name for below in crate.below() if not Path(below.rlib).is_dir()]:
+            raise Unavailable(f"run `rt ci` first: there is no library of {', '.join(missing)}")
+        yield crate
+    finally:
+        for lock in locks:
+            os.close(lock)

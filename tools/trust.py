@@ -10,7 +10,6 @@ from pathlib import Path
 
 from citations import CRATES, Definition, Walk, read_contracts, read_specs
 from crates import TOP, listed
-from kit_axioms import PROVED, axioms_of
 
 PAGE = TOP / "docs/internals/TRUST.md"
 
@@ -110,15 +109,6 @@ def text() -> str:
         for path, pieces in (*by_file(found), *by_file(types)):
             shown += [f"---- {path.relative_to(TOP)}", *(piece.text for piece in pieces)]
     return "\n\n".join(shown) + "\n"
-
-
-def axioms() -> str:
-    """The C functions whose contracts the proofs of the program and the library rest on."""
-    program, library = map(axioms_of, PROVED)
-    rows = ["| C function | program | library |", "|---|---|---|"]
-    both = sorted({*program, *library})
-    rows += [f'| `{it}` | {"yes" if it in program else ""} | {"yes" if it in library else ""} |' for it in both]
-    return "\n".join([*rows, f"| {len(both)} functions | {len(program)} | {len(library)} |"]) + "\n"
 
 
 def of_the_kit() -> str:

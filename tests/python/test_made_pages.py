@@ -30,10 +30,8 @@ def pages(*words: str, top: Path = TOP) -> Ended:
     return run(sys.executable, top / "tools/pages", *words, seconds=SECONDS)
 
 
-@pytest.mark.parametrize("name", ["crates", "python", "calls", "definitions", "axioms", "kit"])
+@pytest.mark.parametrize("name", ["crates", "python", "calls", "definitions", "kit"])
 def test_a_part_is_no_older_than_the_sources(name: str) -> None:
-    """That of C functions is compared if tools/kit_axioms.py has kept it of these sources: the proofs that make it take
-    minutes."""
     checked = pages("check", name)
     if checked.status == 3:
         pytest.skip(checked.err.strip())

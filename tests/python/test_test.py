@@ -37,7 +37,6 @@ TOOLS = {
     "sources": "echo 1",
     "program": ":",
     "build_library.py": "exit ${BUILD-0}",
-    "kit_axioms.py": ":",
     "release": 'echo "${RELEASE-2 passed, 0 failed, 0 skipped}"',
 }
 FILES = """crates/signals/src/lib.rt crates/lines/src/lib.rt tests/python/test_lines.py tests/python/test_rows.py
