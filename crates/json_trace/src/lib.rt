@@ -8,9 +8,13 @@
 //! Begin with `writing`.
 #![tactic(auto)]
 
+mod changes;
 mod members;
 mod places;
+mod rows;
+mod states;
 mod steps;
 mod writing;
 
+pub use states::write_states;
 pub use writing::TraceWriter;
