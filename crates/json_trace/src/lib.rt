@@ -9,11 +9,9 @@
 #![tactic(auto)]
 
 mod changes;
-mod members;
 mod places;
 mod rows;
 mod states;
-mod steps;
 mod writing;
 
 pub use states::write_states;

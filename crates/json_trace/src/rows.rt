@@ -1,9 +1,9 @@
 //! Rows of processes and LWPs as JSON objects. A member that is false, 0, empty or none is left out.
-use crate::members::{push_flags, push_name, push_nonzero, push_number};
 use bitflags::Flags;
 use event_masks::Call;
 use json::Writer;
 use lwp_table::{Due, LwpData, Mode};
+use open_sessions::members::{push_flags, push_name, push_nonzero, push_number};
 use proc_table::{ProcData, State};
 use signals::{Disposition, Dispositions, SigSet, Signal};
 use std::alloc::AllocError;
