@@ -10,7 +10,6 @@ from __future__ import annotations
 
 import re
 from collections.abc import Iterator
-from dataclasses import dataclass, field
 from functools import cache
 from pathlib import Path
 from typing import NamedTuple
@@ -18,20 +17,19 @@ from typing import NamedTuple
 from crates import TOP, listed
 
 CRATES = TOP / "crates"
-# the parts of the headline, each with the contracts that state it; a part adds to those before it
+# the parts of the headline, each with the files and functions whose contracts state it; a part adds to those before it
 HEADLINE = {
-    "A list of all users' steps on a host": "visibility::run_list requests::Host::new",
-    "Two hosts, and numbers of other users": """visibility::laws::one_step visibility::laws::other_step
-        visibility::laws::foreign_number visibility::laws::two_lists visibility::laws::foreign_numbers""",
-    "Scripts in threads": "sessions::run_sessions sessions::laws::every_schedule",
-    "Only the machine": "visibility::machine::*",
-    "Texts: what the program reads and prints": """scenario_text::read scenario_runs::run_with scenario::run_threads_with
-        open_sessions::serve open_sessions::laws::sessions_are_private""",
-    "The C library: calls on a handle": """open_sessions::Session::new open_sessions::laws::calls_are_private
-        tracehost_c::tracehost_open tracehost_c::tracehost_line tracehost_c::tracehost_spawn tracehost_c::tracehost_list
-        tracehost_c::tracehost_sigaction tracehost_c::tracehost_kill tracehost_c::tracehost_wait4 tracehost_c::tracehost_install
-        tracehost_c::tracehost_handle tracehost_c::tracehost_ptrace tracehost_c::tracehost_turn tracehost_c::tracehost_view
-        tracehost_c::laws::handle_calls_are_private""",
+    "A list of all users' steps on a host": "visibility/src/runs.rt run_list requests/src/host.rt new",
+    "Two hosts, and numbers of other users": "visibility/src/laws.rt one_step other_step foreign_number two_lists foreign_numbers",
+    "Scripts in threads": "sessions/src/run.rt run_sessions sessions/src/laws.rt every_schedule",
+    "Only the machine": "visibility/src/machine.rt *",
+    "Texts: what the program reads and prints": """scenario_text/src/reading.rt read scenario_runs/src/running.rt run_with
+        scenario/src/threading.rt run_threads_with open_sessions/src/serving.rt serve
+        open_sessions/src/laws.rt sessions_are_private""",
+    "The C library: calls on a handle": """open_sessions/src/session.rt new open_sessions/src/laws.rt calls_are_private
+        tracehost_c/src/lib.rt tracehost_open tracehost_line tracehost_spawn tracehost_list tracehost_sigaction tracehost_kill
+        tracehost_wait4 tracehost_install tracehost_handle tracehost_ptrace tracehost_turn tracehost_view
+        tracehost_c/src/laws.rt handle_calls_are_private""",
 }
 
 IMPORT = re.compile(r"^ *(?:pub |ghost )?use (Rattle\..*?)(?: as (\w+))?;?$", re.MULTILINE)
@@ -51,67 +49,48 @@ ITEM = re.compile(r"^\}|^pub struct [^\n{]*;$", re.MULTILINE)
 PARTS = ("TheVariants", "TheInside", "TheConstants")
 
 
-@dataclass(frozen=True)
-class Piece:
-    """A definition or a type, which begins at the line `first` of its file."""
+class Piece(NamedTuple):
+    """A definition, a type, or a part of one."""
 
     path: Path
     name: str
-    first: int
-    text: str = field(compare=False, repr=False)
+    text: str
 
-    def cited(self) -> Iterator[str]:
-        yield from CITED.findall(re.sub(r"(--|//)[^\n]*", "", self.text))
+    def cited(self) -> list[str]:
+        return CITED.findall(re.sub(r"(--|//)[^\n]*", "", self.text))
 
 
-@dataclass
-class Source:
-    """A file: its definitions by their names, and the modules that its imports are from."""
+class Source(NamedTuple):
+    """A file: its definitions or contracts by their names, and the modules from which it has other names."""
 
-    pieces: dict[str, Piece] = field(default_factory=dict)
-    names: dict[str, str] = field(default_factory=dict)
-    aliases: dict[str, str] = field(default_factory=dict)
+    pieces: dict[str, Piece]
+    names: dict[str, str]
 
-    def add_imports(self, text: str) -> None:
-        for path, alias in IMPORT.findall(text):
-            if alias:
-                self.aliases[alias] = path
-                continue
-            while "{" in path:  # `a.{b.{c, d}, e}` brings c and d of a.b, and e of a
-                path = GROUP.sub(lambda group: ", ".join(group[1] + name.strip() for name in group[2].split(",")), path)
-            for one in path.split(", "):
-                module, _, name = one.rpartition(".")
-                self.names[name] = module
+
+def imported(text: str) -> Iterator[tuple[str, str]]:
+    """The names that a text imports, with their modules: `a.{b.{c, d}, e}` brings c and d of a.b, and e of a."""
+    for path, alias in IMPORT.findall(text):
+        while "{" in path:
+            path = GROUP.sub(lambda group: ", ".join(group[1] + name.strip() for name in group[2].split(",")), path)
+        yield from [(alias, path)] if alias else ((one.rpartition(".")[2], one.rpartition(".")[0]) for one in path.split(", "))
 
 
 @cache
 def read_specs(path: Path) -> Source:
-    source, at = Source(), 1
     text = path.read_text(encoding="utf-8")
-    source.add_imports(text)
-    for paragraph in re.split(r"(\n\n+)", text):
+    pieces: dict[str, Piece] = {}
+    for paragraph in text.split("\n\n"):
         if declared := DECLARED.match(OTHER.sub("", paragraph).strip("\n")):
-            made = Piece(path, declared[2], at, paragraph.strip("\n"))
             constructors = CONSTRUCTOR.findall(paragraph) if declared[1] == "data " else []
-            source.pieces.update((name, made) for name in (declared[2], *constructors))
-        at += paragraph.count("\n")
-    return source
+            pieces.update(dict.fromkeys((declared[2], *constructors), Piece(path, declared[2], paragraph.strip("\n"))))
+    return Source(pieces, dict(imported(text)))
 
 
 @cache
 def read_contracts(path: Path) -> Source:
     """The public functions of a file of src/, each with its header: the types of its parameters, and its clauses."""
-    source, text = Source(), path.read_text(encoding="utf-8")
-    source.add_imports(text)
-    for found in FUNCTION.finditer(text):
-        source.pieces[found[2]] = piece_at(path, found[2], text, found.start(), found[3])
-    return source
-
-
-def piece_at(path: Path, name: str, text: str, at: int, piece: str | None = None) -> Piece:
-    """The item of a source that begins there: to its closing brace, or to the semicolon of its one line."""
-    end = ITEM.search(text, at)
-    return Piece(path, name, text.count("\n", 0, at) + 1, piece or text[at : end.end() if end else len(text)])
+    text = path.read_text(encoding="utf-8")
+    return Source({it[2]: Piece(path, it[2], it[3]) for it in FUNCTION.finditer(text)}, dict(imported(text)))
 
 
 @cache
@@ -120,13 +99,17 @@ def read_types(crate: str) -> dict[str, list[Piece]]:
     found: dict[str, list[Piece]] = {}
     for path in sorted((CRATES / crate / "src").rglob("*.rt")):
         text = path.read_text(encoding="utf-8")
+
+        def item(at: int) -> str:
+            """What begins there: to its closing brace, or to the semicolon of its one line."""
+            end = ITEM.search(text, at)
+            return text[at : end.end() if end else len(text)]
+
         for head in TYPE.finditer(text):
-            further = re.finditer(FURTHER.format(head[2]), text, re.MULTILINE)
-            made = [piece_at(path, head[2], text, it.start()) for it in (head, *further)]
-            for block in re.finditer(PARTLY.format(head[2]), text, re.MULTILINE):
-                stated = STATED.findall(piece_at(path, head[2], text, block.start()).text)
-                made += [piece_at(path, head[2], text, block.start(), "\n".join(stated))] if stated else []
-            found[head[2]] = [*found.get(head[2], []), *made]
+            made = [item(it.start()) for it in (head, *re.finditer(FURTHER.format(head[2]), text, re.MULTILINE))]
+            blocks = (item(it.start()) for it in re.finditer(PARTLY.format(head[2]), text, re.MULTILINE))
+            made += filter(None, ("\n".join(STATED.findall(block)) for block in blocks))
+            found.setdefault(head[2], []).extend(Piece(path, head[2], part) for part in made)
     return found
 
 
@@ -140,9 +123,7 @@ class Walk:
     def follow(self, piece: Piece, source: Source) -> None:
         crate = piece.path.relative_to(CRATES).parts[0]
         for name in piece.cited():
-            if name in source.aliases:
-                self.cite(source.aliases[name], name)
-            elif name in source.names:
+            if name in source.names:
                 self.cite(source.names[name], name)
             elif piece.path.suffix == ".rt":
                 self.add_type(crate, name)
@@ -176,36 +157,30 @@ class Walk:
         whether there is such a type in the crate, or in one that it uses."""
         crates = listed()
         places = (read_types(place).get(name) for place in (crate, *crates[crate].uses) if place in crates)
-        if not (pieces := next(filter(None, places), [])):
+        if (pieces := next(filter(None, places), None)) is None:
             return False
         if pieces[0] not in self.types:
             self.types.update(dict.fromkeys(pieces))
             for piece in [it for it in pieces if " Model for " in it.text] or pieces[:1]:
-                source = Source()
-                source.add_imports(piece.text)
                 value = re.findall(r"ghost Value = \{(.*)\};", piece.text)
-                self.follow(Piece(piece.path, name, piece.first, " ".join(value) or piece.text), source)
+                self.follow(piece._replace(text=" ".join(value) or piece.text), Source({}, dict(imported(piece.text))))
         return True
 
 
-def contracts_of(name: str) -> Iterator[tuple[Piece, Source]]:
-    """The function of such a name: `CRATE::FUNCTION`, also with a type or a file before the function; or all of a file,
-    `CRATE::FILE::*`."""
-    crate, *within, function = name.split("::")
-    found = []
-    for path in sorted((CRATES / crate / "src").rglob("*.rt")):
-        text, source = path.read_text(encoding="utf-8"), read_contracts(path)
-        is_within = all(word == path.stem or re.search(rf"^impl\b.*\b{word}\b", text, re.MULTILINE) for word in within)
-        if is_within and (function == "*" or function in source.pieces):
-            found.append(source)
-    if len(found) != 1:
-        raise LookupError(f"{name}: {len(found)} files of the crate have this function")
-    yield from ((piece, found[0]) for each, piece in found[0].pieces.items() if function in ("*", each))
+def contracts_of(names: str) -> Iterator[tuple[Piece, Source]]:
+    """The contracts of such functions, each after its file; * is all functions of a file."""
+    for word in names.split():
+        if word.endswith(".rt"):
+            source = read_contracts(CRATES / word)
+        elif word not in ("*", *source.pieces):
+            raise LookupError(f"{names}: there is no function {word}")
+        else:
+            yield from ((piece, source) for name, piece in source.pieces.items() if word in ("*", name))
 
 
 class Part(NamedTuple):
     title: str
-    contracts: list[str]
+    contracts: str
     definitions: list[Piece]
     types: list[Piece]
 
@@ -213,12 +188,13 @@ class Part(NamedTuple):
 def parts() -> Iterator[Part]:
     """Each part and its contracts, with the definitions and the types that it adds."""
     walk = Walk()
-    for title, names in HEADLINE.items():
+    for title, headline in HEADLINE.items():
+        names = " ".join(headline.split())
         before = {*walk.definitions, *walk.types}
-        for piece, source in (contract for name in names.split() for contract in contracts_of(name)):
+        for piece, source in contracts_of(names):
             walk.follow(piece, source)
         new = ([piece for piece in found if piece not in before] for found in (walk.definitions, walk.types))
-        yield Part(title, names.split(), *new)
+        yield Part(title, names, *new)
 
 
 def by_file(pieces: list[Piece]) -> dict[Path, list[Piece]]:
@@ -244,7 +220,7 @@ def definitions() -> str:
     """The names of all that, by files, with counts of lines."""
     rows = []
     for part in parts():
-        rows += [f"==== {part.title}\n", f'{"lines":>5}  of {", ".join(part.contracts)}\n']
+        rows.append(f"==== {part.title}\nlines  of {part.contracts}\n")
         for path, pieces in (*by_file(part.definitions).items(), *by_file(part.types).items()):
             rows.append(f"{lines(pieces):5}  {path.relative_to(TOP)}: {', '.join(dict.fromkeys(it.name for it in pieces))}\n")
         rows.append(f"{lines([*part.definitions, *part.types]):5}\n")

@@ -135,7 +135,7 @@ def test_the_list_follows_citations(whole: Path, change: Change, more: int, patt
 
 def says(whole: Path, error: str) -> bool:
     made = pages("print", "definitions", top=whole)
-    return made.status == 1 and made.out == "" and re.fullmatch(f"pages: {error}\n", made.err) is not None
+    return (made.status, made.out) == (1, "") and re.fullmatch(f"pages: {error}\n", made.err) is not None
 
 
 @pytest.mark.parametrize("name", ["Keys", "Fields", "KeyError", "Request", "LwpData"])
@@ -165,10 +165,23 @@ def test_a_trait_of_a_clause_is_in_the_list(whole: Path, change: Change, name: s
     assert lines() == before + 1
 
 
-@pytest.mark.parametrize("name", ["::run_list", "::machine::*"])
-def test_a_contract_of_the_headline_that_is_gone_is_an_error(whole: Path, change: Change, name: str) -> None:
-    change("tools/trust.py", re.escape(name), "::nowhere::gone")
-    assert says(whole, r"\w+::nowhere::gone: 0 files of the crate have this function")
+@pytest.mark.parametrize(
+    ("name", "new", "error"),
+    [
+        ("run_list", "gone", "there is no function gone"),
+        (r"machine.rt \*", "machine.rt gone", "there is no function gone"),
+        ("machine.rt", "gone.rt", "No such file or directory: .*gone.rt'"),
+    ],
+)
+def test_a_contract_of_the_headline_that_is_gone_is_an_error(whole: Path, change: Change, name: str, new: str, error: str) -> None:
+    change("tools/trust.py", name, new)
+    assert says(whole, f".*{error}")
+
+
+def test_each_module_of_tests_is_printed_with_its_head() -> None:
+    printed = re.findall(r"^(\S+)\n    \S", pages("print", "tests").out, re.MULTILINE)
+    assert {f"clients/{name}/tests/test_{what}.py" for name, what in (("c", "faults"), ("python", "shell"))} < {*printed}
+    assert len(printed) == sum(len([*TOP.glob(f"{folder}/test_*.py")]) for folder in ("tests/python", "clients/*/tests"))
 
 
 def test_a_name_that_is_no_part() -> None:
