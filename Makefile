@@ -127,7 +127,7 @@ uninstall:
 deb:
 	tools/deb "$(OUT)"
 
-# twice the same bits: no time but the release's, and no mode but the umask's; without a program it is the client alone
+# twice the same bits: no time but the release's, and no mode but the umask's; without a program it is only the client
 wheel:
 	@tools/program >/dev/null || echo "the wheel contains the client, without the program" >&2
 	umask 022 && SOURCE_DATE_EPOCH=$${SOURCE_DATE_EPOCH:-$$(tools/version --time)} \

@@ -62,7 +62,7 @@ def of_python(room: pathlib.Path, program: str, library: str) -> tuple[float, in
             run(python, TOP / f"clients/python/tests/test_{name}.py", **base, TRACEHOST_LIBRARY=named)
     run(python, "-m", "pytest", "-q", "tests/python/test_terminal.py", **base, TRACEHOST_LIBRARY="")
     suites = [TOP / f"clients/python/tests/test_{name}.py" for name in SUITES]
-    # where no file may grow, coverage.py can't write its own either, and says so in the middle of what the test reads
+    # if no file may grow, coverage.py can't write its own either, and says so in the middle of what the test reads
     left_out = "--deselect=clients/python/tests/test_artifacts.py::test_a_page_that_cannot_be_written"
     run(python, "-m", "pytest", "-q", "-p", "no:cacheprovider", "-p", "tracehost.pytest_plugin", left_out, *suites, **base,
         TRACEHOST_LIBRARY=library)  # fmt: skip

@@ -83,7 +83,7 @@ def shown_after(name: str, typed: str, wanted: str, seconds: float) -> str:
         shell.end()
 
 
-# the words before the cursor, of which the last is completed, and what bash offers. `=` breaks words in a shell that is
+# the words before the cursor, the last to be completed, and what bash offers. `=` breaks words in a shell that is
 # used, and not in every one
 OFFERED: list[tuple[list[str], str]] = [
     (["--th"], "--threads"),

@@ -28,7 +28,7 @@ class Installed:
     """A prefix in a place, and a folder to work in."""
 
     def __init__(self, place: Place, prefix: str, known: bool = False) -> None:
-        """`known`: a prefix of which the system's linker, pkg-config and CMake know."""
+        """`known`: a prefix that the system's linker, pkg-config and CMake know."""
         self.place, self.prefix, self.room = place, prefix, f"{place.home}/work{'_of_root' if known else ''}"
         self.environment = {} if known else {
             "PATH": f"{prefix}/bin:{PATH}",

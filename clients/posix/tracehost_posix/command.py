@@ -22,7 +22,7 @@ from .setting import Broken, Options, Setting, Switch, Task, text_of
 
 FAILED, BROKEN, ANOTHER_WAY = 1, 3, 4
 LAST = 100
-"""Of so many last schedules it is said how many were new."""
+"""The figures say how many of the last LAST schedules were new."""
 
 if TYPE_CHECKING:
     import argparse

@@ -91,7 +91,9 @@ def parser() -> Parser:
         metavar="K",
         help="all with at most K preemptions, until one fails (--schedules limits them)",
     )
-    which("--switches", metavar="LIST", help="the plain one but for these choices: LWP.POINT:LWP,.. as a failing run prints them")
+    which(
+        "--switches", metavar="LIST", help="the plain one, except at these choices: LWP.POINT:LWP,.. as a failing run prints them"
+    )
     which("--replay", metavar="FILE", help="the one that --record FILE has kept; prints where it goes another way")
     which(
         "--strategy", choices=["random", "pct"], default="random", help="how a seed chooses: random switches, or priorities (PCT)"
@@ -105,7 +107,7 @@ def parser() -> Parser:
         help="under a seed a sleep ends at any time, or when nobody else can go on",
     )
     which("--calls", action="store_true", help="others go on only between calls, not inside of them")
-    add("--jobs", type=_count, default=1, metavar="N", help="so many runs at a time (1)")
+    add("--jobs", type=_count, default=1, metavar="N", help="makes N runs at a time (1)")
     add("--record", metavar="FILE", help="the run, or the one that fails: FILE (scenario), FILE.lines, FILE.schedule, FILE.html")
     add("--gdb", action="store_true", help="starts gdb on the process that fails, before it ends")
     add("--with", dest="tool", metavar="COMMAND", help="starts COMMAND with that process's number")
@@ -117,13 +119,13 @@ def parser() -> Parser:
     )
     add("--kill-on-debugger-exit", choices=["0", "1"], help="the sysctl of this name (1)")
     add("--limit", type=_count, default=20000, metavar="N", help="a run of more questions has no end (20000)")
-    add("--patience", type=_seconds, default=20.0, metavar="S", help="a thread that makes no call for so many seconds hangs (20)")
+    add("--patience", type=_seconds, default=20.0, metavar="S", help="a thread that makes no call for S seconds hangs (20)")
     add(
         "--output-limit",
         type=_count,
         default=64 << 20,
         metavar="BYTES",
-        help="a run may print so many, where its output is kept (67108864)",
+        help="a run whose output is kept may print so much (67108864)",
     )
     add("--digest", action="store_true", help="prints a digest of each run: its steps, answers and output")
     add("--verify", action="store_true", help="has each run's record replayed by tracehost --expect")

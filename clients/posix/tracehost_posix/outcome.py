@@ -1,4 +1,4 @@
-"""What comes of a run: the broker's lines, of which broker/outcome.c is the other end, and the words for it."""
+"""What comes of a run: the broker's lines, which broker/outcome.c writes, and the words for it."""
 
 from __future__ import annotations
 
@@ -13,7 +13,7 @@ from .setting import Options, Switch
 Kept = list[tuple[str, str]]
 """The steps of a run, as JSON, and the words of their answers."""
 LOOPS = 5
-"""Of a run without an end it is said which of the last questions were asked most, so many of them."""
+"""The most questions that are printed of a run without an end: those that were asked most at last."""
 
 
 class Choice(NamedTuple):
@@ -182,7 +182,7 @@ def fault(text: str) -> str:
 
 
 def unquote(text: str) -> str:
-    """What stands for bytes as %XX."""
+    """The text, with bytes in place of their %XX."""
     if "%" not in text:
         return text
     from urllib.parse import unquote as unquoted

@@ -22,11 +22,11 @@ class Options(NamedTuple):
     strict: bool = False
     """No handler runs for a signal that a debugger passes on, and a traced process stops for signals that are discarded."""
     limit: int = 20000
-    """After so many questions a run counts as endless."""
+    """The questions after which a run counts as endless."""
     patience: float = 20.0
-    """A thread that makes no call for so many seconds hangs."""
+    """The seconds after which a thread that makes no call hangs."""
     output_limit: int = 64 << 20
-    """A run whose output is kept may print so many bytes."""
+    """The most bytes that a run whose output is kept may print."""
     coverage: bool = False
     """Notes the calls at which others could go on."""
 
