@@ -46,6 +46,13 @@ def test_the_client_in_c(programs: Programs, program: Path, tmp_path: Path, way:
     output(*how.before, programs[way, name], program, FAKE, tmp_path, *how.words[name])
 
 
+def test_both_ways_are_the_same(library: Path, program: Path, tmp_path: Path) -> None:
+    """By 45,000 calls with odd numbers among them, over a pipe and in the process."""
+    source, archive = CLIENT / "tests/both_ways.c", library / "libtracehost.a"
+    made = compiled(tmp_path / "both_ways", *FLAGS, *sanitized(), *IN_PROCESS, source, SOURCE, archive)
+    assert int(output(made, program, tmp_path, "0", "300")) > 10000
+
+
 def test_a_library_that_runs_out_of_memory(tmp_path: Path) -> None:
     made = compiled(tmp_path / "codes", *FLAGS, *sanitized(), *IN_PROCESS, CLIENT / "tests/in_process/codes.c", SOURCE)
     output(made)
