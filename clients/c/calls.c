@@ -191,7 +191,7 @@ static th_pid handle_call(th_host *h, th_caller caller, struct th_handled *handl
             .flags = reply.flags,
             .child = reply.child,
             .code = reply.code,
-            .handler = reply.kind == THP_HANDLED ? reply.handler : -1,
+            .handler = reply.handler,
             .decision = (enum th_decision)reply.decision,
             .pass = reply.pass};
         *handled = told;

@@ -2,7 +2,6 @@
 #include "internal.h"
 
 #include <stdlib.h>
-#include <string.h>
 #include <tracehost.h>
 
 enum { ANSWER = 4096, RULES = 16 }; /* room for most answers; the most rules of a handler */
@@ -83,7 +82,6 @@ static uint32_t call_library(tracehost *library, const struct thp_step *step, tr
 /* Stores the reply, and the numbers of a list as far as there is room. */
 static void take_reply(tracehost *library, const tracehost_reply *told, const struct thp_step *step, struct thp_reply *reply)
 {
-    memset(reply, 0, sizeof *reply);
     reply->kind = (enum thp_kind)told->kind;
     reply->pid = (int)told->pid;
     reply->lwp = (int)told->lwp;

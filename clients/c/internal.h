@@ -75,7 +75,7 @@ enum thp_kind { /* up to THP_ERROR in the order of tracehost.h */
     THP_NO_REPLY
 };
 
-/* A reply has the fields of its kind; the others are 0. */
+/* A reply has the fields of its kind; the others are 0, and -1 is no handler. */
 struct thp_reply {
     enum thp_kind kind;
     int pid, lwp, number, status, signal, event, child, handler, decision, pass;

@@ -189,21 +189,19 @@ static int take_set(const char **at, const struct thp_table *table, int *set)
         return 0;
     }
     for (;; ++*at) {
-        const char *word = *at, between = table != NULL ? '+' : ',';
-        size_t length = strcspn(word, table != NULL ? " +" : " ,");
-        int bit = table != NULL ? thp_value_of(table, word, length) : signal_bit(word, length);
+        size_t length = strcspn(*at, table != NULL ? " +" : " ,");
+        int bit = table != NULL ? thp_value_of(table, *at, length) : signal_bit(*at, length);
         if (bit < 0)
             return -1;
         *set |= bit;
         *at += length;
-        if (**at != between)
+        if (**at == ' ' || **at == '\0')
             return 0;
     }
 }
 
 static int take_handler(const char **at, int *handler)
 {
-    *handler = -1;
     if (strncmp(*at, "none ", 5) != 0)
         return take_int(at, handler);
     *at += 4;
@@ -300,6 +298,7 @@ void thp_read_reply(const th_host *h, const struct thp_step *step, struct thp_re
     const char *at = h->answer.bytes, *number;
     uint32_t uid;
     memset(reply, 0, sizeof *reply);
+    reply->handler = -1;
     reply->kind = strncmp(at, "refused ", 8) == 0 ? THP_REFUSED : THP_NO_REPLY;
     if (reply->kind == THP_REFUSED || take_number(&at, &uid) != 0 || (step->op != THP_LINE && uid != step->user) || *at++ != ' ' ||
         word_length(&at, &number) == 0 || *at++ != ' ')
