@@ -51,6 +51,10 @@ def test_both_ways_are_the_same(library: Path, program: Path, tmp_path: Path) ->
     source, archive = CLIENT / "tests/both_ways.c", library / "libtracehost.a"
     made = compiled(tmp_path / "both_ways", *FLAGS, *sanitized(), *IN_PROCESS, source, SOURCE, archive)
     assert int(output(made, program, tmp_path, "0", "300")) > 10000
+    records = sorted(tmp_path.glob("0.*"))
+    assert len(records) == 300
+    for record in records:
+        assert record.read_bytes() == (tmp_path / f"1{record.name[1:]}").read_bytes()
 
 
 def test_a_library_that_runs_out_of_memory(tmp_path: Path) -> None:
