@@ -141,11 +141,10 @@ def host(request: pytest.FixtureRequest) -> Iterator[Host]:
         yield made
 
 
-def test_each_call_and_why(host: Host) -> None:
+def test_each_request_and_why(host: Host) -> None:
     user = host.user(1001)
-    one, two = user.process(user.spawn()), user.spawn()
-    three = user.process(user.spawn())
-    turn, ptrace = user.turn, one.ptrace
+    one, _, three = user.process(user.spawn()), user.spawn(), user.process(user.spawn())
+    ptrace = one.ptrace
     assert told(lambda: ptrace(Request.PT_CONTINUE, 1005)) == (
         "ptrace(PT_CONTINUE, 1005) by 1000: ESRCH, user 1001 has no process 1005"
     )
@@ -172,6 +171,12 @@ def test_each_call_and_why(host: Host) -> None:
     )
     ptrace(Request.PT_CONTINUE, 1001)
     assert told(lambda: ptrace(Request.PT_CONTINUE, 1001)).endswith("EBUSY, 1001 is in no trace stop")
+
+
+def test_each_other_call_and_why(host: Host) -> None:
+    user = host.user(1001)
+    one, two, three = user.process(user.spawn()), user.spawn(), user.process(user.spawn())
+    turn = user.turn
     assert told(lambda: one.wait4(0)) == "wait4(0) by 1000: EINVAL, which is 0, and there are no process groups"
     assert told(lambda: one.wait4(1002)).endswith("ECHILD, 1002 is neither a child of 1000 nor traced by it")
     assert told(lambda: three.handle()) == "handle() by 1002: ECHILD, 1002 has no child and traces no process"
