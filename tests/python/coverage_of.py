@@ -3,7 +3,7 @@ client in Python (coverage.py) and the viewer's script (V8's counts by node and 
 
     python3 tests/python/coverage_of.py PROGRAM LIBRARY [python | c | viewer | runtime]
 
-Each part prints `NAME: P% of N lines`. The status is 1 if a part is below its bound.
+Each part prints `NAME: P% of N lines`. The status is 1 if a part is below its bound, or can't be measured here.
 """
 
 from __future__ import annotations
@@ -265,13 +265,14 @@ def main() -> None:
     for name in names or list(BOUNDS):
         missing = [command for command in NEEDED[name] if shutil.which(command) is None]
         if missing:
-            print(f"{name}: {', '.join(missing)} isn't installed")
+            print(f"{name}: not measured: {', '.join(missing)} isn't installed")
+            below.append(name)
             continue
         with tempfile.TemporaryDirectory() as folder:
             share, lines = PARTS[name](pathlib.Path(folder), program, library)
         print(f"{name}: {share:.1f}% of {lines} lines")
         below += [name] if share < BOUNDS[name] else []
-    sys.exit(f"below its bound: {', '.join(below)}" if below else 0)
+    sys.exit(f"not measured, or below its bound: {', '.join(below)}" if below else 0)
 
 
 if __name__ == "__main__":

@@ -13,7 +13,9 @@ from .program import which
 from .report import say, writing
 
 USAGE = 2
+# tools/format version
 VERSION = "0.12.0"
+# end
 
 
 class _Print(argparse.Action):
