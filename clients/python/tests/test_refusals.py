@@ -170,7 +170,7 @@ def test_each_call_and_why(host: Host) -> None:
     assert told(lambda: ptrace(Request.PT_CONTINUE, 1001, 32)) == ("ptrace(PT_CONTINUE, 1001, 32) by 1000: EINVAL, 32 is no signal")
     assert told(lambda: ptrace(Request.PT_GETLWPLIST, 1001, 0)).endswith("EINVAL, data is 0, and has to be how many LWPs to list")
     assert told(lambda: ptrace(Request.PT_SET_EVENT_MASK, 1001, 0x41)) == (
-        "ptrace(PT_SET_EVENT_MASK, 1001, 0x41) by 1000: EINVAL, an event of the mask has no name"
+        "ptrace(PT_SET_EVENT_MASK, 1001, 0x41) by 1000: EINVAL, the mask's 0x40 is no event"
     )
     ptrace(Request.PT_CONTINUE, 1001)
     assert told(lambda: ptrace(Request.PT_CONTINUE, 1001)).endswith("EBUSY, 1001 is in no trace stop")
