@@ -18,6 +18,7 @@ import sys
 import tempfile
 
 import v8_coverage
+from test_posix_programs import variants
 
 TOP = pathlib.Path(__file__).resolve().parents[2]
 BOUNDS = {"python": 95.0, "c": 95.0, "viewer": 90.0, "runtime": 85.0}
@@ -156,11 +157,9 @@ def copy_of_posix(room: pathlib.Path, archive: pathlib.Path) -> pathlib.Path:
     return posix
 
 
-def made_with_gcov(posix: pathlib.Path, source: pathlib.Path, made: pathlib.Path) -> pathlib.Path:
+def made_with_gcov(posix: pathlib.Path, source: pathlib.Path, made: pathlib.Path, *flags: str) -> pathlib.Path:
     """A program with the runtime of that copy. Only the linker gets gcov, which then counts only the runtime."""
     environment = {"CC": "c++" if source.suffix == ".cpp" else "cc"}
-    named = re.search(r"^ \* flags: (.*?) *$", source.read_text(encoding="utf-8"), re.MULTILINE)
-    flags = named[1].split() if named else []
     run(posix / "tracehost-cc", "-g", "-w", *flags, "-c", "-o", f"{made}.o", source, **environment)
     counted = ["--coverage", "-Wl,--wrap=_exit", made.parent / "dump.o"]
     run(posix / "tracehost-cc", *flags, *counted, "-o", made, f"{made}.o", **environment)
@@ -182,8 +181,9 @@ def of_runtime(room: pathlib.Path, program: str, library: str) -> tuple[float, i
         if status and f"\n{name} {case}\n" not in differences:
             raise SystemExit(f"coverage: {name} {case} has status {status}")
     for source in sorted((posix / "tests/programs").iterdir()):
-        made = made_with_gcov(posix, source, room / f"program_{source.stem}")
-        run_on_model(posix, ["--schedules", str(SCHEDULES), made], environment)
+        for number, flags in enumerate(variants(source)):
+            made = made_with_gcov(posix, source, room / f"program_{source.stem}_{number}", *flags)
+            run_on_model(posix, ["--schedules", str(SCHEDULES), made], environment)
     for source in sorted((posix / "races").glob("*.c")):
         run_on_model(posix, ["--schedules", "5", made_with_gcov(posix, source, room / f"race_{source.stem}")], environment)
     odd = made_with_gcov(posix, posix / "tests/odd.c", room / "odd")
