@@ -49,10 +49,12 @@ SYSTEM_LIBRARIES = /usr/lib /usr/lib/% /usr/lib64 /lib /lib/% /lib64
 all:
 	@tools/program
 
-# readable by all, whatever the umask
+# readable by all, whatever the umask. What root builds here is the owner's of this folder, who builds here too
 install:
 	@tools/program >/dev/null
 	@umask 022 && $(MAKE) --no-print-directory install-files
+	@for folder in out clients/posix/build; do [ "$$(id -u)" -ne 0 ] || [ ! -d $$folder ] || \
+	  chown -hR --reference=Makefile $$folder || true; done
 
 install-files:
 	for folder in "$(bindir)" "$(includedir)" "$(man1dir)" "$(docdir)/docs/internals" "$(docdir)/examples" "$(pkgdatadir)/schema" \

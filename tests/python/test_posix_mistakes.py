@@ -71,7 +71,9 @@ def test_a_mistake_without_standard_error_has_its_status() -> None:
 
 @pytest.mark.parametrize("option", ["--version", "--help", "-dumpmachine", "-print-libgcc-file-name"])
 def test_what_the_compiler_does_not_print_is_told(option: str) -> None:
-    assert shell([*CC, option], "").stdout.rstrip() == shell(["cc", option], "").stdout.rstrip() != ""
+    own, of_compiler = shell([*CC, option], "").stdout.rstrip(), shell(["cc", option], "").stdout.rstrip()
+    assert of_compiler and own == (f"{own.partition(of_compiler)[0]}{of_compiler}" if option == "--help" else of_compiler)
+    assert ("  --freebsd " in own) == (option == "--help")
     for output in (CLOSED, FULL):
         done = shell([*CC, option], output)
         assert (done.returncode, done.stderr) == (1, "tracehost-cc: standard output can't be written\n")

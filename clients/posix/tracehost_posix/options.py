@@ -13,7 +13,9 @@ from .program import which
 from .report import say, writing
 
 USAGE = 2
+# tools/format version
 VERSION = "0.12.0"
+# end
 
 
 class _Print(argparse.Action):
@@ -41,35 +43,28 @@ MOST, MOST_CHOICES = (1 << 62) - 1, (1 << 31) - 1
 """The broker's numbers: a seed, and choices of a run."""
 
 
-def _count(text: str, most: int = MOST) -> int:
-    number = int(text)
-    if not 1 <= number <= most:
-        raise ValueError
-    return number
+def _count(text: str, least: int = 1, most: int = MOST) -> int:
+    if not (text.isascii() and text.isdecimal() and least <= int(text) <= most):
+        raise argparse.ArgumentTypeError(f"{text!r} is no number from {least} to {most}")
+    return int(text)
 
 
 def _choices(text: str) -> int:
-    return _count(text, MOST_CHOICES)
+    return _count(text, most=MOST_CHOICES)
 
 
 def _natural(text: str) -> int:
-    number = int(text)
-    if number < 0:
-        raise ValueError
-    return number
+    return _count(text, least=0)
 
 
 def _seconds(text: str) -> float:
-    number = float(text)
+    try:
+        number = float(text)
+    except ValueError:
+        number = 0
     if not 0 < number < 1e6:
-        raise ValueError
+        raise argparse.ArgumentTypeError(f"{text!r} is no number of seconds")
     return number
-
-
-_seconds.__name__ = "number of seconds"
-_count.__name__ = f"number from 1 to {MOST}"
-_choices.__name__ = f"number from 1 to {MOST_CHOICES}"
-_natural.__name__ = "number from 0"
 
 
 def parser() -> Parser:
@@ -154,6 +149,15 @@ def one_of(given: argparse.Namespace, made: Parser) -> None:
         made.error("--gdb and --with don't go together")
     if given.gdb and which("gdb") is None:
         made.error("--gdb: gdb isn't on the path")
+    if given.tool is not None:
+        import shlex
+
+        try:
+            words = shlex.split(given.tool)
+        except ValueError as why:
+            made.error(f"--with: {given.tool!r}: {why}")
+        if not words or which(words[0]) is None:
+            made.error(f"--with: {given.tool!r} is no command on the path")
     if given.switches is not None:
         try:
             record.switches_of(given.switches)

@@ -96,11 +96,17 @@ def _source_lines(addresses: set[tuple[str, int]]) -> dict[tuple[str, int], str]
 
 
 def page(model: str, path: str, title: str) -> str | None:
-    """The viewer's page of a record, as PATH.html, with the program's calls by name; a text if it can't be made."""
+    """The viewer's page of a record, as PATH.html, with the program's calls by name; a text if it can't be made.
+
+    There is then no page, not the one of an older run either.
+    """
+    import contextlib
     import re
     import subprocess
     import tempfile
 
+    with contextlib.suppress(FileNotFoundError):
+        os.unlink(path + ".html")
     viewer = _viewer()
     if viewer is None:
         return "the viewer isn't there: there is no tracehost-view"
@@ -109,12 +115,12 @@ def page(model: str, path: str, title: str) -> str | None:
         return lines.stderr.decode("utf-8", "replace").strip()
     with open(path) as file:
         scenario = re.sub(r'"call":"other","code":(\d+)', _named_call, file.read())
-    with tempfile.TemporaryDirectory(prefix="tracehost-") as folder, open(path + ".html", "wb") as to:
+    with tempfile.TemporaryDirectory(prefix="tracehost-") as folder:
         labelled = os.path.join(folder, os.path.basename(path))
         with open(labelled, "w") as file:
             file.write(scenario)
-        words = [*viewer, "-t", title, "-", labelled]
-        done = subprocess.run(words, input=lines.stdout, stdout=to, stderr=subprocess.PIPE)
+        words = [*viewer, f"--title={title}", f"--output={path}.html", "-", labelled]
+        done = subprocess.run(words, input=lines.stdout, stderr=subprocess.PIPE)
     return None if done.returncode == 0 else done.stderr.decode("utf-8", "replace").strip()
 
 

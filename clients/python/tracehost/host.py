@@ -404,7 +404,7 @@ class Process:
         of_kind("request", Request, request)
         if request == Request.PT_TRACE_ME:
             return self._call("ptrace", request, 0, 0)
-        if request == Request.PT_SET_EVENT_MASK and whole("data", data) & ~ALL_EVENTS:
+        if request == Request.PT_SET_EVENT_MASK and whole("data", data, EventMask) & ~ALL_EVENTS:
             # bits without a name: the model is asked for what it refuses first, and EINVAL comes last
             self.ptrace(Request.PT_GET_EVENT_MASK, target)
             asked = Asked("ptrace", self.user.uid, self.pid, (request, target, data))
@@ -425,7 +425,7 @@ class Process:
         something to collect. It raises TimeoutError after `timeout` seconds. ECHILD if the caller has none that
         `which` names; EINVAL if `which` is 0 or below -1.
         """
-        asked = int(whole("options", options))
+        asked = whole("options", options, WaitOption)
         if asked:
             names_of(asked, OPTIONS)  # ValueError if a bit has no name
         sleeps = block and not asked & WaitOption.WNOHANG
