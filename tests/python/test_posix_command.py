@@ -44,6 +44,12 @@ int main(int argc, char **argv)
 		host(109, 0, 0);
 	else if (strcmp(name, "clock_settime") == 0)
 		host(227, 99, (long)none); /* no clock, and no time, should it get through */
+	else if (strcmp(name, "reboot") == 0)
+		host(169, 0, 0); /* without the numbers that it asks for */
+	else if (strcmp(name, "sethostname") == 0)
+		host(170, 0, -1);
+	else if (strcmp(name, "pidfd_send_signal") == 0)
+		host(424, -1, 0);
 	return 0;
 }
 """
@@ -252,9 +258,10 @@ def test_a_call_of_32_bits_is_held(folder: pathlib.Path) -> None:
     assert done.returncode == 1 and "calls int80 past the runtime" in done.stderr
 
 
-def test_the_clock_of_the_host_is_held(folder: pathlib.Path) -> None:
-    done = run(RUN, folder / "past", "instruction", "clock_settime")
-    assert done.returncode == 1 and "calls clock_settime past the runtime" in done.stderr
+@pytest.mark.parametrize("call", ["clock_settime", "reboot", "sethostname", "pidfd_send_signal"])
+def test_the_host_itself_is_held(folder: pathlib.Path, call: str) -> None:
+    done = run(RUN, folder / "past", "instruction", call)
+    assert done.returncode == 1 and f"calls {call} past the runtime" in done.stderr
 
 
 def test_a_shell_of_the_c_library_is_held(folder: pathlib.Path) -> None:

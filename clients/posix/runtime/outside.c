@@ -29,6 +29,7 @@ static const struct {
 	{SYS_tgkill, "tgkill"},
 	{SYS_rt_sigqueueinfo, "sigqueue"},
 	{SYS_rt_tgsigqueueinfo, "pthread_sigqueue"},
+	{SYS_pidfd_send_signal, "pidfd_send_signal"},
 	{SYS_fork, "fork"},
 	{SYS_vfork, "vfork"},
 	{SYS_clone, "clone"},
@@ -40,6 +41,8 @@ static const struct {
 	{SYS_settimeofday, "settimeofday"},
 	{SYS_adjtimex, "adjtimex"},
 	{SYS_clock_adjtime, "clock_adjtime"},
+	{SYS_reboot, "reboot"},
+	{SYS_sethostname, "sethostname"},
 };
 enum { HELD = sizeof held / sizeof held[0], WINDOWS = 64, FORK = CLONE_CHILD_SETTID | CLONE_CHILD_CLEARTID | SIGCHLD };
 
