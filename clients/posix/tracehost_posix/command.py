@@ -21,6 +21,8 @@ from .report import Unwritten, print_lines, say, writing
 from .setting import Broken, Options, Setting, Switch, Task, text_of
 
 FAILED, BROKEN, ANOTHER_WAY = 1, 3, 4
+DESCRIPTORS = 1024
+"""The runtime's begin at 1000."""
 LAST = 100
 """The figures say how many of the last LAST schedules were new."""
 
@@ -229,19 +231,24 @@ class Command:
             return
         setting, why = self.setting, outcome.result.why
         options = {"calls": setting.options.calls, "strict": setting.options.strict, "limit": setting.options.limit, "failed": why}
-        record.write(
-            path,
-            outcome,
-            setting.command,
-            setting.kill_on_debugger_exit,
-            {**options, "kill_on_debugger_exit": setting.kill_on_debugger_exit},
-        )
         steps = ", ".join(str(place.step) for place in outcome.places)
         words = " ".join([os.path.basename(setting.command[0]), *setting.command[1:]])
         title = f"{words}: {why or 'passed'}" + (f" (switches before step {steps})" if steps else "")
-        trouble = report.page(setting.model, path, title)
-        if trouble:
+        try:
+            record.write(
+                path,
+                outcome,
+                setting.command,
+                setting.kill_on_debugger_exit,
+                {**options, "kill_on_debugger_exit": setting.kill_on_debugger_exit},
+            )
+            trouble = report.page(setting.model, path, title)
+        except OSError as failed:
+            raise OSError(f"--record: {path}: {failed.strerror}") from failed
+        if trouble == report.NO_VIEWER:
             say(f"{path}.html isn't written: {trouble}")
+        elif trouble is not None:
+            raise OSError(f"--record: {path}.html: {trouble}")
 
     def _end(self, why: str | None) -> int:
         if self.passed:
@@ -294,9 +301,17 @@ def main(words: Sequence[str] | None = None) -> int:
             sys.stdout.flush()
         return status
     except Unwritten as why:
-        os.dup2(os.open(os.devnull, os.O_WRONLY), 1)  # Python writes what is left at its end
-        say(str(why))
+        _throw_away(why.number)
+        try:
+            say(str(why))
+        except Unwritten as also:
+            _throw_away(also.number)
         return BROKEN
+
+
+def _throw_away(number: int) -> None:
+    """What Python writes there at its end."""
+    os.dup2(os.open(os.devnull, os.O_WRONLY), number)
 
 
 def _command(words: Sequence[str] | None) -> int:
@@ -311,8 +326,10 @@ def _command(words: Sequence[str] | None) -> int:
         recordable(given.record, made)
     model = model_of(given, made)
     soft, hard = resource.getrlimit(resource.RLIMIT_NOFILE)
-    resource.setrlimit(resource.RLIMIT_NOFILE, (max(soft, min(hard, 4096)), hard))  # a socket for each thread
     try:
+        if hard < DESCRIPTORS:
+            raise Broken(f"only {hard} open files are allowed (ulimit -n), and {DESCRIPTORS} are needed")
+        resource.setrlimit(resource.RLIMIT_NOFILE, (max(soft, min(hard, 4096)), hard))  # a socket for each thread
         return _run(Command(given, _setting(given, model)))
     except NotRunnable as why:
         if str(why):  # else the program has said it

@@ -35,7 +35,7 @@ class Parser(argparse.ArgumentParser):
     """A mistake is one line, with status 2."""
 
     def error(self, message: str) -> NoReturn:
-        say(message)
+        say(message.removeprefix("argument "))
         sys.exit(USAGE)
 
 
@@ -43,18 +43,22 @@ MOST, MOST_CHOICES = (1 << 62) - 1, (1 << 31) - 1
 """The broker's numbers: a seed, and choices of a run."""
 
 
-def _count(text: str, least: int = 1, most: int = MOST) -> int:
-    if not (text.isascii() and text.isdecimal() and least <= int(text) <= most):
+def _number(text: str, least: int, most: int) -> int:
+    if not (text.isascii() and text.isdecimal() and len(text) < 20 and least <= int(text) <= most):
         raise argparse.ArgumentTypeError(f"{text!r} is no number from {least} to {most}")
     return int(text)
 
 
+def _count(text: str) -> int:
+    return _number(text, 1, MOST)
+
+
 def _choices(text: str) -> int:
-    return _count(text, most=MOST_CHOICES)
+    return _number(text, 1, MOST_CHOICES)
 
 
 def _natural(text: str) -> int:
-    return _count(text, least=0)
+    return _number(text, 0, MOST)
 
 
 def _seconds(text: str) -> float:
@@ -63,7 +67,7 @@ def _seconds(text: str) -> float:
     except ValueError:
         number = 0
     if not 0 < number < 1e6:
-        raise argparse.ArgumentTypeError(f"{text!r} is no number of seconds")
+        raise argparse.ArgumentTypeError(f"{text!r} is no number of seconds above 0")
     return number
 
 
@@ -150,19 +154,24 @@ def one_of(given: argparse.Namespace, made: Parser) -> None:
     if given.gdb and which("gdb") is None:
         made.error("--gdb: gdb isn't on the path")
     if given.tool is not None:
-        import shlex
-
-        try:
-            words = shlex.split(given.tool)
-        except ValueError as why:
-            made.error(f"--with: {given.tool!r}: {why}")
-        if not words or which(words[0]) is None:
-            made.error(f"--with: {given.tool!r} is no command on the path")
+        _tool(given.tool, made)
     if given.switches is not None:
         try:
             record.switches_of(given.switches)
         except ValueError:
             made.error(f"--switches: {given.switches!r} is no list of LWP.POINT:LWP")
+
+
+def _tool(command: str, made: Parser) -> None:
+    """The command of --with is there."""
+    import shlex
+
+    try:
+        words = shlex.split(command)
+    except ValueError as why:
+        made.error(f"--with: {command!r}: {why}")
+    if not words or which(words[0]) is None:
+        made.error(f"--with: {command!r}: there is no such program")
 
 
 def model_of(given: argparse.Namespace, made: Parser) -> str:
@@ -185,6 +194,12 @@ def replayed(given: argparse.Namespace, made: Parser) -> None:
         schedule = record.read_schedule(given.replay)
     except (OSError, ValueError) as why:
         made.error(f"--replay: {given.replay}.schedule: {getattr(why, 'strerror', None) or why}")
+    for path in (given.replay, f"{given.replay}.lines"):
+        try:
+            with open(path):
+                pass
+        except OSError as why:
+            made.error(f"--replay: {path}: {why.strerror}")
     given.switches = schedule["switches"]
     given.calls, given.strict, given.limit = (
         bool(schedule.get("calls")),
@@ -205,6 +220,8 @@ def recordable(path: str, made: Parser) -> None:
         with tempfile.TemporaryFile(dir=os.path.dirname(path) or "."):
             pass
         if os.path.exists(path):
-            os.close(os.open(path, os.O_WRONLY))
+            os.close(os.open(path, os.O_WRONLY | os.O_NONBLOCK))
     except OSError as why:
         made.error(f"--record: {path}: {why.strerror}")
+    if os.path.exists(path) and not os.path.isfile(path):
+        made.error(f"--record: {path}: it isn't a file")
