@@ -214,6 +214,9 @@ void leg_asks(const struct question *q, const char *text)
 	questions = mixed_bytes(questions, text, hosts ? strcspn(text, " ") : strlen(text));
 }
 
+/* A choice within the leg, which its next step will show. */
+void leg_chooses(int number) { questions = mixed(questions, number); }
+
 static uint64_t of_steps(uint64_t hash)
 {
 	for (size_t i = steps; i < run.kept.count; i++) {

@@ -39,6 +39,7 @@ void touch_step(const struct step *s, const reply *r);
 void legs_begin(void);
 void leg_ends(const struct lwp *l);
 void leg_is_told(void);
+void leg_chooses(int number);
 uint64_t legs_sum(void);
 uint64_t state_of(int tid);
 

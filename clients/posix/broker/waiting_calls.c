@@ -41,6 +41,7 @@ static int first_of(struct lwp *l, const int *children, int count)
 		note("\n");
 	}
 	int first = schedule_first_of(children, count, l, l->points);
+	leg_chooses(first != 0 ? first : children[0]);
 	if (first == 0 || first == children[0])
 		return 0;
 	APPEND(&run.switches, (struct switch_to){.tid = l->tid, .point = l->points, .to = first});
