@@ -22,7 +22,7 @@ AHEAD, ROOM = 64, 32768
 """The most schedules, and bytes of them, that are on their way: a pipe has room for twice as many bytes."""
 NAP = 0.002
 """While half of these or more are on their way, answers are read each NAP seconds: to be woken up for each costs time."""
-_LAST = ("passed ", "failed ", "broken ")
+_LAST = ("passed ", "failed ", "repeats ", "broken ")
 
 
 def find() -> str | None:
@@ -147,7 +147,7 @@ class Broker:
     def _line_of(self, task: Task, wants: str) -> bytes:
         """What asks for it."""
         if task.switches is not None:
-            schedule = f"switches {text_of(task.switches)}"
+            schedule = f"switches {text_of(task.switches, task.asleep)}"
         elif task.seed is None:
             schedule = "plain"
         elif task.depth is not None:

@@ -37,7 +37,10 @@ class Command:
         self.given, self.setting = given, setting
         self.began = time.monotonic()
         self.runs = self.questions = self.steps = self.passed = self.skipped = self.examined = self.most = 0
-        self.schedules: set[str] = set()
+        self.repeated = 0
+        """Of the runs, those that were left: they would only have repeated others."""
+        self.schedules: set[int] = set()
+        """The runs, but for the order of legs that commute."""
         self.covered: dict[Met, bool] = {}
         self.news: deque[bool] = deque(maxlen=LAST)
         """Of the last runs, whether nothing like them had run before."""
@@ -51,9 +54,12 @@ class Command:
         self.skipped += result.skipped
         self.examined += result.examined
         self.most = max(self.most, result.questions)
-        self.news.append(result.schedule not in self.schedules)
-        self.schedules.add(result.schedule)
         self._cover(dict(result.covered))
+        if result.repeats:
+            self.repeated += 1
+            return
+        self.news.append(result.legs not in self.schedules)
+        self.schedules.add(result.legs)
         if self.given.digest:
             with writing():
                 print(f"{'plain' if task.seed is None else task.seed} {result.digest}")
@@ -170,15 +176,14 @@ class Command:
             if given.preemptions is None:
                 found = search.seeds(pool, given.schedules, task, self.heard)
                 new = 100 * sum(self.news) // len(self.news)
-                ended = f"{self.runs} schedules passed, {len(self.schedules)} of them different; of the last {len(self.news)} {new}% were new"
+                ended = f"{self.runs} schedules passed, {self._different()}; of the last {len(self.news)} {new}% were new"
             else:
                 found = search.preemptions(pool, given.preemptions, given.schedules or 100000, self.heard)
         except search.Exhausted as end:
-            bound = f"with at most {given.preemptions} preemptions"
+            every, more = ("all ", "") if end.complete else ("", ", and there are more")
             ended = (
-                f"all {self.runs} schedules {bound} passed"
-                if end.complete
-                else f"{self.runs} schedules {bound} passed, and there are more"
+                f"{every}{self.runs - self.repeated} schedules with at most {given.preemptions} preemptions passed, "
+                f"{self._different()}{more}; {self.repeated} were left, as they only repeated others"
             )
         finally:
             if found is None:
@@ -191,9 +196,12 @@ class Command:
         finally:
             pool.close()
 
+    def _different(self) -> str:
+        return f"{len(self.schedules)} of them different"
+
     def _failing(self, pool: Pool, task: Task, result: Result) -> int:
         how = f"a schedule with {len(result.switches)} switches" if task.switches is not None else task.name()
-        say(f"fails under {how}, after {self.runs - 1} schedules that passed: {result.why}")
+        say(f"fails under {how}, after {self.runs - self.repeated - 1} schedules that passed: {result.why}")
         if result.why is not None and result.why.startswith("the record is"):
             return FAILED
         broker = pool.broker()
