@@ -49,10 +49,12 @@ SYSTEM_LIBRARIES = /usr/lib /usr/lib/% /usr/lib64 /lib /lib/% /lib64
 all:
 	@tools/program
 
-# readable by all, whatever the umask
+# readable by all, whatever the umask. What root builds here is the owner's of this folder, who builds here too
 install:
 	@tools/program >/dev/null
 	@umask 022 && $(MAKE) --no-print-directory install-files
+	@for folder in out clients/posix/build; do [ "$$(id -u)" -ne 0 ] || [ ! -d $$folder ] || \
+	  chown -hR --reference=Makefile $$folder || true; done
 
 install-files:
 	for folder in "$(bindir)" "$(includedir)" "$(man1dir)" "$(docdir)/docs/internals" "$(docdir)/examples" "$(pkgdatadir)/schema" \
@@ -127,7 +129,7 @@ uninstall:
 deb:
 	tools/deb "$(OUT)"
 
-# twice the same bits: no time but the release's, and no mode but the umask's; without a program it is the client alone
+# twice the same bits: no time but the release's, and no mode but the umask's; without a program it is only the client
 wheel:
 	@tools/program >/dev/null || echo "the wheel contains the client, without the program" >&2
 	umask 022 && SOURCE_DATE_EPOCH=$${SOURCE_DATE_EPOCH:-$$(tools/version --time)} \

@@ -7,7 +7,7 @@ PROGRAM is the built program, FOLDER that of libtracehost.a (default: the releas
 attaches to a process, waits for it and detaches, again and again. Printed is for each way the best of N runs (default
 9), in nanoseconds a step; the runs of the ways take turns. Instructions are counted by valgrind's callgrind, as the
 difference of two runs; `-` if there is no valgrind, for Python, and for a pipe, whose other end is another process.
-The client in C calls the library by text, that in Python by typed calls. Without cargo or c++ their rows are left out.
+The clients in C and Python make typed calls. Without cargo or c++ their rows are left out.
 Then come the instructions of one tracehost_view of a user, by the number of other users with 250 processes and 1,000
 LWPs each.
 """

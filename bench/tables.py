@@ -3,9 +3,9 @@
 
     python3 bench/tables.py [--library FOLDER] [--steps N] [--runs N]
 
-FOLDER is that of libtracehost.a (default: $TRACEHOST_LIB_DIR, else the release's). Printed is the median of N runs
-(default 4), each of N steps (default 20,000) of a kind. What grows with the number of rows is the time for memory that is
-no longer in the processor's caches.
+FOLDER is that of libtracehost.a (default: $TRACEHOST_LIB_DIR, else the release's). It prints the median of N runs
+(default 4), each of N steps (default 20,000) of a kind. Memory that is no longer in the processor's caches takes more time
+the more rows there are.
 """
 
 from __future__ import annotations

@@ -2,6 +2,12 @@
 # this file, or link each command's name to it in ~/.local/share/bash-completion/completions. tracehost-cc takes the
 # words of a compiler: there are files and the compiler's options.
 
+# The options at the beginning of a line of help; those within a description are another command's.
+_tracehost_options()
+{
+    sed -nE 's/^ {1,4}(-.*)/\1/p' | sed 's/   *.*//' | grep -oE -- '(^|[ ,])--?[a-zA-Z][a-z-]*' | tr -d ' ,' | sort -u
+}
+
 _tracehost_command()
 {
     local word=${COMP_WORDS[COMP_CWORD]} option=${COMP_WORDS[COMP_CWORD - 1]} help choices
@@ -10,7 +16,7 @@ _tracehost_command()
     [[ $word != = ]] || word=''
     help=$("$1" --help 2>/dev/null) || help=''
     if [[ $word == -* ]]; then
-        mapfile -t COMPREPLY < <(compgen -W "$(grep -oE -- '(^|[ ,[])--?[a-zA-Z][a-z-]*' <<<"$help" | tr -d ' ,[' | sort -u)" -- "$word")
+        mapfile -t COMPREPLY < <(compgen -W "$(_tracehost_options <<<"$help")" -- "$word")
         return
     fi
     # an option with choices is shown as --option {one,other}

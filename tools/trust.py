@@ -1,112 +1,238 @@
-"""The lists of docs/internals/TRUST.md. What states the headline is named on the page itself: in each part, its contracts."""
+"""What has to be read to believe the headline: the definitions and types that some contracts cite, directly or through others.
+
+A *definition* is a paragraph of a file of a crate's `specs/`: a declaration with the comment before it. A *type* is an
+enum, a struct or a trait of a crate's `src/`, with its constants and with what contracts see of it. Names are looked up by
+spelling, so what is found may be too much. It is not too little: a name that is imported from this repository and leads to
+nothing is an error. Names of the kit's own libraries are not followed.
+"""
 
 from __future__ import annotations
 
 import re
-import textwrap
 from collections.abc import Iterator
-from graphlib import TopologicalSorter
+from functools import cache
 from pathlib import Path
+from typing import NamedTuple
 
-from citations import CRATES, Definition, Walk, read_contracts, read_specs
 from crates import TOP, listed
 
-PAGE = TOP / "docs/internals/TRUST.md"
+CRATES = TOP / "crates"
+# the parts of the headline, each with the files and functions whose contracts state it; a part adds to those before it
+HEADLINE = {
+    "A list of all users' steps on a host": "visibility/src/runs.rt run_list requests/src/host.rt new",
+    "Two hosts, and numbers of other users": "visibility/src/laws.rt one_step other_step foreign_number two_lists foreign_numbers",
+    "Scripts in threads": "sessions/src/run.rt run_sessions sessions/src/laws.rt every_schedule",
+    "Only the machine": "visibility/src/machine.rt *",
+    "Texts: what the program reads and prints": """scenario_text/src/reading.rt read scenario_runs/src/running.rt run_with
+        scenario/src/threading.rt run_threads_with open_sessions/src/serving.rt serve
+        open_sessions/src/laws.rt sessions_are_private""",
+    "The C library: calls on a handle": """open_sessions/src/session.rt new open_sessions/src/laws.rt calls_are_private
+        tracehost_c/src/lib.rt tracehost_open tracehost_line tracehost_spawn tracehost_list tracehost_sigaction tracehost_kill
+        tracehost_wait4 tracehost_install tracehost_handle tracehost_ptrace tracehost_turn tracehost_view
+        tracehost_c/src/laws.rt handle_calls_are_private""",
+}
+
+IMPORT = re.compile(r"^ *(?:pub |ghost )?use (Rattle\..*?)(?: as (\w+))?;?$", re.MULTILINE)
+GROUP = re.compile(r"([^\s{},]*)\{([^{}]*)\}")
+OTHER = re.compile(r"^ *((pub )?(use|mod) .*|--.*)$", re.MULTILINE)
+DECLARED = re.compile(r"\s*(?:abbrev |unfoldable )?(?:pub )?(record |data )?(\S+)")
+CONSTRUCTOR = re.compile(r"^  (?:pub )?(\S+) :", re.MULTILINE)
+FUNCTION = re.compile(r'^( *)pub (?:extern "C" )?fn (\w+)\b(.*?)^\1\{\}?$', re.DOTALL | re.MULTILINE)
+CITED = re.compile(r"(?<![\w'])(?<!\w\.)([A-Za-z_][\w'-]*)")
+TYPE = re.compile(r"^((?:(?:///|#\[).*\n)*)(?:pub(?:\([^)]*\))? )?(?:enum|struct|trait) (\w+)", re.MULTILINE)
+# the constants of a type, the value by which contracts see it, and the blocks that may have more constants or a trait's ghosts
+FURTHER = r"^bitflag_items! \{{\n    impl {0}:|^impl.* Model for {0}\b"
+PARTLY = r"^impl(?: {0} \{{|.*\b{0}\b.* for )"
+STATED = re.compile(r"^(?:    ///.*\n)*    (?:pub(?:\([^)]*\))? )?(?:ghost(?! use)|const) [\s\S]*?;$", re.MULTILINE)
+ITEM = re.compile(r"^\}|^pub struct [^\n{]*;$", re.MULTILINE)
+# what leads from a type to its parts, in the path of a name
+PARTS = ("TheVariants", "TheInside", "TheConstants")
 
 
-def headline() -> dict[str, list[str]]:
-    """The parts of the headline, and the contracts that state each; a part adds to those before it."""
-    parts = re.findall(r"^### (.*)\n\nContracts: ((?:.+\n)+)", PAGE.read_text(encoding="utf-8"), re.MULTILINE)
-    return {title: re.findall(r"`([^`]+)`", names) for title, names in parts}
+class Piece(NamedTuple):
+    """A definition, a type, or a part of one."""
+
+    path: Path
+    name: str
+    text: str
+
+    def cited(self) -> list[str]:
+        return CITED.findall(re.sub(r"(--|//)[^\n]*", "", self.text))
 
 
-def contracts_of(name: str) -> Iterator[tuple[Path, str]]:
-    """The function of such a name and its file: `CRATE::FUNCTION`, also with a type or a file before the function; or all of
-    a file, `CRATE::FILE::*`."""
-    crate, *within, function = name.split("::")
-    found = []
+class Source(NamedTuple):
+    """A file: its definitions or contracts by their names, and the modules from which it has other names."""
+
+    pieces: dict[str, Piece]
+    names: dict[str, str]
+
+
+def imported(text: str) -> Iterator[tuple[str, str]]:
+    """The names that a text imports, with their modules: `a.{b.{c, d}, e}` brings c and d of a.b, and e of a."""
+    for path, alias in IMPORT.findall(text):
+        while "{" in path:
+            path = GROUP.sub(lambda group: ", ".join(group[1] + name.strip() for name in group[2].split(",")), path)
+        yield from [(alias, path)] if alias else ((one.rpartition(".")[2], one.rpartition(".")[0]) for one in path.split(", "))
+
+
+@cache
+def read_specs(path: Path) -> Source:
+    text = path.read_text(encoding="utf-8")
+    pieces: dict[str, Piece] = {}
+    for paragraph in text.split("\n\n"):
+        if declared := DECLARED.match(OTHER.sub("", paragraph).strip("\n")):
+            constructors = CONSTRUCTOR.findall(paragraph) if declared[1] == "data " else []
+            pieces.update(dict.fromkeys((declared[2], *constructors), Piece(path, declared[2], paragraph.strip("\n"))))
+    return Source(pieces, dict(imported(text)))
+
+
+@cache
+def read_contracts(path: Path) -> Source:
+    """The public functions of a file of src/, each with its header: the types of its parameters, and its clauses."""
+    text = path.read_text(encoding="utf-8")
+    return Source({it[2]: Piece(path, it[2], it[3]) for it in FUNCTION.finditer(text)}, dict(imported(text)))
+
+
+@cache
+def read_types(crate: str) -> dict[str, list[Piece]]:
+    """The types of a crate, each with its constants and its value."""
+    found: dict[str, list[Piece]] = {}
     for path in sorted((CRATES / crate / "src").rglob("*.rt")):
         text = path.read_text(encoding="utf-8")
-        is_within = all(word == path.stem or re.search(rf"^impl\b.*\b{word}\b", text, re.MULTILINE) for word in within)
-        if is_within and (function == "*" or function in read_contracts(path).definitions):
-            found.append(path)
-    if len(found) != 1:
-        raise LookupError(f"{name}: {len(found)} files of the crate have this function")
-    yield from ((found[0], each) for each in (read_contracts(found[0]).definitions if function == "*" else [function]))
+
+        def item(at: int) -> str:
+            """What begins there: to its closing brace, or to the semicolon of its one line."""
+            end = ITEM.search(text, at)
+            return text[at : end.end() if end else len(text)]
+
+        for head in TYPE.finditer(text):
+            made = [item(it.start()) for it in (head, *re.finditer(FURTHER.format(head[2]), text, re.MULTILINE))]
+            blocks = (item(it.start()) for it in re.finditer(PARTLY.format(head[2]), text, re.MULTILINE))
+            made += filter(None, ("\n".join(STATED.findall(block)) for block in blocks))
+            found.setdefault(head[2], []).extend(Piece(path, head[2], part) for part in made)
+    return found
 
 
-def cited_files(path: Path) -> Iterator[Path]:
-    """The files of the same crate that a file of specs/ imports from."""
-    source = read_specs(path)
-    for module in {*source.names.values(), *source.aliases.values()}:
-        cited = path.parent / f'{"/".join(module.split(".")[3:])}.antt'
-        if module.split(".")[1] == path.parent.parent.name and cited.is_file():
-            yield cited
+class Walk:
+    """All that is cited from some contracts on, in the order in which a reader meets it."""
+
+    def __init__(self) -> None:
+        self.definitions: dict[Piece, None] = {}
+        self.types: dict[Piece, None] = {}
+
+    def follow(self, piece: Piece, source: Source) -> None:
+        crate = piece.path.relative_to(CRATES).parts[0]
+        for name in piece.cited():
+            if name in source.names:
+                self.cite(source.names[name], name)
+            elif piece.path.suffix == ".rt":
+                self.add_type(crate, name)
+            elif name in source.pieces:
+                self.add(source.pieces[name], source)
+
+    def add(self, piece: Piece, source: Source) -> None:
+        if piece not in self.definitions:
+            self.definitions[piece] = None
+            self.follow(piece, source)
+
+    def cite(self, module: str, name: str) -> None:
+        _, crate, *below = module.split(".")
+        if not (CRATES / crate).is_dir() or below[1] == "contracts":
+            return  # the kit's, or a function
+        if below[1] == "declared":
+            types = [word for word in below[2:] if word[0].isupper() and word not in PARTS]
+            if not self.add_type(crate, (types or [name])[-1]):
+                raise LookupError(f"{module}.{name} leads to no type of {crate}")
+            return
+        source = read_specs(CRATES / crate / "specs" / f'{"/".join(below[1:])}.antt')
+        if name in source.pieces:
+            self.add(source.pieces[name], source)
+        elif name in source.names:
+            self.cite(source.names[name], name)
+        else:
+            raise LookupError(f"{module}.{name} leads to no definition of {crate}")
+
+    def add_type(self, crate: str, name: str) -> bool:
+        """Adds a type, and the types of its fields, or of its value if it has one: then contracts see only that. Returns
+        whether there is such a type in the crate, or in one that it uses."""
+        crates = listed()
+        places = (read_types(place).get(name) for place in (crate, *crates[crate].uses) if place in crates)
+        if (pieces := next(filter(None, places), None)) is None:
+            return False
+        if pieces[0] not in self.types:
+            self.types.update(dict.fromkeys(pieces))
+            for piece in [it for it in pieces if " Model for " in it.text] or pieces[:1]:
+                value = re.findall(r"ghost Value = \{(.*)\};", piece.text)
+                self.follow(piece._replace(text=" ".join(value) or piece.text), Source({}, dict(imported(piece.text))))
+        return True
 
 
-def in_order(paths: set[Path]) -> list[Path]:
-    """Puts each file before the files that it cites, crate by crate from the top."""
-    order = {name: place for place, name in enumerate(listed())}
-    sorter: TopologicalSorter[Path] = TopologicalSorter()
-    for path in sorted(CRATES.glob("*/specs/*.antt")):
-        sorter.add(path)
-        for cited in sorted(cited_files(path)):
-            sorter.add(cited, path)
-    places = {path: place for place, path in enumerate(sorter.static_order())}
-    return sorted(paths, key=lambda path: (-order[path.relative_to(CRATES).parts[0]], places.get(path, 0), path))
+def contracts_of(names: str) -> Iterator[tuple[Piece, Source]]:
+    """The contracts of such functions, each after its file; * is all functions of a file."""
+    for word in names.split():
+        if word.endswith(".rt"):
+            source = read_contracts(CRATES / word)
+        elif word not in ("*", *source.pieces):
+            raise LookupError(f"{names}: there is no function {word}")
+        else:
+            yield from ((piece, source) for name, piece in source.pieces.items() if word in ("*", name))
 
 
-def by_file(pieces: list[Definition]) -> list[tuple[Path, list[Definition]]]:
-    """The pieces of each file, in their order."""
-    paths = in_order({piece.path for piece in pieces})
-    return [(path, sorted((it for it in pieces if it.path == path), key=lambda it: it.first)) for path in paths]
+class Part(NamedTuple):
+    title: str
+    contracts: str
+    definitions: list[Piece]
+    types: list[Piece]
 
 
-def parts() -> Iterator[tuple[str, list[str], list[Definition], list[Definition]]]:
+def parts() -> Iterator[Part]:
     """Each part and its contracts, with the definitions and the types that it adds."""
-    walk, definitions, types = Walk(), 0, 0
-    for title, names in headline().items():
-        for path, function in (contract for name in names for contract in contracts_of(name)):
-            walk.take(path, function)
-        yield title, names, [*walk.found][definitions:], [*walk.types][types:]
-        definitions, types = len(walk.found), len(walk.types)
+    walk = Walk()
+    for title, headline in HEADLINE.items():
+        names = " ".join(headline.split())
+        before = {*walk.definitions, *walk.types}
+        for piece, source in contracts_of(names):
+            walk.follow(piece, source)
+        new = ([piece for piece in found if piece not in before] for found in (walk.definitions, walk.types))
+        yield Part(title, names, *new)
 
 
-def definitions_of(pieces: list[Definition]) -> list[str]:
-    rows = ["| definitions in | lines to read | lines of the file |", "|---|---:|---:|"]
-    whole = 0
-    for path, found in by_file(pieces):
-        length = len(path.read_text(encoding="utf-8").splitlines())
-        whole += length
-        rows.append(f"| `{path.relative_to(TOP)}` | {sum(it.lines for it in found)} | {length} |")
-    files = len({it.path for it in pieces})
-    return [*rows, f"| {files} files | {sum(it.lines for it in pieces):,} | {whole:,} |"]
+def by_file(pieces: list[Piece]) -> dict[Path, list[Piece]]:
+    return {path: [it for it in pieces if it.path == path] for path in dict.fromkeys(it.path for it in pieces)}
 
 
-def types_of(pieces: list[Definition]) -> list[str]:
-    rows = ["| types in | lines to read | types |", "|---|---:|---|"]
-    for path, found in by_file(pieces):
-        names = ", ".join(f"`{name}`" for name in dict.fromkeys(it.name for it in found))
-        rows.append(f"| `{path.relative_to(TOP)}` | {sum(it.lines for it in found)} | {names} |")
-    return [*rows, f"| {len(rows) - 2} files | {sum(it.lines for it in pieces):,} | |"]
+def lines(pieces: list[Piece]) -> int:
+    return sum(len(it.text.splitlines()) for it in pieces)
+
+
+def size(pieces: list[Piece]) -> str:
+    return f"{lines(pieces):,} in {len(by_file(pieces))}" if pieces else "-"
+
+
+def totals() -> str:
+    """How much that is, part by part."""
+    rows = ["| part | definitions: lines in files | types: lines in files |\n|---|---|---|\n"]
+    rows += [f"| {part.title} | {size(part.definitions)} | {size(part.types)} |\n" for part in parts()]
+    return "".join(rows)
 
 
 def definitions() -> str:
-    """What has to be read to believe the headline, in order, with counts of lines."""
-    sections = []
-    for title, names, found, types in parts():
-        contracts = ", ".join(f"`{name}`" for name in names)
-        sections += [f"### {title}", textwrap.fill(f"Contracts: {contracts}.", 120)]
-        sections += ["\n".join(rows) for rows in (definitions_of(found), types_of(types) if types else []) if rows]
-    return "\n\n".join(sections) + "\n"
+    """The names of all that, by files, with counts of lines."""
+    rows = []
+    for part in parts():
+        rows.append(f"==== {part.title}\nlines  of {part.contracts}\n")
+        for path, pieces in (*by_file(part.definitions).items(), *by_file(part.types).items()):
+            rows.append(f"{lines(pieces):5}  {path.relative_to(TOP)}: {', '.join(dict.fromkeys(it.name for it in pieces))}\n")
+        rows.append(f"{lines([*part.definitions, *part.types]):5}\n")
+    return "".join(rows)
 
 
 def text() -> str:
-    """The text of these definitions and types, to read from top to bottom."""
+    """The text of all that, to read from top to bottom."""
     shown = []
-    for title, _, found, types in parts():
-        shown.append(f"==== {title}")
-        for path, pieces in (*by_file(found), *by_file(types)):
+    for part in parts():
+        shown.append(f"==== {part.title}")
+        for path, pieces in (*by_file(part.definitions).items(), *by_file(part.types).items()):
             shown += [f"---- {path.relative_to(TOP)}", *(piece.text for piece in pieces)]
     return "\n\n".join(shown) + "\n"
 

@@ -8,11 +8,32 @@ import os
 import shutil
 import stat
 import sys
-from typing import IO, Any, Optional, TextIO
+from collections.abc import Sequence
+from typing import IO, Any, Optional, TextIO, Union
+
+# tools/format version
+VERSION = "0.12.0"
+# end
+
+
+class _PrintVersion(argparse.Action):
+    def __call__(
+        self,
+        parser: argparse.ArgumentParser,
+        given: argparse.Namespace,
+        values: Union[str, Sequence[Any], None],
+        option: object = None,
+    ) -> None:
+        write(None, f"{parser.prog} {VERSION}\n".encode("ascii"))
+        parser.exit()
 
 
 class Parser(argparse.ArgumentParser):
-    """A parser of a command line that raises OSError if the text of --help can't be written."""
+    """A parser of a command line that raises OSError if the text of --help or --version can't be written."""
+
+    def __init__(self, **words: Any) -> None:
+        super().__init__(**words)
+        self.add_argument("--version", action=_PrintVersion, nargs=0, help="print the version and exit")
 
     def print_help(self, file: Optional[IO[Any]] = None) -> None:
         if file is None:

@@ -29,8 +29,62 @@ const char *thp_name_of(const struct thp_table *table, int value);
 int thp_value_of(const struct thp_table *table, const char *word, size_t length);
 /* all values together */
 int thp_all_of(const struct thp_table *table);
-/* the host system's number of the model's errno with this name; 0 for none */
+/* the host system's number of the model's errno with this name, or with FreeBSD's number; 0 for none */
 int thp_errno_of(const char *word, size_t length);
+int thp_errno_numbered(unsigned freebsd);
+
+/* ---- a step and its reply */
+
+enum thp_op { THP_SPAWN, THP_LIST, THP_SIGACTION, THP_KILL, THP_WAIT4, THP_INSTALL, THP_HANDLE, THP_PTRACE, THP_TURN, THP_LINE };
+enum thp_act { THP_COMPUTE, THP_RAISE, THP_BLOCK, THP_ENTER, THP_LEAVE }; /* of a turn */
+
+/* A step has the fields of its op; the others are 0. */
+struct thp_step {
+    enum thp_op op;
+    unsigned user;
+    int32_t caller;
+    int32_t lwp; /* of a turn */
+    enum thp_act act;
+    int32_t target; /* of a request, kill or wait4 */
+    int request, signal, options, action, call;
+    unsigned data; /* of a request; the event mask; the set of a block; the code of a call */
+    const struct th_rule *rules;
+    size_t rule_count;
+    const char *line; /* of th_step_text */
+    int32_t *numbers; /* room for the list that answers it */
+    size_t size;
+};
+
+enum thp_kind { /* up to THP_ERROR in the order of tracehost.h */
+    THP_DONE,
+    THP_NEW,
+    THP_NUMBER,
+    THP_STATUS,
+    THP_NOTHING,
+    THP_INFO,
+    THP_LWPS,
+    THP_PIDS,
+    THP_MASK,
+    THP_HANDLED,
+    THP_STOPPED,
+    THP_CAUGHT,
+    THP_ENDED,
+    THP_HELD,
+    THP_ERROR,
+    THP_REFUSED,
+    THP_NO_REPLY
+};
+
+/* A reply has the fields of its kind; the others are 0, and -1 is no handler. */
+struct thp_reply {
+    enum thp_kind kind;
+    int pid, lwp, number, status, signal, event, child, handler, decision, pass;
+    int flags; /* of a stop; of THP_MASK the events */
+    int error; /* the host system's number */
+    int mask, pending; /* sets of signals */
+    unsigned code;
+    size_t count; /* of a list */
+};
 
 /* ---- the session: session.c */
 
@@ -49,11 +103,13 @@ struct thp_wait {
 
 /* how the steps of a session are answered: pipe.c and in_process.c */
 struct thp_transport {
+    /* Makes a step, and stores its reply; if it is recorded or refused, the lines of both too. -1 with errno. */
+    int (*make)(th_host *h, const struct thp_step *step, struct thp_reply *reply);
     /* Sends the line in `step`, and stores the line of its answer in `answer`; -1 with errno. */
     int (*exchange)(th_host *h);
-    /* Stores why the last step was refused, at most size - 1 bytes and a NUL; "" if that isn't known. */
+    /* Stores why the last step was refused, at most size - 1 bytes and a NUL. NULL if that isn't known. */
     void (*read_reason)(th_host *h, char *reason, size_t size);
-    /* Nothing more is exchanged. */
+    /* Nothing more is exchanged. May be NULL. */
     void (*stop)(th_host *h);
     /* Ends the session, also one that has stopped; the program's status. */
     int (*end)(th_host *h);
@@ -63,7 +119,7 @@ struct thp_transport {
 
 struct th_host {
     const struct thp_transport *transport;
-    pthread_mutex_t lock; /* a call holds it from its step's first byte to its answer's last */
+    pthread_mutex_t lock; /* a call holds it from the beginning of its step to the end of its answer */
     pthread_cond_t changed; /* a wait blocks, is due, or is over */
     struct thp_wait *waits; /* in the order in which they began to block */
     unsigned long session; /* its number in this program, from 1 */
@@ -76,7 +132,7 @@ struct th_host {
     struct thp_text step; /* the line that is sent */
     struct thp_text answer; /* the line that was received, with a NUL in place of its line feed */
     int kills; /* the setting of kern.kill_on_debugger_exit */
-    int answered; /* a line was answered */
+    int answered; /* a step was answered */
     int scenario, lines; /* the files of th_record; -1 for none */
     size_t steps; /* recorded in them */
     off_t recorded; /* bytes of the scenario before the brackets that close it */
@@ -99,15 +155,15 @@ int thp_no_reply(th_host *h);
 int thp_is_inherited(const th_host *h);
 /* whether it is that process's, so that no call can be made */
 int thp_is_foreign(const th_host *h);
-/* Sends the line in `step`, and receives the line of its answer. */
-int thp_exchange(th_host *h);
-/* whether it was `refused`; the calling thread's fault and reason are set */
-int thp_refused(const th_host *h);
+/* Makes a step by its line. */
+int thp_make_by_line(th_host *h, const struct thp_step *step, struct thp_reply *reply);
+/* Makes a step, and returns 0 if its reply is of one of these kinds, each a bit; else -1 with errno. */
+int thp_ask(th_host *h, const struct thp_step *step, unsigned kinds, struct thp_reply *reply);
 
 /* ---- the record: record.c */
 
 /* Adds the step and its answer to the files of th_record; -1 with errno. */
-int thp_record(th_host *h);
+int thp_record(th_host *h, const struct thp_reply *reply);
 void thp_close_record(th_host *h);
 
 /* ---- several threads: threads.c */
@@ -120,37 +176,17 @@ void thp_enter(th_host *h);
 void thp_leave(th_host *h);
 /* Every blocked wait is asked again, before any other step is made. */
 void thp_wake(th_host *h);
-/* Makes a call that returns 0 for nothing again, until it returns something else; -1 and ETIMEDOUT after `timeout` ms. */
-th_pid thp_block(th_host *h, th_pid (*ask)(th_host *h, void *call), void *call, int timeout);
+/*
+ * thp_ask as a call of its own. Unless `timeout` is NULL, it asks until the reply isn't THP_NOTHING; -1 and ETIMEDOUT after so many
+ * ms, if they aren't negative.
+ */
+int thp_call(th_host *h, const struct thp_step *step, unsigned kinds, struct thp_reply *reply, const int *timeout);
 
-/* ---- writing a step and reading a reply: steps.c */
+/* ---- a step and a reply as lines: steps.c */
 
-void thp_begin(th_host *h, unsigned user, const char *op);
-void thp_begin_call(th_host *h, th_caller caller, const char *op);
-void thp_add_text(struct thp_text *text, const char *more);
-void thp_add_number(struct thp_text *text, int64_t number);
-void thp_add_key(th_host *h, const char *key);
-void thp_key_number(th_host *h, const char *key, int64_t number);
-/* a number of 32 bits, which the protocol has without a sign */
-void thp_key_word(th_host *h, const char *key, int number);
-void thp_key_name(th_host *h, const char *key, const char *name);
-void thp_key_names(th_host *h, const char *key, const struct thp_table *table, int flags);
-
-/* The length of the word at *at, which moves past it and the space that follows. */
-size_t thp_word_length(const char **at, const char **word);
-/* Each of these takes a part of the reply at the cursor; -1 if it isn't there. */
-int thp_take_word(const char **at, const char *wanted);
-int thp_take_number(const char **at, uint32_t *number);
-int thp_take_int(const char **at, int *number);
-int thp_take_key(const char **at, const char *key);
-int thp_take_flags(const char **at, const struct thp_table *table, int *flags);
-int thp_take_signals(const char **at, th_sigset *set);
-
-/* Sends the step, and returns the reply after the user and the number; NULL with errno for a refusal. */
-const char *thp_ask(th_host *h, unsigned user);
-/* Sends a step that is answered by `ok`. */
-int thp_ask_done(th_host *h, unsigned user);
-/* Sends a step that is answered by this word and numbers, and stores at most `size` of these; how many there are. */
-ssize_t thp_ask_numbers(th_host *h, unsigned user, const char *kind, int32_t *numbers, size_t size);
+/* the line of a step, with its line feed; -1 with ENOMEM */
+int thp_write_step(th_host *h, const struct thp_step *step);
+/* Reads the answer to a step. */
+void thp_read_reply(const th_host *h, const struct thp_step *step, struct thp_reply *reply);
 
 #endif

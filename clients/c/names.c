@@ -105,39 +105,9 @@ static const struct {
     {"EAGAIN", EAGAIN, TH_EAGAIN, "Resource temporarily unavailable"},
 };
 
-static const char *const SIGNALS[] = {
-    "SIGHUP",
-    "SIGINT",
-    "SIGQUIT",
-    "SIGILL",
-    "SIGTRAP",
-    "SIGABRT",
-    "SIGEMT",
-    "SIGFPE",
-    "SIGKILL",
-    "SIGBUS",
-    "SIGSEGV",
-    "SIGSYS",
-    "SIGPIPE",
-    "SIGALRM",
-    "SIGTERM",
-    "SIGURG",
-    "SIGSTOP",
-    "SIGTSTP",
-    "SIGCONT",
-    "SIGCHLD",
-    "SIGTTIN",
-    "SIGTTOU",
-    "SIGIO",
-    "SIGXCPU",
-    "SIGXFSZ",
-    "SIGVTALRM",
-    "SIGPROF",
-    "SIGWINCH",
-    "SIGINFO",
-    "SIGUSR1",
-    "SIGUSR2",
-};
+static const char *const SIGNALS[] = {"SIGHUP", "SIGINT", "SIGQUIT", "SIGILL", "SIGTRAP", "SIGABRT", "SIGEMT", "SIGFPE", "SIGKILL",
+    "SIGBUS", "SIGSEGV", "SIGSYS", "SIGPIPE", "SIGALRM", "SIGTERM", "SIGURG", "SIGSTOP", "SIGTSTP", "SIGCONT", "SIGCHLD", "SIGTTIN",
+    "SIGTTOU", "SIGIO", "SIGXCPU", "SIGXFSZ", "SIGVTALRM", "SIGPROF", "SIGWINCH", "SIGINFO", "SIGUSR1", "SIGUSR2"};
 
 const char *th_signame(int sig) { return sig >= 1 && (size_t)sig <= COUNT(SIGNALS) ? SIGNALS[sig - 1] : NULL; }
 
@@ -232,6 +202,14 @@ int thp_all_of(const struct thp_table *table)
     for (size_t i = 0; i < table->count; i++)
         all |= table->names[i].value;
     return all;
+}
+
+int thp_errno_numbered(unsigned freebsd)
+{
+    for (size_t i = 0; i < COUNT(ERRORS); i++)
+        if ((unsigned)ERRORS[i].freebsd == freebsd)
+            return ERRORS[i].host;
+    return 0;
 }
 
 int thp_errno_of(const char *word, size_t length)

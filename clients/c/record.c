@@ -45,10 +45,10 @@ static int add_entry(th_host *h, const char *between, const char *bytes, size_t 
 {
     struct thp_text *entry = &h->entry;
     entry->length = 0;
-    thp_add_text(entry, between);
+    thp_add_bytes(entry, between, strlen(between));
     thp_add_bytes(entry, bytes, length);
     size_t added = entry->length;
-    thp_add_text(entry, end);
+    thp_add_bytes(entry, end, strlen(end));
     if (entry->failed) {
         errno = ENOMEM;
         return -1;
@@ -88,9 +88,10 @@ int th_record(th_host *h, const char *scenario, const char *lines)
 }
 
 /* a step that ran out of memory isn't part of a scenario, and a forked child's steps aren't the parent's */
-static int is_recorded(const th_host *h)
+static int is_recorded(const th_host *h, const struct thp_reply *reply)
 {
-    return h->scenario >= 0 && !thp_refused(h) && strstr(h->answer.bytes, " error ENOMEM ") == NULL && !thp_is_inherited(h);
+    int is_made = reply->kind != THP_REFUSED && (reply->kind != THP_ERROR || reply->error != ENOMEM);
+    return h->scenario >= 0 && is_made && !thp_is_inherited(h);
 }
 
 static int add_line(th_host *h)
@@ -105,9 +106,9 @@ static int add_line(th_host *h)
 }
 
 /* The line comes first: a program that is killed between both has one line too many, and no step without a line. */
-int thp_record(th_host *h)
+int thp_record(th_host *h, const struct thp_reply *reply)
 {
-    if (!is_recorded(h))
+    if (!is_recorded(h, reply))
         return 0;
     int result = add_line(h);
     if (result == 0) {

@@ -96,7 +96,7 @@ void thp_free(th_host *h)
 
 void thp_break_off(th_host *h)
 {
-    if (!h->broken)
+    if (!h->broken && h->transport->stop != NULL)
         h->transport->stop(h);
     h->broken = 1;
     thp_wake(h);
@@ -111,7 +111,7 @@ int th_close(th_host *h)
     return status;
 }
 
-/* ---------------------------------------------------------------- a line and its answer */
+/* ---------------------------------------------------------------- a step and its answer */
 
 int thp_no_reply(th_host *h)
 {
@@ -132,56 +132,64 @@ static void note_reason(th_host *h)
     strcpy(refusal.reason, bytes + strspn(bytes, " "));
 }
 
-int thp_refused(const th_host *h) { return strncmp(h->answer.bytes, "refused ", 8) == 0; }
-
-static void note_refusal(th_host *h)
+static void note_fault(const th_host *h)
 {
-    refusal.session = h->session;
-    refusal.fault[0] = refusal.reason[0] = '\0';
-    if (!thp_refused(h))
-        return;
-    size_t length = strcspn(h->answer.bytes + 8, " ");
+    const char *fault = h->answer.bytes + strlen("refused ");
+    size_t length = strcspn(fault, " ");
     if (length >= sizeof refusal.fault)
         length = sizeof refusal.fault - 1;
-    memcpy(refusal.fault, h->answer.bytes + 8, length);
+    memcpy(refusal.fault, fault, length);
     refusal.fault[length] = '\0';
-    note_reason(h);
 }
 
 /* what is refused, an errno, `held` and `nothing` leave all processes as they were, so that no wait can end by it */
-static int changes_nothing(const th_host *h)
+static int changes_nothing(enum thp_kind kind)
 {
-    const char *at = h->answer.bytes, *word;
-    if (thp_refused(h))
-        return 1;
-    thp_word_length(&at, &word);
-    thp_word_length(&at, &word);
-    return strcmp(at, "nothing") == 0 || strcmp(at, "held") == 0 || strncmp(at, "error ", 6) == 0;
+    return kind == THP_REFUSED || kind == THP_ERROR || kind == THP_HELD || kind == THP_NOTHING;
 }
 
-int thp_exchange(th_host *h)
+/* What an answer does beside its reply. */
+static int note_answer(th_host *h, const struct thp_reply *reply)
 {
-    thp_add_bytes(&h->step, "\n", 1);
-    if (h->step.failed) {
-        errno = ENOMEM;
-        return -1;
-    }
-    if (thp_is_foreign(h)) {
-        errno = TH_EFORKED;
-        return -1;
-    }
-    if (h->broken) {
-        errno = EPIPE;
-        return -1;
-    }
-    if (h->transport->exchange(h) != 0)
-        return -1;
     h->answered = 1;
-    note_refusal(h);
-    if (!changes_nothing(h))
+    refusal.session = h->session;
+    refusal.fault[0] = refusal.reason[0] = '\0';
+    if (reply->kind == THP_REFUSED)
+        note_fault(h);
+    if (reply->kind == THP_REFUSED && h->transport->read_reason != NULL)
+        note_reason(h);
+    if (!changes_nothing(reply->kind))
         thp_wake(h);
-    return thp_record(h);
+    return thp_record(h, reply);
 }
+
+int thp_make_by_line(th_host *h, const struct thp_step *step, struct thp_reply *reply)
+{
+    if (thp_write_step(h, step) != 0 || h->transport->exchange(h) != 0)
+        return -1;
+    thp_read_reply(h, step, reply);
+    return 0;
+}
+
+int thp_ask(th_host *h, const struct thp_step *step, unsigned kinds, struct thp_reply *reply)
+{
+    if (thp_is_foreign(h) || h->broken) {
+        errno = thp_is_foreign(h) ? TH_EFORKED : EPIPE;
+        return -1;
+    }
+    if (h->transport->make(h, step, reply) != 0 || note_answer(h, reply) != 0)
+        return -1;
+    if (kinds >> reply->kind & 1)
+        return 0;
+    switch (reply->kind) {
+    case THP_REFUSED: errno = TH_EREFUSED; return -1;
+    case THP_HELD: errno = TH_EHELD; return -1;
+    case THP_ERROR: errno = reply->error; return -1;
+    default: return thp_no_reply(h);
+    }
+}
+
+/* ---------------------------------------------------------------- a line of the caller's */
 
 /* the answer's first size - 1 bytes; its whole length */
 static ssize_t copy_answer(const th_host *h, char *answer, size_t size)
@@ -201,11 +209,10 @@ ssize_t th_step_text(th_host *h, const char *line, char *answer, size_t size)
         errno = EINVAL;
         return -1;
     }
+    struct thp_step step = {.op = THP_LINE, .line = line};
+    struct thp_reply reply;
     thp_enter(h);
-    h->step.length = 0;
-    h->step.failed = 0;
-    thp_add_bytes(&h->step, line, strlen(line));
-    ssize_t length = thp_exchange(h) == 0 ? copy_answer(h, answer, size) : -1;
+    ssize_t length = thp_ask(h, &step, ~0u, &reply) == 0 ? copy_answer(h, answer, size) : -1;
     thp_leave(h);
     return length;
 }

@@ -1,101 +1,147 @@
-/* Writing a step, and reading a reply. */
+/* A step and a reply as lines. */
 #define _POSIX_C_SOURCE 200809L
 
 #include "internal.h"
 
-#include <inttypes.h>
+#include <stdarg.h>
 #include <stdio.h>
 #include <string.h>
 
 /* ---------------------------------------------------------------- writing a step: only names and numbers, nothing to escape */
 
-void thp_add_text(struct thp_text *text, const char *more) { thp_add_bytes(text, more, strlen(more)); }
-
-void thp_add_number(struct thp_text *text, int64_t number)
+/* Adds at most 127 bytes. */
+static void add(struct thp_text *text, const char *format, ...)
 {
-    char digits[24];
-    int length = snprintf(digits, sizeof digits, "%" PRId64, number);
-    thp_add_bytes(text, digits, (size_t)length);
+    enum { MOST = 128 };
+    va_list values;
+    if (thp_room_for(text, MOST) != 0)
+        return;
+    va_start(values, format);
+    text->length += (size_t)vsnprintf(text->bytes + text->length, MOST, format, values);
+    va_end(values);
 }
 
-void thp_add_key(th_host *h, const char *key)
-{
-    thp_add_text(&h->step, ",\"");
-    thp_add_text(&h->step, key);
-    thp_add_text(&h->step, "\":");
-}
-
-void thp_key_number(th_host *h, const char *key, int64_t number)
-{
-    thp_add_key(h, key);
-    thp_add_number(&h->step, number);
-}
-
-void thp_key_word(th_host *h, const char *key, int number) { thp_key_number(h, key, (int64_t)(uint32_t)number); }
-
-void thp_key_name(th_host *h, const char *key, const char *name)
-{
-    thp_add_key(h, key);
-    thp_add_text(&h->step, "\"");
-    thp_add_text(&h->step, name);
-    thp_add_text(&h->step, "\"");
-}
-
-void thp_key_names(th_host *h, const char *key, const struct thp_table *table, int flags)
+static void add_names(struct thp_text *text, const char *key, const struct thp_table *table, int flags)
 {
     const char *between = "";
-    thp_add_key(h, key);
-    thp_add_text(&h->step, "[");
+    add(text, ",\"%s\":[", key);
     for (size_t i = 0; i < table->count; i++)
         if (flags & table->names[i].value) {
-            thp_add_text(&h->step, between);
-            thp_add_text(&h->step, "\"");
-            thp_add_text(&h->step, table->names[i].name);
-            thp_add_text(&h->step, "\"");
+            add(text, "%s\"%s\"", between, table->names[i].name);
             between = ",";
         }
-    thp_add_text(&h->step, "]");
+    add(text, "]");
 }
 
-void thp_begin(th_host *h, unsigned user, const char *op)
+static void add_set(struct thp_text *text, th_sigset set)
 {
-    h->step.length = 0;
-    h->step.failed = 0;
-    thp_add_text(&h->step, "{\"user\":");
-    thp_add_number(&h->step, user);
-    thp_key_name(h, "op", op);
+    const char *between = "";
+    add(text, ",\"set\":[");
+    for (int sig = 1; th_signame(sig) != NULL; sig++)
+        if (set & TH_SIGMASK(sig)) {
+            add(text, "%s%d", between, sig);
+            between = ",";
+        }
+    add(text, "]");
 }
 
-void thp_begin_call(th_host *h, th_caller caller, const char *op)
+static void add_rules(struct thp_text *text, const struct th_rule *rules, size_t count)
 {
-    thp_begin(h, caller.user, op);
-    thp_key_word(h, "caller", caller.pid);
+    add(text, ",\"rules\":[");
+    for (size_t i = 0; i < count; i++) {
+        add(text, "%s{\"decision\":\"%s\"", i == 0 ? "" : ",", thp_name_of(&thp_decisions, (int)rules[i].decision));
+        if (rules[i].signal != 0)
+            add(text, ",\"signal\":%d", rules[i].signal);
+        add_names(text, "flags", &thp_stop_flags, rules[i].flags);
+        if (rules[i].pass != 0)
+            add(text, ",\"pass\":%d", rules[i].pass);
+        add(text, "}");
+    }
+    add(text, "]");
+}
+
+static void add_request(struct thp_text *text, const struct thp_step *step)
+{
+    add(text, ",\"request\":\"%s\"", thp_name_of(&thp_requests, step->request));
+    if (step->request == TH_PT_TRACE_ME)
+        return;
+    add(text, ",\"target\":%u", (unsigned)step->target);
+    switch (step->request) {
+    case TH_PT_LWPINFO:
+    case TH_PT_GETNUMLWPS:
+    case TH_PT_GET_EVENT_MASK: break;
+    case TH_PT_SET_EVENT_MASK: add_names(text, "mask", &thp_events, (int)step->data); break;
+    default: add(text, ",\"data\":%u", step->data);
+    }
+}
+
+static void add_turn(struct thp_text *text, const struct thp_step *step)
+{
+    static const char *const acts[] = {"compute", "raise", "block", "enter", "leave"};
+    add(text, ",\"lwp\":%u,\"act\":\"%s\"", (unsigned)step->lwp, acts[step->act]);
+    if (step->act == THP_RAISE)
+        add(text, ",\"signal\":%u", (unsigned)step->signal);
+    if (step->act == THP_BLOCK)
+        add_set(text, step->data);
+    if (step->act == THP_ENTER)
+        add(text, ",\"call\":\"%s\"", thp_name_of(&thp_calls, step->call));
+    if (step->act == THP_ENTER && (step->call == TH_CALL_EXIT || step->call == TH_CALL_OTHER))
+        add(text, ",\"code\":%u", step->data);
+}
+
+static void add_call(struct thp_text *text, const struct thp_step *step)
+{
+    static const char *const ops[] = {"spawn", "list", "sigaction", "kill", "wait4", "install", "handle", "ptrace", "turn"};
+    const char *action = thp_name_of(&thp_actions, step->action);
+    add(text, "{\"user\":%u,\"op\":\"%s\"", step->user, ops[step->op]);
+    if (step->op != THP_SPAWN && step->op != THP_TURN)
+        add(text, ",\"caller\":%u", (unsigned)step->caller);
+    if (step->op == THP_KILL || step->op == THP_WAIT4)
+        add(text, ",\"which\":%d", step->target);
+    switch (step->op) {
+    case THP_SIGACTION: add(text, ",\"signal\":%u,\"action\":\"%s\"", (unsigned)step->signal, action); break;
+    case THP_KILL: add(text, ",\"signal\":%u", (unsigned)step->signal); break;
+    case THP_WAIT4: add_names(text, "options", &thp_options, step->options); break;
+    case THP_INSTALL: add_rules(text, step->rules, step->rule_count); break;
+    case THP_PTRACE: add_request(text, step); break;
+    case THP_TURN: add_turn(text, step); break;
+    default: break;
+    }
+    add(text, "}");
+}
+
+int thp_write_step(th_host *h, const struct thp_step *step)
+{
+    struct thp_text *text = &h->step;
+    text->length = 0;
+    text->failed = 0;
+    if (step->op == THP_LINE)
+        thp_add_bytes(text, step->line, strlen(step->line));
+    else
+        add_call(text, step);
+    thp_add_bytes(text, "\n", 1);
+    if (!text->failed)
+        return 0;
+    errno = ENOMEM;
+    return -1;
 }
 
 /* ---------------------------------------------------------------- reading a reply */
 
-size_t thp_word_length(const char **at, const char **word)
+/* the length of the word at *at, which moves to its end */
+static size_t word_length(const char **at, const char **word)
 {
     size_t length = strcspn(*at, " ");
     *word = *at;
     *at += length;
-    if (**at == ' ')
-        *at += 1;
     return length;
 }
 
-int thp_take_word(const char **at, const char *wanted)
+/* Each of these takes a field at the cursor; -1 if it isn't there. A number is in decimal. */
+static int take_number(const char **at, uint32_t *number)
 {
     const char *word;
-    size_t length = thp_word_length(at, &word);
-    return strlen(wanted) == length && memcmp(word, wanted, length) == 0 ? 0 : -1;
-}
-
-/* A number in decimal at the cursor, up to the next space or to the line's end. */
-int thp_take_number(const char **at, uint32_t *number)
-{
-    const char *word;
-    size_t length = thp_word_length(at, &word);
+    size_t length = word_length(at, &word);
     uint64_t value = 0;
     if (length == 0 || length > 10)
         return -1;
@@ -108,123 +154,158 @@ int thp_take_number(const char **at, uint32_t *number)
     return value <= UINT32_MAX ? 0 : -1;
 }
 
-int thp_take_int(const char **at, int *number)
+static int take_int(const char **at, int *number)
 {
     uint32_t value;
-    if (thp_take_number(at, &value) != 0 || value > INT32_MAX)
+    if (take_number(at, &value) != 0 || value > INT32_MAX)
         return -1;
     *number = (int)value;
     return 0;
 }
 
-int thp_take_key(const char **at, const char *key)
+static int take_name(const char **at, const struct thp_table *table, int *value)
 {
-    size_t length = strlen(key);
-    if (strncmp(*at, key, length) != 0 || (*at)[length] != '=')
-        return -1;
-    *at += length + 1;
+    const char *word;
+    size_t length = word_length(at, &word);
+    *value = thp_value_of(table, word, length);
+    return *value < 0 ? -1 : 0;
+}
+
+/* the bit of a signal's number, or -1 */
+static int signal_bit(const char *word, size_t length)
+{
+    int signal = 0;
+    for (size_t i = 0; i < length && signal <= 31; i++)
+        signal = word[i] >= '0' && word[i] <= '9' ? signal * 10 + (word[i] - '0') : 32;
+    return signal >= 1 && signal <= 31 ? 1 << (signal - 1) : -1;
+}
+
+/* Names of a table joined by `+`, or numbers of signals joined by `,` if it is NULL; or `none`. */
+static int take_set(const char **at, const struct thp_table *table, int *set)
+{
+    *set = 0;
+    if (strncmp(*at, "none", 4) == 0 && strcspn(*at, " ") == 4) {
+        *at += 4;
+        return 0;
+    }
+    for (;; ++*at) {
+        size_t length = strcspn(*at, table != NULL ? " +" : " ,");
+        int bit = table != NULL ? thp_value_of(table, *at, length) : signal_bit(*at, length);
+        if (bit < 0)
+            return -1;
+        *set |= bit;
+        *at += length;
+        if (**at == ' ' || **at == '\0')
+            return 0;
+    }
+}
+
+static int take_handler(const char **at, int *handler)
+{
+    if (strncmp(*at, "none ", 5) != 0)
+        return take_int(at, handler);
+    *at += 4;
     return 0;
 }
 
-/* Names joined by `+`, or `none`. */
-int thp_take_flags(const char **at, const struct thp_table *table, int *flags)
+static int take_decision(const char **at, struct thp_reply *reply)
+{
+    if (take_name(at, &thp_decisions, &reply->decision) != 0)
+        return -1;
+    if (reply->decision != TH_CONTINUE && reply->decision != TH_DETACH)
+        return 0;
+    return *(*at)++ == ' ' ? take_int(at, &reply->pass) : -1;
+}
+
+/* The error's name; its number counts for nothing. */
+static int take_error(const char **at, int *error)
 {
     const char *word;
-    size_t length = thp_word_length(at, &word);
-    *flags = 0;
-    if (length == 4 && memcmp(word, "none", 4) == 0)
-        return 0;
-    for (;;) {
-        size_t name = 0;
-        while (name < length && word[name] != '+')
-            name++;
-        int value = thp_value_of(table, word, name);
-        if (value < 0)
-            return -1;
-        *flags |= value;
-        if (name == length)
-            return 0;
-        word += name + 1;
-        length -= name + 1;
-    }
+    size_t length = word_length(at, &word);
+    *error = thp_errno_of(word, length);
+    *at += strlen(*at);
+    return *error == 0 ? -1 : 0;
 }
 
-/* Signals joined by `,`, or `none`. */
-int thp_take_signals(const char **at, th_sigset *set)
+static int take_list(const char **at, const struct thp_step *step, size_t *count)
 {
-    const char *word;
-    size_t length = thp_word_length(at, &word);
-    *set = 0;
-    if (length == 4 && memcmp(word, "none", 4) == 0)
-        return 0;
-    for (size_t i = 0; i < length;) {
-        unsigned signal = 0;
-        while (i < length && word[i] >= '0' && word[i] <= '9' && signal <= 31)
-            signal = signal * 10 + (unsigned)(word[i++] - '0');
-        if (signal < 1 || signal > 31 || (i < length && word[i] != ','))
-            return -1;
-        *set |= TH_SIGMASK(signal);
-        i++;
-    }
-    return length > 0 ? 0 : -1;
-}
-
-const char *thp_ask(th_host *h, unsigned user)
-{
-    uint32_t uid;
-    const char *number;
-    thp_add_text(&h->step, "}");
-    if (thp_exchange(h) != 0)
-        return NULL;
-    if (thp_refused(h)) {
-        errno = TH_EREFUSED;
-        return NULL;
-    }
-    const char *at = h->answer.bytes;
-    if (thp_take_number(&at, &uid) != 0 || uid != user || thp_word_length(&at, &number) == 0 || *at == '\0') {
-        thp_no_reply(h);
-        return NULL;
-    }
-    if (strcmp(at, "held") == 0) {
-        errno = TH_EHELD;
-        return NULL;
-    }
-    if (strncmp(at, "error ", 6) == 0) {
-        const char *name;
-        at += 6;
-        size_t length = thp_word_length(&at, &name);
-        int error = thp_errno_of(name, length);
-        if (error == 0)
-            thp_no_reply(h);
-        else
-            errno = error;
-        return NULL;
-    }
-    return at;
-}
-
-int thp_ask_done(th_host *h, unsigned user)
-{
-    const char *reply = thp_ask(h, user);
-    if (reply == NULL)
-        return -1;
-    return strcmp(reply, "ok") == 0 ? 0 : thp_no_reply(h);
-}
-
-ssize_t thp_ask_numbers(th_host *h, unsigned user, const char *kind, int32_t *numbers, size_t size)
-{
-    const char *reply = thp_ask(h, user);
-    size_t count = 0;
-    if (reply == NULL)
-        return -1;
-    if (thp_take_word(&reply, kind) != 0)
-        return thp_no_reply(h);
-    for (; *reply != '\0'; count++) {
+    for (*count = 0; **at == ' '; ++*count) {
         int number;
-        if (thp_take_int(&reply, &number) != 0)
-            return thp_no_reply(h);
-        if (count < size)
-            numbers[count] = number;
+        ++*at;
+        if (take_int(at, &number) != 0)
+            return -1;
+        if (*count < step->size)
+            step->numbers[*count] = number;
     }
-    return (ssize_t)count;
+    return 0;
+}
+
+static int take_field(const char **at, char field, const struct thp_step *step, struct thp_reply *reply)
+{
+    static const struct thp_name events[] = {{"NONE", TH_PL_EVENT_NONE}, {"SIGNAL", TH_PL_EVENT_SIGNAL}};
+    static const struct thp_table lwp_events = {events, 2};
+    switch (field) {
+    case 'p': return take_int(at, &reply->pid);
+    case 'l': return take_int(at, &reply->lwp);
+    case 'n': return take_int(at, &reply->number);
+    case 'w': return take_int(at, &reply->status);
+    case 's': return take_int(at, &reply->signal);
+    case 'e': return take_name(at, &lwp_events, &reply->event);
+    case 'f': return take_set(at, &thp_stop_flags, &reply->flags);
+    case 'c': return take_int(at, &reply->child);
+    case 'o': return take_number(at, &reply->code);
+    case 'b': return take_set(at, NULL, &reply->mask);
+    case 'q': return take_set(at, NULL, &reply->pending);
+    case 'm': return take_set(at, &thp_events, &reply->flags);
+    case 'h': return take_handler(at, &reply->handler);
+    case 'd': return take_decision(at, reply);
+    case 'x': return take_error(at, &reply->error);
+    default: return take_list(at, step, &reply->count);
+    }
+}
+
+/* whether the rest of the line is of this form, with fields in place of % and a letter */
+static int is_of(const char *at, const char *form, const struct thp_step *step, struct thp_reply *reply)
+{
+    for (; *form != '\0'; form++) {
+        if (*form == '%' ? take_field(&at, *++form, step, reply) != 0 : *at++ != *form)
+            return 0;
+    }
+    return *at == '\0';
+}
+
+/* the replies as docs/FORMAT.md has them; the letters are those of take_field */
+static const char *const FORMS[] = {
+    [THP_DONE] = "ok",
+    [THP_NEW] = "new %p %l",
+    [THP_NUMBER] = "number %n",
+    [THP_STATUS] = "status %p %w",
+    [THP_NOTHING] = "nothing",
+    [THP_INFO] = "info %l %e flags=%f mask=%b pending=%q child=%c code=%o",
+    [THP_LWPS] = "lwps%*",
+    [THP_PIDS] = "pids%*",
+    [THP_MASK] = "mask %m",
+    [THP_HANDLED] = "handled %p %w at %l signal=%s flags=%f child=%c code=%o by %h %d",
+    [THP_STOPPED] = "stopped %l %s flags=%f",
+    [THP_CAUGHT] = "caught %s",
+    [THP_ENDED] = "ended %w",
+    [THP_HELD] = "held",
+    [THP_ERROR] = "error %x",
+};
+
+void thp_read_reply(const th_host *h, const struct thp_step *step, struct thp_reply *reply)
+{
+    const char *at = h->answer.bytes, *number;
+    uint32_t uid;
+    memset(reply, 0, sizeof *reply);
+    reply->handler = -1;
+    reply->kind = strncmp(at, "refused ", 8) == 0 ? THP_REFUSED : THP_NO_REPLY;
+    if (reply->kind == THP_REFUSED || take_number(&at, &uid) != 0 || (step->op != THP_LINE && uid != step->user) || *at++ != ' ' ||
+        word_length(&at, &number) == 0 || *at++ != ' ')
+        return;
+    for (int kind = THP_DONE; kind <= THP_ERROR; kind++)
+        if (is_of(at, FORMS[kind], step, reply)) {
+            reply->kind = (enum thp_kind)kind;
+            return;
+        }
 }

@@ -105,24 +105,35 @@ static void remove_wait(th_host *h, struct thp_wait *wait)
     pthread_cond_broadcast(&h->changed);
 }
 
-th_pid thp_block(th_host *h, th_pid (*ask)(th_host *h, void *call), void *call, int timeout)
+/* A wait whose first answer was that there is nothing to collect. */
+static int ask_again(
+    th_host *h, const struct thp_step *step, unsigned kinds, struct thp_reply *reply, const struct timespec *deadline)
 {
     struct thp_wait wait = {NULL, 0}, **last = &h->waits;
-    struct timespec deadline = deadline_in(timeout < 0 ? 0 : timeout);
+    int result = 0;
+    while (*last != NULL)
+        last = &(*last)->next;
+    *last = &wait;
+    while (result == 0 && reply->kind == THP_NOTHING)
+        result = sleep_until_due(h, &wait, deadline) == 0 ? thp_ask(h, step, kinds, reply) : -1;
+    int error = errno;
+    remove_wait(h, &wait);
+    errno = error;
+    return result;
+}
+
+int thp_call(th_host *h, const struct thp_step *step, unsigned kinds, struct thp_reply *reply, const int *timeout)
+{
+    int is_timed = timeout != NULL && *timeout >= 0;
+    struct timespec deadline = {0, 0};
+    if (is_timed)
+        deadline = deadline_in(*timeout);
     thp_enter(h);
-    th_pid pid = ask(h, call);
-    if (pid == 0) {
-        while (*last != NULL)
-            last = &(*last)->next;
-        *last = &wait;
-        while (pid == 0)
-            pid = sleep_until_due(h, &wait, timeout < 0 ? NULL : &deadline) == 0 ? ask(h, call) : -1;
-        int error = errno;
-        remove_wait(h, &wait);
-        errno = error;
-    }
+    int result = thp_ask(h, step, kinds, reply);
+    if (result == 0 && timeout != NULL && reply->kind == THP_NOTHING)
+        result = ask_again(h, step, kinds, reply, is_timed ? &deadline : NULL);
     thp_leave(h);
-    return pid;
+    return result;
 }
 
 /* whether `count` waits are blocked, and none of them is to be asked again; if the session is broken, no wait blocks */

@@ -71,13 +71,14 @@ class BuildPackage(build_py):
 
 
 built = [file for file in (program, library) if file is not None]
-commands = {"console_scripts": ["tracehost = tracehost.__main__:main"]} if program else {}
+commands = [f"tracehost-{name} = tracehost.__main__:{name}" for name in ("view", "perfetto") if VIEWER.exists()]
+commands += ["tracehost = tracehost.__main__:main"] if program else []
 
 setup(
     version=version(),
     license="BSD-2-Clause",
     cmdclass={"build_py": BuildPackage},
     # the name is the module's, so that pytest takes -p tracehost.pytest_plugin and an installed package for one plugin
-    entry_points={"pytest11": ["tracehost.pytest_plugin = tracehost.pytest_plugin"], **commands},
+    entry_points={"pytest11": ["tracehost.pytest_plugin = tracehost.pytest_plugin"], "console_scripts": commands},
     options={"bdist_wheel": {"plat_name": platform(built)}} if built else {},
 )

@@ -3,7 +3,7 @@ client in Python (coverage.py) and the viewer's script (V8's counts by node and 
 
     python3 tests/python/coverage_of.py PROGRAM LIBRARY [python | c | viewer | runtime]
 
-Each part prints `NAME: P% of N lines`. The status is 1 if a part is below its bound.
+Each part prints `NAME: P% of N lines`. The status is 1 if a part is below its bound, or can't be measured here.
 """
 
 from __future__ import annotations
@@ -18,12 +18,13 @@ import sys
 import tempfile
 
 import v8_coverage
+from test_posix_programs import variants
 
 TOP = pathlib.Path(__file__).resolve().parents[2]
 BOUNDS = {"python": 95.0, "c": 95.0, "viewer": 90.0, "runtime": 85.0}
 NEEDED = {"python": (), "c": ("gcovr", "cc"), "viewer": ("node", "chromium"), "runtime": ("gcovr", "cc", "c++", "make")}
 SCHEDULES = 2  # of each case, beside the plain one
-UNITTESTS = ("tracehost", "recording", "blocking", "shell", "library")
+UNITTESTS = ("tracehost", "programs", "recording", "blocking", "shell", "library")
 SUITES = ("arguments", "checkouts", "handlers", "lifetimes", "recording_faults", "refusals", "pytest_plugin", "artifacts")
 
 
@@ -62,7 +63,7 @@ def of_python(room: pathlib.Path, program: str, library: str) -> tuple[float, in
             run(python, TOP / f"clients/python/tests/test_{name}.py", **base, TRACEHOST_LIBRARY=named)
     run(python, "-m", "pytest", "-q", "tests/python/test_terminal.py", **base, TRACEHOST_LIBRARY="")
     suites = [TOP / f"clients/python/tests/test_{name}.py" for name in SUITES]
-    # where no file may grow, coverage.py can't write its own either, and says so in the middle of what the test reads
+    # if no file may grow, coverage.py can't write its own either, and says so in the middle of what the test reads
     left_out = "--deselect=clients/python/tests/test_artifacts.py::test_a_page_that_cannot_be_written"
     run(python, "-m", "pytest", "-q", "-p", "no:cacheprovider", "-p", "tracehost.pytest_plugin", left_out, *suites, **base,
         TRACEHOST_LIBRARY=library)  # fmt: skip
@@ -156,11 +157,9 @@ def copy_of_posix(room: pathlib.Path, archive: pathlib.Path) -> pathlib.Path:
     return posix
 
 
-def made_with_gcov(posix: pathlib.Path, source: pathlib.Path, made: pathlib.Path) -> pathlib.Path:
+def made_with_gcov(posix: pathlib.Path, source: pathlib.Path, made: pathlib.Path, *flags: str) -> pathlib.Path:
     """A program with the runtime of that copy. Only the linker gets gcov, which then counts only the runtime."""
     environment = {"CC": "c++" if source.suffix == ".cpp" else "cc"}
-    named = re.search(r"^ \* flags: (.*?) *$", source.read_text(encoding="utf-8"), re.MULTILINE)
-    flags = named[1].split() if named else []
     run(posix / "tracehost-cc", "-g", "-w", *flags, "-c", "-o", f"{made}.o", source, **environment)
     counted = ["--coverage", "-Wl,--wrap=_exit", made.parent / "dump.o"]
     run(posix / "tracehost-cc", *flags, *counted, "-o", made, f"{made}.o", **environment)
@@ -182,8 +181,9 @@ def of_runtime(room: pathlib.Path, program: str, library: str) -> tuple[float, i
         if status and f"\n{name} {case}\n" not in differences:
             raise SystemExit(f"coverage: {name} {case} has status {status}")
     for source in sorted((posix / "tests/programs").iterdir()):
-        made = made_with_gcov(posix, source, room / f"program_{source.stem}")
-        run_on_model(posix, ["--schedules", str(SCHEDULES), made], environment)
+        for number, flags in enumerate(variants(source)):
+            made = made_with_gcov(posix, source, room / f"program_{source.stem}_{number}", *flags)
+            run_on_model(posix, ["--schedules", str(SCHEDULES), made], environment)
     for source in sorted((posix / "races").glob("*.c")):
         run_on_model(posix, ["--schedules", "5", made_with_gcov(posix, source, room / f"race_{source.stem}")], environment)
     odd = made_with_gcov(posix, posix / "tests/odd.c", room / "odd")
@@ -265,13 +265,14 @@ def main() -> None:
     for name in names or list(BOUNDS):
         missing = [command for command in NEEDED[name] if shutil.which(command) is None]
         if missing:
-            print(f"{name}: {', '.join(missing)} isn't installed")
+            print(f"{name}: not measured: {', '.join(missing)} isn't installed")
+            below.append(name)
             continue
         with tempfile.TemporaryDirectory() as folder:
             share, lines = PARTS[name](pathlib.Path(folder), program, library)
         print(f"{name}: {share:.1f}% of {lines} lines")
         below += [name] if share < BOUNDS[name] else []
-    sys.exit(f"below its bound: {', '.join(below)}" if below else 0)
+    sys.exit(f"not measured, or below its bound: {', '.join(below)}" if below else 0)
 
 
 if __name__ == "__main__":

@@ -13,7 +13,7 @@
  *   SHIM_REPORT=FILE         at the end the numbers of allocations, reads, writes, threads and failures are written
  *                            here, and how many allocations there were when the first thread was to start
  *
- * CALLS are counted from 1 for each kind: N is the Nth alone, N-M those from N to M, N- all from N on.
+ * CALLS are counted from 1 for each kind: N is only the Nth, N-M those from N to M, N- all from N on.
  */
 #define _GNU_SOURCE
 #include <dlfcn.h>

@@ -46,6 +46,17 @@ def test_the_client_in_c(programs: Programs, program: Path, tmp_path: Path, way:
     output(*how.before, programs[way, name], program, FAKE, tmp_path, *how.words[name])
 
 
+def test_both_ways_are_the_same(library: Path, program: Path, tmp_path: Path) -> None:
+    """By 45,000 calls with odd numbers among them, over a pipe and in the process."""
+    source, archive = CLIENT / "tests/both_ways.c", library / "libtracehost.a"
+    made = compiled(tmp_path / "both_ways", *FLAGS, *sanitized(), *IN_PROCESS, source, SOURCE, archive)
+    assert int(output(made, program, tmp_path, "0", "300")) > 10000
+    records = sorted(tmp_path.glob("0.*"))
+    assert len(records) == 300
+    for record in records:
+        assert record.read_bytes() == (tmp_path / f"1{record.name[1:]}").read_bytes()
+
+
 def test_a_library_that_runs_out_of_memory(tmp_path: Path) -> None:
     made = compiled(tmp_path / "codes", *FLAGS, *sanitized(), *IN_PROCESS, CLIENT / "tests/in_process/codes.c", SOURCE)
     output(made)
@@ -84,7 +95,7 @@ def test_cpp_by_clang(standard: str) -> None:
 # ---- Python
 
 
-@pytest.mark.parametrize("part", ["tracehost", "recording", "blocking", "shell"])
+@pytest.mark.parametrize("part", ["tracehost", "programs", "recording", "blocking", "shell"])
 def test_python_over_a_pipe(part: str, program: Path) -> None:
     """The tests of clients/python/tests that are the same over a pipe and over the library."""
     environment = {"TRACEHOST": str(program), "TRACEHOST_LIBRARY": ""}

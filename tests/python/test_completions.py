@@ -8,6 +8,7 @@ import re
 import select
 import subprocess
 import time
+from pathlib import Path
 
 import pytest
 
@@ -15,7 +16,10 @@ from checking import TOP, needs
 
 READY = "shell is ready"
 SETUP = {
-    "bash": (["bash", "--norc", "--noprofile", "-i"], "bind 'set enable-bracketed-paste off'; source completions/tracehost.bash"),
+    "bash": (
+        ["bash", "--norc", "--noprofile", "-i"],
+        "bind 'set enable-bracketed-paste off'; for file in completions/*.bash; do source $file; done",
+    ),
     "zsh": (["zsh", "-f", "-i"], "fpath=(completions $fpath); autoload -Uz compinit; compinit -u -D"),
 }
 # what is typed, and what the terminal then shows
@@ -74,16 +78,16 @@ class Shell:
         os.close(self.terminal)
 
 
-def shown_after(name: str, typed: str, wanted: str, seconds: float) -> str:
+def shown_after(name: str, typed: str, wanted: str, seconds: float, command: str = "tracehost") -> str:
     shell = Shell(name)
     try:
-        shell.type("tracehost " + typed)
+        shell.type(f"{command} {typed}")
         return shell.shows(wanted, seconds)
     finally:
         shell.end()
 
 
-# the words before the cursor, of which the last is completed, and what bash offers. `=` breaks words in a shell that is
+# the words before the cursor, the last to be completed, and what bash offers. `=` breaks words in a shell that is
 # used, and not in every one
 OFFERED: list[tuple[list[str], str]] = [
     (["--th"], "--threads"),
@@ -129,5 +133,64 @@ def test_the_terminal_does_not_show(shell: str, typed: str, unwanted: str) -> No
 
 
 @needs("zsh")
-def test_zsh_reads_the_completions() -> None:
-    subprocess.run(["zsh", "-f", "-n", "completions/_tracehost"], cwd=TOP, check=True)
+@pytest.mark.parametrize("file", ["_tracehost", "_tracehost-commands"])
+def test_zsh_reads_the_completions(file: str) -> None:
+    subprocess.run(["zsh", "-f", "-n", f"completions/{file}"], cwd=TOP, check=True)
+
+
+# ---- the commands whose options come from their own --help
+
+COMMANDS = {
+    "tracehost-run": "clients/posix/tracehost-run", "tracehost-cc": "clients/posix/tracehost-cc",
+    "tracehost-view": "viewer/make", "tracehost-perfetto": "viewer/perfetto",
+}  # fmt: skip
+# the words before the cursor, and what bash offers: the options of each manual page
+OFFERED_BY = [
+    ("tracehost-view -", "--help --output --title --version -h -o -t"),
+    ("tracehost-perfetto -", "--help --output --version -h -o"),
+    ("tracehost-run --s", "--schedules --seed --sleeps --strategy --strict --switches"),
+    ("tracehost-run --e", ""),  # --expect is another command's
+    ("tracehost-run --strategy ", "random pct"),
+    ("tracehost-run --kill-on-debugger-exit = ", "0 1"),
+    ("tracehost-run --record schema/sc", "schema/scenario.schema.json"),
+    ("tracehost-cc --fr", "--freebsd"),
+    ("tracehost-cc -sh", "-shared"),
+    ("tracehost-cc schema/sc", "schema/scenario.schema.json"),
+]
+TYPED = [
+    ("tracehost-run", "--sch\t", r"--schedules"),
+    ("tracehost-run", "--strategy \t\t", r"pct\s+random"),
+    ("tracehost-run", "--strategy=\t\t", r"pct\s+random"),
+    ("tracehost-view", "--ti\t", r"--title"),
+    ("tracehost-perfetto", "-\t\t", r"--output"),
+    ("tracehost-cc", "--free\t", r"--freebsd"),
+    ("tracehost-cc", "schema/sc\t", r"schema/scenario\.schema\.json"),
+]
+
+
+@pytest.fixture
+def commands(tmp_path: Path) -> Path:
+    """A folder with each command by the name that it is installed by."""
+    for name, path in COMMANDS.items():
+        (tmp_path / name).symlink_to(TOP / path)
+    return tmp_path
+
+
+@pytest.mark.parametrize(("typed", "offered"), OFFERED_BY)
+def test_bash_offers_the_options_of_help(commands: Path, typed: str, offered: str) -> None:
+    code = """source completions/tracehost-commands.bash; COMP_WORDS=("$@"); COMP_CWORD=$(($# - 1))
+        _tracehost_command "$1"; echo "${COMPREPLY[*]}" """
+    env = {**os.environ, "PATH": f"{commands}:{os.environ['PATH']}"}
+    ran = subprocess.run(
+        ["bash", "--norc", "-c", code, "-", *typed.split(" ")], cwd=TOP, env=env, stdout=subprocess.PIPE, check=True
+    )
+    assert ran.stdout.decode() == offered + "\n"
+
+
+@each_shell
+@pytest.mark.parametrize(("command", "typed", "wanted"), TYPED, ids=[f"{name} {typed}".strip("\t") for name, typed, _ in TYPED])
+def test_the_terminal_shows_the_options_of_help(
+    commands: Path, monkeypatch: pytest.MonkeyPatch, shell: str, command: str, typed: str, wanted: str
+) -> None:
+    monkeypatch.setenv("PATH", f"{commands}:{os.environ['PATH']}")
+    assert re.search(wanted, shown_after(shell, typed, wanted, MOST_SECONDS, command))

@@ -13,6 +13,8 @@ import pytest
 from checking import answers, needs
 
 TOP = Path(__file__).resolve().parents[2]
+# a line in whose place the page has `..`: a process or an LWP was made, or a debugger has attached
+LEFT_OUT = re.compile(r"\d+ \d+ (new \d+ \d+|ok|status 1001 4479)")
 PAGE = (TOP / "docs/COOKBOOK.md").read_text(encoding="utf-8")
 
 
@@ -44,8 +46,13 @@ def named(shown: list[Shown]) -> list[object]:
 def test_a_scenario(program: Path, tmp_path: Path, shown: Shown) -> None:
     scenario = tmp_path / "scenario.json"
     scenario.write_text(shown.code, encoding="utf-8")
-    assert shown.printed
-    answers(program, scenario, out=shown.printed)
+    above, is_cut, printed = shown.printed.rpartition("..\n")
+    assert printed and not above
+    if is_cut:
+        whole = subprocess.run([program, scenario], stdout=subprocess.PIPE, text=True, check=False).stdout
+        above = whole.removesuffix(printed)
+        assert above and all(LEFT_OUT.fullmatch(line) for line in above.splitlines()), above
+    answers(program, scenario, out=above + printed)
 
 
 @pytest.mark.parametrize("shown", named(blocks("python")))

@@ -1,5 +1,5 @@
 """Random scenarios and hostile texts: the program against the second model, in reference/, which was written from
-docs/internals/MACHINE.md and docs/FORMAT.md alone. The seed is the day's, so that each day has other scenarios.
+docs/internals/MACHINE.md and docs/FORMAT.md only. The seed is the day's, so that each day has other scenarios.
 
     PYTHONPATH=. python3 tests/python/fuzz.py PROGRAM FOLDER --seed DAY/ROUND    makes the same scenarios again
 """

@@ -18,6 +18,7 @@ from collections.abc import Iterator, Mapping
 import pytest
 from places import Debian, Place, rust
 from stranger import NONE, PATH, TOP, block, clone, copy, needs, run, shell
+from test_pages import Printed, Reader, shown
 
 __all__ = ["clone"]  # a fixture
 INSTALL = (TOP / "docs/INSTALL.md").read_text(encoding="utf-8")
@@ -28,8 +29,8 @@ class Installed:
     """A prefix in a place, and a folder to work in."""
 
     def __init__(self, place: Place, prefix: str, known: bool = False) -> None:
-        """`known`: a prefix of which the system's linker, pkg-config and CMake know."""
-        self.place, self.prefix, self.room = place, prefix, f"{place.home}/work{'_of_root' if known else ''}"
+        """`known`: a prefix that the system's linker, pkg-config and CMake know."""
+        self.place, self.prefix, self.room = place, prefix, f"{place.home}/work{prefix.replace('/', '_') if known else ''}"
         self.environment = {} if known else {
             "PATH": f"{prefix}/bin:{PATH}",
             "PKG_CONFIG_PATH": f"{prefix}/lib/pkgconfig:{prefix}/share/pkgconfig",
@@ -43,11 +44,15 @@ class Installed:
         self.place.write(f"{self.room}/{name}", text)
 
     def files(self) -> list[pathlib.Path]:
-        return [path for path in self.place.outside(self.prefix).rglob("*") if not path.is_symlink()]
+        """What is in the prefix; in that of the system only what is named after us."""
+        top = self.place.outside(self.prefix)
+        found = (path for path in top.rglob("*") if not path.is_symlink())
+        return [path for path in found if self.prefix != "/usr" or "tracehost" in str(path.relative_to(top))]
 
 
 HERE = ["plain", "spaces, umask 077, CFLAGS"]
-DEBIAN = ["Debian, by root into /usr/local", "Debian, into ~/.local"]
+BY_ROOT, BY_PACKAGE = "Debian, by root into /usr/local", "Debian, by the package"
+DEBIAN = [BY_ROOT, "Debian, into ~/.local", BY_PACKAGE]
 
 
 def pytest_generate_tests(metafunc: pytest.Metafunc) -> None:
@@ -64,10 +69,30 @@ def debian(tmp_path_factory: pytest.TempPathFactory) -> Debian:
 
 @pytest.fixture(scope="module")
 def installed(request: pytest.FixtureRequest, tmp_path_factory: pytest.TempPathFactory) -> Iterator[Installed]:
-    """`make install`, twice, as an update is; `make uninstall` leaves nothing."""
+    """By one of the commands of docs/INSTALL.md. Once it is removed nothing is left."""
+    if request.param == BY_PACKAGE:
+        yield from of_package(request.getfixturevalue("debian"))
+    else:
+        yield from of_make(request, tmp_path_factory)
+
+
+def of_package(place: Debian) -> Iterator[Installed]:
+    """The Debian package, by apt."""
+    assert "    tools/deb\n    sudo apt install ./out/tracehost_*.deb\n" in INSTALL and "`sudo apt remove tracehost`" in INSTALL
+    place.shell("tools/deb", place.clone)
+    place.shell("apt install --yes ./out/tracehost_*.deb", place.clone, root=True)
+    made = Installed(place, "/usr", known=True)
+    made.write("empty", "")
+    yield made
+    place.shell("apt remove --yes tracehost", "/", root=True)
+    assert made.files() == []
+
+
+def of_make(request: pytest.FixtureRequest, tmp_path_factory: pytest.TempPathFactory) -> Iterator[Installed]:
+    """`make install`, twice, as an update is, and `make uninstall`."""
     layout: str = request.param
     place = request.getfixturevalue("debian") if layout in DEBIAN else Place(tmp_path_factory.mktemp("home"))
-    known = layout == DEBIAN[0]
+    known = layout == BY_ROOT
     prefix = "/usr/local" if known else f"{place.home}/{'a prefix' if layout == HERE[1] else '.local'}"
     words = "" if known else f" PREFIX='{prefix}'"
     odd = layout == HERE[1]
@@ -245,11 +270,40 @@ def test_completions(installed: Installed) -> None:
         assert option in installed.shell(code).split(), name
     for name in ("tracehost-perfetto", "tracehost-cc"):
         assert installed.place.outside(f"{folder}/{name}").exists()
+    of_zsh = "vendor-completions" if installed.prefix == "/usr" else "site-functions"
     for name in ("_tracehost", "_tracehost-commands"):
-        assert installed.place.outside(f"{installed.prefix}/share/zsh/site-functions/{name}").exists()
+        assert installed.place.outside(f"{installed.prefix}/share/zsh/{of_zsh}/{name}").exists()
 
 
 # ---- clones
+
+
+class ReaderThere(Reader):
+    """Who types a page's commands in a place's clone, where nothing is installed."""
+
+    def __init__(self, place: Place) -> None:
+        self._place, self._exports = place, ["true"]
+
+    def types(self, command: str, lines: str = "") -> Printed:
+        if command.startswith("export "):
+            self._exports.append(command)
+            return Printed("", 0)
+        exports = "\n".join(self._exports)
+        text = self._place.shell(f"{exports}\n{{ {command}\n}} <<'LINES'\n{lines}LINES\necho status=$?", self._place.clone)
+        text, _, status = text.rpartition("status=")
+        return Printed(text, int(status))
+
+
+@pytest.mark.parametrize("page", ["README.md", "docs/POSIX.md"])
+def test_the_commands_of_a_page_in_a_fresh_clone(request: pytest.FixtureRequest, page: str) -> None:
+    if not request.config.getoption("--debian"):
+        pytest.skip("only with --debian: elsewhere test_pages.py types them")
+    reader = ReaderThere(request.getfixturevalue("debian"))
+    commands = shown(page)
+    assert len(commands) >= 5
+    for command, text in commands:
+        status = reader.has(command, text).status if text else reader.types(command).status
+        assert text or status == 0, command
 
 
 @needs("meson", "ninja", "cc")

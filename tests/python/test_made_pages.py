@@ -1,6 +1,6 @@
 """The parts of pages that `tools/pages` makes are those of the present sources.
 
-Then, in a copy of the sources: a change makes a part older, the lists of docs/internals/TRUST.md change with what is cited,
+Then, in a copy of the sources: a change makes a part older, the totals of docs/internals/TRUST.md change with what is cited,
 and a cited item that is gone is an error.
 """
 
@@ -30,7 +30,7 @@ def pages(*words: str, top: Path = TOP) -> Ended:
     return run(sys.executable, top / "tools/pages", *words, seconds=SECONDS)
 
 
-@pytest.mark.parametrize("name", ["crates", "python", "calls", "definitions", "kit"])
+@pytest.mark.parametrize("name", ["crates", "python", "calls", "totals", "kit"])
 def test_a_part_is_no_older_than_the_sources(name: str) -> None:
     checked = pages("check", name)
     if checked.status == 3:
@@ -92,7 +92,7 @@ def file_with(pattern: str) -> str:
     ("crates", "crates.txt", f"^{LOWEST}:", f"{LOWEST}: memchr", ARCHITECTURE),
     ("crates", f"crates/{LOWEST}/src/lib.rt", "^//! ", "//! Another ", ARCHITECTURE),
     ("kit", "crates.txt", f"^{LOWEST}:", f"{LOWEST}: memchr", TRUST),
-    ("definitions", file_with("^-- a step by a user$"), "^-- a step by a user$", "-- one\n-- a step by a user", TRUST),
+    ("totals", file_with("^-- a step by a user$"), "^-- a step by a user$", "-- one\n-- a step by a user", TRUST),
     ("calls", QUESTIONS, '"enter kill leave compute"', '"enter kill leave"', POSIX),
     ("python", f"{CLIENT}/host.py", "def list\\(", "def pids(", PYTHON),
     ("python", f"{CLIENT}/steps.py", "The LWP runs in user mode", "It runs", PYTHON),
@@ -112,10 +112,10 @@ def test_a_change_makes_a_part_older(whole: Path, change: Change, name: str, fil
 
 
 def total(top: Path) -> int:
-    """The number of lines to read by the first table."""
-    found = re.search(r"^\| \d+ files \| ([\d,]+) \|", pages("print", "definitions", top=top).out, re.MULTILINE)
+    """The number of lines to read for the first part."""
+    found = re.search(r"^ *(\d+)$", pages("print", "definitions", top=top).out, re.MULTILINE)
     assert found
-    return int(found[1].replace(",", ""))
+    return int(found[1])
 
 
 @pytest.mark.parametrize(
@@ -135,7 +135,7 @@ def test_the_list_follows_citations(whole: Path, change: Change, more: int, patt
 
 def says(whole: Path, error: str) -> bool:
     made = pages("print", "definitions", top=whole)
-    return made.status == 1 and made.out == "" and re.fullmatch(f"pages: {error}\n", made.err) is not None
+    return (made.status, made.out) == (1, "") and re.fullmatch(f"pages: {error}\n", made.err) is not None
 
 
 @pytest.mark.parametrize("name", ["Keys", "Fields", "KeyError", "Request", "LwpData"])
@@ -156,7 +156,7 @@ def test_a_trait_of_a_clause_is_in_the_list(whole: Path, change: Change, name: s
     file = file_with(rf"^pub trait {name}\b")
 
     def lines() -> int:
-        row = re.search(rf"^\| `{file}` \| (\d+) \| .*`{name}`", pages("print", "definitions", top=whole).out, re.MULTILINE)
+        row = re.search(rf"^ *(\d+)  {file}: .*\b{name}\b", pages("print", "definitions", top=whole).out, re.MULTILINE)
         assert row
         return int(row[1])
 
@@ -165,10 +165,23 @@ def test_a_trait_of_a_clause_is_in_the_list(whole: Path, change: Change, name: s
     assert lines() == before + 1
 
 
-@pytest.mark.parametrize("name", ["::run_list`", "::machine::*`"])
-def test_a_contract_of_the_headline_that_is_gone_is_an_error(whole: Path, change: Change, name: str) -> None:
-    change(TRUST, re.escape(name), "::nowhere::gone`")
-    assert says(whole, r"\w+::nowhere::gone: 0 files of the crate have this function")
+@pytest.mark.parametrize(
+    ("name", "new", "error"),
+    [
+        ("run_list", "gone", "there is no function gone"),
+        (r"machine.rt \*", "machine.rt gone", "there is no function gone"),
+        ("machine.rt", "gone.rt", "No such file or directory: .*gone.rt'"),
+    ],
+)
+def test_a_contract_of_the_headline_that_is_gone_is_an_error(whole: Path, change: Change, name: str, new: str, error: str) -> None:
+    change("tools/trust.py", name, new)
+    assert says(whole, f".*{error}")
+
+
+def test_each_module_of_tests_is_printed_with_its_head() -> None:
+    printed = re.findall(r"^(\S+)\n    \S", pages("print", "tests").out, re.MULTILINE)
+    assert {f"clients/{name}/tests/test_{what}.py" for name, what in (("c", "faults"), ("python", "shell"))} < {*printed}
+    assert len(printed) == sum(len([*TOP.glob(f"{folder}/test_*.py")]) for folder in ("tests/python", "clients/*/tests"))
 
 
 def test_a_name_that_is_no_part() -> None:

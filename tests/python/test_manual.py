@@ -91,6 +91,12 @@ def test_the_version(program: Path, word: str) -> None:
     assert run(program, word).out == f"tracehost {found[1]}\n"
 
 
+@pytest.mark.parametrize("command", ["viewer/make", "viewer/perfetto", "clients/posix/tracehost-run"])
+def test_the_version_of_another_command(command: str) -> None:
+    version = run(TOP / "tools/version").out.strip()
+    assert run(TOP / command, "--version").out in (f"{command} {version}\n", f"{Path(command).name} {version}\n")
+
+
 @pytest.fixture(scope="module")
 def examples() -> list[str]:
     """The blocks `.Bd -literal` of the page: commands after `$ ` and what they print."""

@@ -10,7 +10,7 @@ import re
 import shutil
 import subprocess
 import sys
-from collections.abc import Mapping
+from collections.abc import Iterator, Mapping
 from pathlib import Path
 
 import pytest
@@ -171,6 +171,50 @@ def test_the_wheel(installed: Environment, tmp_path: Path) -> None:
     newest = max(map(int, re.findall(r"GLIBC_2\.(\d+)", run(["objdump", "-T", installed.program], tmp_path))))
     tag = f"py3-none-manylinux_2_{newest}_{os.uname().machine}"
     assert [path.name for path in tmp_path.glob("*.whl")] == [f"tracehost-{VERSION}-{tag}.whl"]
+
+
+# ---- tracehost-cc and tracehost-run, by `pip install ./clients/posix`
+
+
+@pytest.fixture(scope="module")
+def with_runtime(installed: Environment) -> Iterator[Environment]:
+    """The sources are gone once the package is installed; nothing of it is left once it is removed."""
+    if not installed.has_library():
+        pytest.skip("there is no library of the present sources for the broker")
+    installed.pip("./clients/posix")
+    elsewhere = installed.sources.rename(installed.room / "elsewhere")
+    yield installed
+    elsewhere.rename(installed.sources)
+    run([installed.bin / "pip", "uninstall", "--yes", "tracehost-posix"], installed.room)
+    assert not [path for path in installed.package.parent.glob("tracehost_*") if path.name != "tracehost"]
+    assert not (installed.bin / "tracehost-run").exists() and not (installed.bin / "tracehost-cc").exists()
+
+
+@needs("cc", "make")
+def test_a_race_by_the_runtime_of_a_wheel(with_runtime: Environment, tmp_path: Path) -> None:
+    """It is found, and recorded with its page, by the environment's own tracehost and viewer."""
+    commands, made, record = with_runtime.bin, tmp_path / "lost_wakeup", tmp_path / "run.json"
+    run([commands / "tracehost-cc", "-g", "-o", made, TOP / "clients/posix/races/lost_wakeup.c"], tmp_path)
+    said = run([commands / "tracehost-run", "--jobs", "2", "--schedules", "300", "--record", record, made], tmp_path, status=1)
+    assert "tracehost-run: of its 2 switches 1 is enough: --switches 100000.61:100001\n" in said
+    assert Path(f"{record}.html").read_text(encoding="utf-8").rstrip().endswith("</html>")
+    assert run([commands / "tracehost", "--expect", f"{record}.lines", record], tmp_path) == ""
+    assert "goes as recorded" in run([commands / "tracehost-run", "--replay", record, made], tmp_path, status=1)
+
+
+@needs("cc", "make")
+def test_the_version_of_the_runtime_of_a_wheel(with_runtime: Environment, tmp_path: Path) -> None:
+    assert run([with_runtime.bin / "tracehost-run", "--version"], tmp_path) == f"tracehost-run {VERSION}\n"
+
+
+@pytest.mark.parametrize("command", ["tracehost-view", "tracehost-perfetto"])
+def test_the_commands_of_the_viewer(installed: Environment, tmp_path: Path, command: str) -> None:
+    trace, made = tmp_path / "trace", tmp_path / "made"
+    trace.write_text(run([installed.bin / "tracehost", "--json=trace", TOP / "examples/first.json"], tmp_path))
+    assert run([installed.bin / command, trace, "-o", made], tmp_path) == ""
+    script = "make" if command == "tracehost-view" else "perfetto"
+    assert made.read_text(encoding="utf-8") == run([TOP / "viewer" / script, trace], tmp_path)
+    assert run([installed.bin / command, "nosuch"], tmp_path, status=1) == f"{command}: nosuch: No such file or directory\n"
 
 
 @needs("mypy")

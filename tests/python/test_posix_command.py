@@ -2,6 +2,7 @@
 
 from __future__ import annotations
 
+import itertools
 import os
 import pathlib
 import re
@@ -43,7 +44,63 @@ int main(int argc, char **argv)
 		host(109, 0, 0);
 	else if (strcmp(name, "clock_settime") == 0)
 		host(227, 99, (long)none); /* no clock, and no time, should it get through */
+	else if (strcmp(name, "reboot") == 0)
+		host(169, 0, 0); /* without the numbers that it asks for */
+	else if (strcmp(name, "sethostname") == 0)
+		host(170, 0, -1);
+	else if (strcmp(name, "pidfd_send_signal") == 0)
+		host(424, -1, 0);
 	return 0;
+}
+"""
+
+CLONES = r"""
+#define _GNU_SOURCE
+#include <dlfcn.h>
+#include <string.h>
+static long by_instruction(long number, long flags, ...)
+{
+	long result;
+	register long r10 __asm__("r10") = 0, r8 __asm__("r8") = 0;
+	__asm__ volatile("syscall" : "=a"(result) : "a"(number), "D"(flags), "S"(0), "d"(0), "r"(r10), "r"(r8) : "rcx", "r11", "memory");
+	return result;
+}
+static int nothing(void *given) { return 0; }
+void make(const char *how, const char *what)
+{
+	/* with the flags that the C library has for a thread and for a fork */
+	long flags = strcmp(what, "thread") == 0 ? 0x3d0f00 : 0x1200011, number = strcmp(what, "clone3") == 0 ? 435 : 56;
+	if (strcmp(how, "clone") == 0) {
+		int (*clone)(int (*)(void *), void *, int, void *) = dlsym(RTLD_DEFAULT, how);
+		clone(nothing, &flags, flags, 0);
+		return;
+	}
+	long (*call)(long, long, ...) = strcmp(how, "syscall") == 0 ? dlsym(RTLD_DEFAULT, how) : by_instruction;
+	if (call(number, number == 435 ? 0 : flags, 0, 0, 0, 0) == 0)
+		by_instruction(60, 0); /* a child that got through exits */
+}
+"""
+CALLS_MAKE = "void make(const char *, const char *); int main(int argc, char **argv) { make(argv[1], argv[2]); return 0; }\n"
+MAKES_ALL = r"""
+#include <pthread.h>
+#include <spawn.h>
+#include <sys/wait.h>
+#include <unistd.h>
+static void *body(void *given) { return given; }
+int main(int argc, char **argv)
+{
+	pthread_t thread;
+	char *words[] = {argv[0], "again", NULL};
+	pid_t made;
+	int status = 1;
+	if (pthread_create(&thread, NULL, body, NULL) != 0 || pthread_join(thread, NULL) != 0)
+		return 2;
+	if (fork() == 0)
+		_exit(0);
+	wait(&status);
+	if (argc == 1 && (posix_spawn(&made, argv[0], NULL, NULL, words, NULL) != 0 || wait(&status) != made))
+		return 3;
+	return status;
 }
 """
 
@@ -163,6 +220,31 @@ def test_a_call_past_the_runtime_ends_the_run(folder: pathlib.Path, how: str, ca
     assert re.search(rf"calls {call} past the runtime, in .*/past", done.stderr), done.stderr
 
 
+@pytest.mark.parametrize("place", ["-pie", "-no-pie", "library"])
+def test_a_clone_as_the_c_library_makes_it_is_held_elsewhere(place: str, tmp_path: pathlib.Path) -> None:
+    if place == "library":
+        (tmp_path / "clones.c").write_text(CLONES)
+        assert run("cc", "-w", "-shared", "-fPIC", "-o", tmp_path / "libclones.so", tmp_path / "clones.c").returncode == 0
+        (tmp_path / "main.c").write_text(CALLS_MAKE)
+        words = [CC, "-o", tmp_path / "main", tmp_path / "main.c", f"-L{tmp_path}", "-lclones", f"-Wl,-rpath,{tmp_path}"]
+        assert run(*words).returncode == 0
+        file = "libclones.so"
+    else:
+        compiled(tmp_path, "main", CLONES + CALLS_MAKE, place)
+        file = "main"
+    for how, what in itertools.product(["instruction", "syscall", "clone"], ["thread", "fork", "clone3"]):
+        done = run(RUN, tmp_path / "main", how, what)
+        call = "clone3" if what == "clone3" and how != "clone" else "clone"
+        assert done.returncode == 1, (how, what)
+        assert re.search(rf"calls {call} past the runtime, in \S*/{file},", done.stderr), (how, what, done.stderr)
+
+
+@pytest.mark.parametrize("place", ["-pie", "-no-pie", "-static"])
+def test_the_runtimes_own_threads_and_forks_are_not_held(place: str, tmp_path: pathlib.Path) -> None:
+    done = run(RUN, "--schedules", 20, compiled(tmp_path, "main", MAKES_ALL, place))
+    assert done.returncode == 0 and "21 schedules passed" in done.stderr, done.stderr
+
+
 @pytest.mark.parametrize("call", re.findall(r"TRY\((\w+)[,)](?! \.)", REFUSED))
 def test_a_call_that_is_not_there_ends_the_run(folder: pathlib.Path, call: str) -> None:
     done = run(RUN, folder / "refused", call)
@@ -176,9 +258,10 @@ def test_a_call_of_32_bits_is_held(folder: pathlib.Path) -> None:
     assert done.returncode == 1 and "calls int80 past the runtime" in done.stderr
 
 
-def test_the_clock_of_the_host_is_held(folder: pathlib.Path) -> None:
-    done = run(RUN, folder / "past", "instruction", "clock_settime")
-    assert done.returncode == 1 and "calls clock_settime past the runtime" in done.stderr
+@pytest.mark.parametrize("call", ["clock_settime", "reboot", "sethostname", "pidfd_send_signal"])
+def test_the_host_itself_is_held(folder: pathlib.Path, call: str) -> None:
+    done = run(RUN, folder / "past", "instruction", call)
+    assert done.returncode == 1 and f"calls {call} past the runtime" in done.stderr
 
 
 def test_a_shell_of_the_c_library_is_held(folder: pathlib.Path) -> None:
@@ -233,6 +316,15 @@ def test_a_search_that_tries_nothing_fails(tmp_path: pathlib.Path) -> None:
 def test_switches_that_are_not_met(folder: pathlib.Path) -> None:
     done = run(RUN, "--switches", "100000.9999:100001", folder / "odd", "fills")
     assert done.returncode == 4 and "not met: 100000.9999:100001" in done.stderr
+
+
+@pytest.mark.parametrize("call", ["waitpid(-1, bad, 0)", "execve(words[0], bad, words)", "execve(words[0], words, bad)"])
+def test_an_address_that_is_not_there_ends_the_program_at_its_own_line(tmp_path: pathlib.Path, call: str) -> None:
+    head = "#include <sys/wait.h>\n#include <unistd.h>\nint main(int argc, char **words)\n{\n\tvoid *bad = (void *)8;\n"
+    text = f"{head}\tif (fork() == 0)\n\t\t_exit(0);\n\t{call};\n\treturn 0;\n}}\n"
+    done = run(RUN, compiled(tmp_path, "main", text))
+    assert done.returncode == 1 and "was ended by SIGSEGV" in done.stderr, done.stderr
+    assert f"in a trap at {tmp_path}/main.c:8" in done.stderr
 
 
 @pytest.mark.parametrize("compiler", ["cc", "clang"])

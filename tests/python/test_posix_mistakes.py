@@ -2,6 +2,7 @@
 
 from __future__ import annotations
 
+import os
 import pathlib
 import subprocess
 import sys
@@ -69,9 +70,17 @@ def test_a_mistake_without_standard_error_has_its_status() -> None:
     assert (done.returncode, done.stdout) == (2, "")
 
 
+@pytest.mark.parametrize("words", ["--schedules 3", "--schedules 3 --digest", "--bogus", "--record /nothing/x", "--figures"])
+def test_what_standard_error_does_not_take_ends_with_status_3(calls: pathlib.Path, words: str) -> None:
+    for output in ("2>/dev/full", "2>/dev/full >/dev/full"):
+        assert shell([*RUN, *words.split(), calls], output).returncode == 3
+
+
 @pytest.mark.parametrize("option", ["--version", "--help", "-dumpmachine", "-print-libgcc-file-name"])
 def test_what_the_compiler_does_not_print_is_told(option: str) -> None:
-    assert shell([*CC, option], "").stdout.rstrip() == shell(["cc", option], "").stdout.rstrip() != ""
+    own, of_compiler = shell([*CC, option], "").stdout.rstrip(), shell(["cc", option], "").stdout.rstrip()
+    assert of_compiler and own == (f"{own.partition(of_compiler)[0]}{of_compiler}" if option == "--help" else of_compiler)
+    assert ("  --freebsd " in own) == (option == "--help")
     for output in (CLOSED, FULL):
         done = shell([*CC, option], output)
         assert (done.returncode, done.stderr) == (1, "tracehost-cc: standard output can't be written\n")
@@ -89,6 +98,23 @@ def test_a_record_that_cannot_be_written_is_refused(calls: pathlib.Path, tmp_pat
     done = shell([*RUN, "--record", record, calls], "")
     assert (done.returncode, done.stderr) == (2, f"tracehost-run: --record: {record}: {why}\n")
     assert [file.name for file in tmp_path.iterdir()] == ["file"]
+
+
+@pytest.mark.parametrize("blocks", [1, 8, 16, 64])
+def test_a_record_that_is_too_large_is_told(posix: Posix, tmp_path: pathlib.Path, blocks: int) -> None:
+    """A disk that is full at each of the record's files."""
+    record = tmp_path / "run.json"
+    limited = ["sh", "-c", f'ulimit -f {blocks}; exec "$@"', "sh", *RUN, "--seed", 4, "--record", record]
+    done = shell([*limited, posix.race("lost_wakeup")], "")
+    assert done.returncode == 3 and "Traceback" not in done.stderr
+    assert done.stderr.splitlines()[-1].startswith(f"tracehost-run: --record: {record}")
+
+
+@pytest.mark.parametrize("kind", ["record", "program"])
+def test_a_pipe_or_a_device_is_refused(calls: pathlib.Path, tmp_path: pathlib.Path, kind: str) -> None:
+    os.mkfifo(tmp_path / "pipe")
+    for path in (tmp_path / "pipe", "/dev/full"):
+        refused(["--record", path, calls] if kind == "record" else [path], str(path))
 
 
 def test_a_record_is_only_written_if_there_is_one(calls: pathlib.Path, tmp_path: pathlib.Path) -> None:
@@ -117,6 +143,7 @@ MISTAKES = [  # what tracehost-run is given before the program, and what it name
     ("--strategy best", "--strategy"), ("--sleeps never", "--sleeps"), ("--switches 1:2", "--switches"),
     ("--kill-on-debugger-exit 2", "--kill-on-debugger-exit"), (f"--model {NOTHING}", "no such program"),
     ("--seed 1 --schedules 3", "don't go together"), ("--gdb --with x", "don't go together"), ("--bogus", "unrecognized"),
+    ("--with nothing_is_here", "--with"), ("--with '", "--with"), ("--seed 1e3", "'1e3' is no number from 1 to"),
 ]  # fmt: skip
 
 
@@ -128,6 +155,33 @@ def test_a_mistake_is_one_line(odd: pathlib.Path, words: str, wanted: str) -> No
 @pytest.mark.parametrize("words, wanted", [("", "no PROGRAM"), (NOTHING, "No such file"), (f"--replay {NOTHING}", "--replay")])
 def test_a_program_or_a_record_that_is_not_there(words: str, wanted: str) -> None:
     refused([*words.split()], wanted)
+
+
+@pytest.mark.parametrize(
+    "text", ["", "[]", '{"switches": ""}', '{"switches": 3}', '{"switches": "", "limit": "x", "program": ["x"]}', '{"switches": "x"}']
+    + ['{"switches": "", "limit": 9, "program": []}', '{"switches": "", "limit": 9, "program": [3]}', "\udcff"],
+)  # fmt: skip
+def test_a_schedule_that_is_something_else(tmp_path: pathlib.Path, text: str) -> None:
+    for name in ("run.json", "run.json.lines"):
+        (tmp_path / name).write_text("")
+    (tmp_path / "run.json.schedule").write_text(text, errors="surrogateescape")
+    refused(["--replay", tmp_path / "run.json"], f"--replay: {tmp_path}/run.json.schedule: ")
+
+
+def test_a_record_whose_lines_are_gone(calls: pathlib.Path, tmp_path: pathlib.Path) -> None:
+    record = tmp_path / "run.json"
+    assert shell([*RUN, "--record", record, calls], "").returncode == 0
+    lines = pathlib.Path(f"{record}.lines")
+    lines.write_text(lines.read_text().partition("\n")[0] + "\n")
+    done = shell([*RUN, "--replay", record], "")
+    assert done.returncode == 4 and "goes another way" in done.stderr
+    lines.unlink()
+    refused(["--replay", record], f"{lines}: No such file or directory")
+
+
+def test_too_few_open_files_are_told(calls: pathlib.Path) -> None:
+    done = shell(["sh", "-c", 'ulimit -n 100; exec "$@"', "sh", *RUN, calls], "")
+    assert done.returncode == 3 and "ulimit -n" in done.stderr and done.stderr.count("\n") == 1
 
 
 @pytest.fixture(scope="module")

@@ -6,12 +6,16 @@ import os
 import shutil
 import signal
 import subprocess
+import sys
 import time
 from pathlib import Path
 
 import pytest
 
 from checking import TOP
+
+sys.path.insert(0, str(TOP / "tools"))
+from crates import below  # noqa: E402
 
 # it notes what it is given, and builds a program unless it is told to fail or to wait
 STAND_IN = """\
@@ -68,25 +72,12 @@ def copy(tmp_path: Path) -> Copy:
     return Copy(tmp_path)
 
 
-def whole() -> set[str]:
-    """The crates that the program uses, and itself."""
-    lines = [line.partition("#")[0].partition(":") for line in (TOP / "crates.txt").read_text().splitlines()]
-    uses = {name.split()[0]: used.split() for name, colon, used in lines if colon}
-    found, new = set(), ["tracehost"]
-    while new:
-        name = new.pop()
-        if name in uses and name not in found:
-            found.add(name)
-            new += uses[name]
-    return found
-
-
 def test_the_program_is_built_once_and_run(copy: Copy) -> None:
     assert copy.prove()[:2] == (0, "ran some.json --user 1001\n")
     (copy.room / "given").unlink()
     assert copy.prove() == (0, "ran some.json --user 1001\n", "")
     assert not (copy.room / "given").exists()
-    with open(next((copy.top / "crates" / min(whole())).glob("src/*.rt")), "a") as source:
+    with open(next((copy.top / "crates" / min(below("tracehost"))).glob("src/*.rt")), "a") as source:
         source.write("// changed\n")
     assert copy.prove()[0] == 0
     assert (copy.room / "given").exists()
@@ -99,7 +90,7 @@ def test_what_the_gate_is_given(copy: Copy) -> None:
     given = {line.removeprefix("./") for line in (copy.room / "given").read_text().splitlines()}
     sources = {
         str(path.relative_to(TOP))
-        for name in whole()
+        for name in below("tracehost")
         for part in ("src", "specs", "proofs")
         for path in (TOP / "crates" / name / part).rglob("*")
         if path.is_file()

@@ -90,17 +90,6 @@ def test_the_passing_tests_of_the_page(page: Suite) -> None:
     page("passing", page.room / "test_attach.py", page.room / "test_steps.py")
 
 
-def test_the_failing_test_of_the_page(page: Suite) -> None:
-    """It shows what the page shows, and leaves its session. The change that the page names makes it pass."""
-    said = page("failing", page.room / "test_forwarding.py", status=1)
-    wanted = re.findall("^    (E  .*)$", PAGE, re.MULTILINE)
-    assert wanted and re.findall(r"^E +(?:assert|status).*$", said, re.MULTILINE) == wanted
-    page.left("failing", "test_a_signal_is_passed_on")
-    change = "PT_CONTINUE, news.pid, os.WSTOPSIG(news.status))"
-    page.change("forwarding.py", "PT_CONTINUE, news.pid)", change)
-    page("mended", page.room / "test_forwarding.py")
-
-
 def test_the_state_machine_of_the_page(page: Suite) -> None:
     """It fails, by the shortest way that the page shows."""
     said = page("machine", page.room / "test_collecting.py", status=1)

@@ -19,7 +19,7 @@ from stranger import block
 
 __all__ = ["words"]  # a fixture
 CRATE = TOP / "clients/rust"
-PAGE = ["status 1001 4479", "100001 stopped: SIGSEGV", "99: No such process"]
+PAGE = ["1001 stopped SIGSTOP", "1001 signaled SIGKILL", "99: No such process"]
 
 pytestmark = needs("cargo")
 
@@ -102,14 +102,14 @@ def test_the_example(cargo: Cargo) -> None:
 
 @needs("pkg-config")
 def test_the_page(cargo: Cargo, library: Path, tmp_path: Path) -> None:
-    """The code of docs/CLIENTS.md, in a package that depends on the crate. Away from the checkout pkg-config finds the library,
+    """The code of its README, in a package that depends on the crate. Away from the checkout pkg-config finds the library,
     and without it the build says what is missing.
     """
     crate, page, config = tmp_path / "away/clients/rust", tmp_path / "page", tmp_path / "pkgconfig"
     shutil.copytree(CRATE, crate)
     (page / "src").mkdir(parents=True)
     config.mkdir()
-    (page / "src/main.rs").write_text(block("CLIENTS.md", "rust"))
+    (page / "src/main.rs").write_text(block("../clients/rust/README.md", "rust"))
     (page / "Cargo.toml").write_text(
         f'[package]\nname = "page"\nedition = "2021"\n[dependencies]\ntracehost = {{ path = "{crate}" }}\n'
     )

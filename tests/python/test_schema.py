@@ -63,4 +63,4 @@ def test_what_the_program_accepts(program: Path, checks: Checks) -> None:
         is_same = validator.is_valid(in_short(json.loads(data))) == is_accepted
         checks.check(is_same, f'the program {"accepts" if is_accepted else "refuses"}, and the schema does not: {name[:150]}')
     checks.check(any(accepted), "the program accepts no scenario")
-    print(f"{len(cases)} scenarios, of which the program accepts {sum(accepted)}")
+    print(f"{len(cases)} scenarios; the program accepts {sum(accepted)}")

@@ -34,11 +34,20 @@ def library_names(form: Format) -> str:
     )
 
 
-def library_version(form: Format) -> str:
-    """The version in include/tracehost.h, which is the program's."""
+def version() -> str:
+    """The program's version."""
     tool = pathlib.Path(__file__).resolve().parent.parent / "version"
-    version = subprocess.run([tool], stdout=subprocess.PIPE, text=True, check=True).stdout.strip()
-    return f'#define TRACEHOST_VERSION "{version}"\n'
+    return subprocess.run([tool], stdout=subprocess.PIPE, text=True, check=True).stdout.strip()
+
+
+def library_version(form: Format) -> str:
+    """The version in include/tracehost.h."""
+    return f'#define TRACEHOST_VERSION "{version()}"\n'
+
+
+def command_version(form: Format) -> str:
+    """The version of a command in Python."""
+    return f'VERSION = "{version()}"\n'
 
 
 # ---- the client in C

@@ -175,7 +175,7 @@ function traced(replies) {
 
 /**
  * Each reply with the step that it answers, in the order of the scenario. If no scenario is given, a trace has the
- * steps, and other replies are alone.
+ * steps, and other replies have none.
  */
 export function pair(replies, scenario, faults) {
   const alone = () => replies.map((reply, index) => ({ index, reply, asked: null }));

@@ -210,6 +210,16 @@ static void wait_step(th_host *h, th_caller caller, char **rest)
         printf("status %d %d\n", pid, status);
 }
 
+static void spawn_step(th_host *h, unsigned user)
+{
+    th_pid pid;
+    th_lwpid lwp;
+    if (th_spawn(h, user, &pid, &lwp) != 0)
+        print_refusal();
+    else
+        printf("new %d %d\n", pid, lwp);
+}
+
 static void call_step(th_host *h, char *words)
 {
     static int32_t pids[MOST];
@@ -218,12 +228,7 @@ static void call_step(th_host *h, char *words)
     unsigned user = (unsigned)number(&rest);
     printf("%u %lu ", user, ++counts[user - 1001]);
     if (strcmp(op, "spawn") == 0) {
-        th_pid pid;
-        th_lwpid lwp;
-        if (th_spawn(h, user, &pid, &lwp) != 0)
-            print_refusal();
-        else
-            printf("new %d %d\n", pid, lwp);
+        spawn_step(h, user);
         return;
     }
     if (strcmp(op, "turn") == 0) {

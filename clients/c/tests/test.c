@@ -356,7 +356,11 @@ static void broken(const char *fake)
         int status = th_close(h);
         CHECK(WIFEXITED(status) && WEXITSTATUS(status) == (rows[i].answer[0] == '\0' ? 4 : 0));
     }
-    /* a program that has ended before anything is sent */
+}
+
+/* a program that has ended before anything is sent, and one that answers with a reply to another call */
+static void gone(const char *fake)
+{
     setenv("FAKE", "gone", 1);
     siginfo_t ended;
     th_host *h = th_start(fake, NULL);
@@ -387,6 +391,7 @@ int main(int argc, char **argv)
     settings(argv[1]);
     interrupted(argv[1], atoi(argv[4]));
     broken(argv[2]);
+    gone(argv[2]);
     if (argc == 5)
         CHECK(th_start("/nowhere/tracehost", NULL) == NULL && errno == ENOENT);
     if (!failed)

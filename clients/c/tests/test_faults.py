@@ -1,4 +1,7 @@
-"""The client in C: fork(2) with an open session, and records that can't be written. With the compiler's sanitizers."""
+"""The client in C: fork(2) with an open session, and records that can't be written. With the compiler's sanitizers.
+
+TRACEHOST_TEST_SCALE multiplies how many processes fork and are killed.
+"""
 
 from __future__ import annotations
 
@@ -14,6 +17,7 @@ import pytest
 
 TOP = pathlib.Path(__file__).resolve().parents[3]
 CLIENT = TOP / "clients/c"
+SCALE = int(os.environ.get("TRACEHOST_TEST_SCALE", "1"))
 SPAWN = '{"user":1001,"op":"spawn"}'
 LINE = "1001 1 new 1000 100000\n"
 SANITIZERS = ["-fsanitize=address,undefined", "-fno-sanitize-recover=all"]
@@ -52,7 +56,8 @@ def recorded(scenario: pathlib.Path, lines: pathlib.Path) -> int:
 def test_a_fork(faults: str) -> None:
     """Over a pipe the child's calls are refused and its th_close does nothing to the parent's session; a session in the
     process is copied. A thread of the parent sleeps in a wait meanwhile."""
-    run(faults, "fork", named_program())
+    for _ in range(5 * SCALE):
+        run(faults, "fork", named_program())
 
 
 def test_a_disk_that_is_full_at_each_byte(faults: str, tmp_path: pathlib.Path) -> None:
@@ -95,7 +100,7 @@ def test_a_program_that_is_killed(tmp_path: pathlib.Path) -> None:
     recorder, scenario, lines = tmp_path / "recorder", tmp_path / "s.json", tmp_path / "s.out"
     sources = [str(tmp_path / "recorder.c"), str(CLIENT / "tracehost_client.c")]
     subprocess.run(["cc", "-O1", "-pthread", f"-I{CLIENT}", "-o", str(recorder), *sources], check=True)
-    for _ in range(40):
+    for _ in range(40 * SCALE):
         process = subprocess.Popen([recorder, named_program(), scenario, lines], stdout=subprocess.PIPE)
         assert process.stdout is not None
         process.stdout.readline()

@@ -30,6 +30,7 @@ void forget_lwp(struct lwp *l)
 {
 	char line[MESSAGE];
 	double began = l->fd >= 0 ? seconds() : 0;
+	touch_host();
 	while (l->fd >= 0 && seconds() - began < ENDING_S) {
 		ssize_t got = recv(l->fd, line, sizeof line, 0);
 		if (got == 0 || (got < 0 && errno != EAGAIN && errno != EINTR))
@@ -80,6 +81,7 @@ static void tell_end(struct process *p, struct lwp *exits)
 static void end_process(struct process *p, int status, struct lwp *exits)
 {
 	LIST(struct process *) tracees = {0};
+	touch_all();
 	for (EACH_PROCESS(other))
 		if (table.processes.at[other_at]->tracer == p->pid)
 			APPEND(&tracees, table.processes.at[other_at]);

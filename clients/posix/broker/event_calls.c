@@ -98,7 +98,7 @@ BODY(news_call)
 		counted->number = 0;
 	}
 	size_t told = lists->happened.count < MOST ? lists->happened.count : MOST;
-	say("ok %lld %d %zu ", (long long)table.now, lists->happened.count > told, told);
+	say("ok %lld %d %zu ", (long long)now(), lists->happened.count > told, told);
 	for (size_t i = 0, at = strlen(answer); i < told; i++) {
 		const struct happening *h = &lists->happened.at[i];
 		at += snprintf(answer + at, sizeof answer - at, "%s%lld %lld %lld %lld", i > 0 ? " " : "", (long long)h->kind,

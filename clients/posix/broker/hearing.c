@@ -14,6 +14,7 @@ static const double between_pokes = 0.1; /* seconds of its processor's time afte
 static void send_line(struct lwp *l, const char *line)
 {
 	ssize_t sent;
+	touch_host();
 	do
 		sent = send(l->fd, line, strlen(line), MSG_NOSIGNAL);
 	while (sent < 0 && errno == EINTR);
@@ -24,6 +25,7 @@ static void send_line(struct lwp *l, const char *line)
 static void send_socket(struct lwp *l, const char *line, struct lwp *born)
 {
 	int given;
+	touch_host();
 	born->fd = socket_pair(&given);
 	if (!send_with(l->fd, line, given))
 		gone(l->process);
@@ -111,6 +113,7 @@ static void count_busy(struct lwp *l)
 	if (++run.busy <= options.limit / 2)
 		return;
 	run.busy = 0;
+	touch_all();
 	l->yields = true;
 	end_first_sleep();
 }
@@ -123,8 +126,7 @@ static void note_question(struct lwp *l, const struct question *q, bool is_user)
 		snprintf(l->asked, sizeof l->asked, "%s", q->text);
 	if (run.questions > options.limit - LAST && run.wants.places)
 		note_place("last", l, "", 0);
-	if (run.wants.points)
-		hash_question(l, q->text);
+	leg_asks(q, q->text);
 }
 
 /* The thread runs until it asks again; false if its handler is over. */

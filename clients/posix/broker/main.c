@@ -75,14 +75,28 @@ void wait_for_python(void)
 		broken("request %s", line);
 }
 
+/* `=N.N..`, if it is there: its length. */
+static int read_touches(const char *text, struct touches *touches)
+{
+	const char *at = text;
+	int length, number;
+	touches->count = 0;
+	while (*at == (at == text ? '=' : '.') && touches->count < TOUCHED && sscanf(at + 1, "%d%n", &number, &length) == 1) {
+		touches->at[touches->count++] = number;
+		at += 1 + length;
+	}
+	return at - text;
+}
+
 static void read_switches(const char *text)
 {
-	struct switch_to to;
+	struct switch_to to = {0};
 	int length;
 	schedule.given.count = 0;
 	while (sscanf(text, "%d.%ld:%d%n", &to.tid, &to.point, &to.to, &length) == 3) {
-		APPEND(&schedule.given, to);
 		text += length;
+		text += read_touches(text, &to.asleep);
+		APPEND(&schedule.given, to);
 		text += *text == ',';
 	}
 	if (*text != 0)

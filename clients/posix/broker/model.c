@@ -31,6 +31,7 @@ reply look(struct step s)
 	}
 	if (code != TRACEHOST_ANSWERED)
 		broken("the model doesn't answer: %s", tracehost_strerror(code));
+	touch_step(&s, &r);
 	return r;
 }
 

@@ -1,13 +1,13 @@
 /* Who hears of a signal, and of a process's status. */
 #include "run.h"
 
-static const signals stopping = BIT(STOP) | BIT(18) | BIT(21) | BIT(22);
+bool stops(int64_t signal) { return has(BIT(STOP) | BIT(18) | BIT(21) | BIT(22), signal); }
 
 /* The signal may be pending now. */
 void nudge(struct process *p, int signal)
 {
 	change(p->pid);
-	p->stops |= has(stopping, signal);
+	p->stops |= stops(signal);
 	p->chld_due |= signal == CHLD && (p->catches & BIT(CHLD) || p->tracer != 0);
 	for (size_t i = 0; i < p->lists.lwps.count; i++)
 		p->lists.lwps.at[i]->clean = false;
@@ -53,6 +53,7 @@ static void post_news(const struct process *p, const struct process *receiver, i
 void child_news(struct process *p, int code, int status)
 {
 	struct process *receiver = live_process(p->tracer == 0 ? p->parent : p->tracer);
+	touch_with_kin(p);
 	post_news(p, receiver, code);
 	bool silent = !p->live && receiver != NULL && hides(receiver, p->pid);
 	bool tells = !silent && (code != BSD_CLD_CONTINUED || p->stops);

@@ -127,6 +127,13 @@ void gone(const struct process *p)
 	leave_run();
 }
 
+/* The run goes on as another one does, but for the order of legs that commute. */
+void repeats(void)
+{
+	run.repeats = true;
+	leave_run();
+}
+
 /* Nothing goes on after this: what the program has left is ended. */
 void broken(const char *format, ...)
 {
@@ -190,7 +197,7 @@ void outcome_end(const struct ends *ends)
 	for (int i = 0; i < ends->count && gone_real != 0; i++)
 		if (ends->at[i].real == gone_real)
 			snprintf(failure + length, sizeof failure - length, " %d", ends->at[i].status);
-	if (!is_failure)
+	if (!is_failure && !run.repeats)
 		look_at_ends(ends);
 }
 
@@ -209,8 +216,11 @@ void note_outcome(void)
 {
 	note_steps();
 	size_t first = notes.count;
-	note("%s %ld %ld %ld %ld %ld %ld ", is_failure ? "failed" : "passed", run.questions, run.steps, run.choices, run.passed,
-		run.skipped, run.examined);
+	note("%s %ld %ld %ld %ld %ld %ld %llu ",
+		is_failure    ? "failed"
+		: run.repeats ? "repeats"
+					  : "passed",
+		run.questions, run.steps, run.choices, run.passed, run.skipped, run.examined, (unsigned long long)legs_sum());
 	for (size_t i = 0; i < run.switches.count; i++) {
 		const struct switch_to *to = &run.switches.at[i];
 		note("%s%d.%ld:%d", i > 0 ? "," : "", to->tid, to->point, to->to);

@@ -29,6 +29,7 @@ static reply made(struct lwp *l, int call)
 	enter_call(l, call, 0, NULL);
 	for (;;) {
 		reply r = leave(l);
+		touch_all();
 		if (r.kind != TRACEHOST_ERROR)
 			return r;
 		AWAIT(l, NEVER, IO);
@@ -161,6 +162,7 @@ BODY(thr_exit)
 		AWAIT(l, NEVER, -l->process->pid);
 		if (make(act_of(l, TRACEHOST_COMPUTE, 0), false).kind == TRACEHOST_ERROR)
 			break;
+		touch_all();
 	}
 	l->leaves = true;
 	say("ok");
@@ -245,7 +247,7 @@ BODY(poke)
 	(void)call;
 	l->yields = true;
 	if (!asleep)
-		table.now += COMPUTED;
+		table.now = now() + COMPUTED;
 	others(l);
 	if (asleep && !is_due(l)) {
 		l->hosted = true;
@@ -311,7 +313,7 @@ BODY(join)
 	int error = 0;
 	enter(l, call->code, NULL);
 	while (has_lwp(l->process, tid)) {
-		if (end != NEVER && table.now >= end) {
+		if (end != NEVER && now() >= end) {
 			error = ETIMEDOUT;
 			break;
 		}

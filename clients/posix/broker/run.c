@@ -35,8 +35,14 @@ void await(struct lwp *l, int64_t until, int count, const int64_t *topics)
 {
 	memcpy(l->topics, topics, count * sizeof *topics);
 	l->waits = true, l->n_topics = count, l->until = until, l->seen = table.clock;
+	for (int i = 0; i < count; i++)
+		touch_topic(topics[i]);
+	if (until != NEVER)
+		touch_clock();
 	end_leg(l);
 	give_way(l);
+	if (until != NEVER)
+		touch_clock();
 }
 
 _Noreturn void vanish(struct lwp *l)
@@ -110,30 +116,34 @@ static bool is_among(const lwps *list, const struct lwp *l)
 	return false;
 }
 
+/* A choice that another schedule makes. One that sleeps would make a schedule that another one is already. */
+static bool is_other(const struct lwp *l, const struct lwp *plain) { return l != plain && l->asleep.count == 0; }
+
 /* The others that could have gone on, and whether that preempts the running LWP. */
-static void note_point(const struct lwp *plain, long point)
+static bool note_point(const struct lwp *plain, long point)
 {
 	const struct lwp *current = run.current;
 	bool forced = current == NULL || !is_among(&can, current) || current->yields;
 	int tid = current != NULL ? current->tid : 0, count = 0;
 	for (size_t i = 0; i < can.count + asleep.count; i++)
-		count += (i < can.count ? can.at[i] : asleep.at[i - can.count]) != plain;
+		count += is_other(i < can.count ? can.at[i] : asleep.at[i - can.count], plain);
 	if (count == 0)
-		return;
+		return false;
 	note("point %d %ld %d %llu", tid, point, forced, (unsigned long long)state_of(tid));
 	for (size_t i = 0; i < can.count + asleep.count; i++) {
 		const struct lwp *l = i < can.count ? can.at[i] : asleep.at[i - can.count];
-		if (l != plain)
+		if (is_other(l, plain))
 			note(" %d", l->tid);
 	}
 	note("\n");
+	return true;
 }
 
 static void note_switch(const struct lwp *chosen, long point)
 {
 	const struct lwp *current = run.current;
 	char then[64];
-	APPEND(&run.switches, (struct switch_to){current != NULL ? current->tid : 0, point, chosen->tid});
+	APPEND(&run.switches, (struct switch_to){.tid = current != NULL ? current->tid : 0, .point = point, .to = chosen->tid});
 	if (!run.wants.places)
 		return;
 	if (chosen == current)
@@ -144,9 +154,18 @@ static void note_switch(const struct lwp *chosen, long point)
 	note_place("switch", current, then, run.kept.count + 1);
 }
 
+static void make_switch(const struct lwp *chosen, long point)
+{
+	const struct switch_to *given = run.current != NULL ? given_at(run.current->tid, point) : NULL;
+	if (given != NULL)
+		run.current->asleep = given->asleep;
+	note_switch(chosen, point);
+}
+
 static struct lwp *chosen_one(struct lwp *chosen, bool was_asleep)
 {
 	if (was_asleep && chosen->until != NEVER) {
+		touch_all();
 		run.busy = 0;
 		table.now = chosen->until > table.now ? chosen->until : table.now;
 	}
@@ -187,6 +206,7 @@ static struct lwp *hosted(void)
 /* Nobody can go on: time does, or all look again. The LWP that goes on then, or NULL; `over`: all wait for each other. */
 static struct lwp *when_all_wait(bool *over)
 {
+	touch_all();
 	run.busy = 0;
 	*over = false;
 	if (asleep.count > 0 && run.first->live) {
@@ -216,18 +236,22 @@ static struct lwp *choose(long point)
 		cover(run.current, chosen);
 	if (run.wants.made)
 		note_made(chosen);
-	if (run.wants.points)
-		note_point(plain, point);
+	bool noted = run.wants.points && note_point(plain, point);
 	if (chosen == NULL)
 		return NULL;
+	if (chosen->asleep.count > 0)
+		repeats();
 	if (chosen != plain)
-		note_switch(chosen, point);
+		make_switch(chosen, point);
+	else if (noted && chosen == run.current)
+		leg_is_told();
 	return chosen_one(chosen, is_among(&asleep, chosen));
 }
 
 /* The LWP with the next turn; NULL if all wait for each other, or nobody is left. */
 struct lwp *next_lwp(void)
 {
+	leg_ends(run.current);
 	while (table.lwps.count > 0) {
 		struct lwp *current = run.current;
 		long point = current != NULL ? ++current->points : ++run.idle_points;
@@ -272,37 +296,6 @@ void keep_step(struct step s, const reply *r)
 /* The last step was a look after all. */
 void unkeep(void) { free(run.kept.at[--run.kept.count].text); }
 
-static uint64_t hashed(uint64_t hash, const void *bytes, size_t size)
-{
-	const unsigned char *at = bytes;
-	for (size_t i = 0; i < size; i++)
-		hash = (hash ^ at[i]) * 0x100000001b3;
-	return hash;
-}
-
-void hash_question(const struct lwp *l, const char *text)
-{
-	run.history = hashed(run.history, &l->tid, sizeof l->tid);
-	run.history = hashed(run.history, text, strlen(text) + 1);
-}
-
-/* A number of the questions and steps up to here, and of who runs. */
-uint64_t state_of(int tid)
-{
-	for (; run.hashed < run.kept.count; run.hashed++) {
-		run.history = hashed(run.history, &run.kept.at[run.hashed].step, sizeof(struct step));
-		run.history = hashed(run.history, &run.kept.at[run.hashed].reply, sizeof(reply));
-	}
-	uint64_t hash = hashed(run.history, &tid, sizeof tid);
-	for (size_t i = 0; i < table.lwps.count; i++) {
-		const struct lwp *l = table.lwps.at[i];
-		hash = hashed(hash, &l->tid, sizeof l->tid);
-		hash = hashed(hash, &l->level, sizeof l->level);
-		hash = hashed(hash, l->asked, strlen(l->asked) + 1);
-	}
-	return hash;
-}
-
 /* ---- a run */
 
 static void begin(void)
@@ -313,9 +306,9 @@ static void begin(void)
 	run.switches.count = run.made.count = run.kept.count = 0;
 	run.inside = !options.calls;
 	run.last_look = UINT64_MAX;
-	run.history = 0xcbf29ce484222325;
 	outcome_begin();
 	table_begin();
+	legs_begin();
 	turns_begin();
 	coverage_begin();
 	schedule_begin();
@@ -338,7 +331,7 @@ void run_once(void)
 	static struct ends ends;
 	begin();
 	start_with(make_first(), live);
-	if (!has_failed())
+	if (!has_failed() && !run.repeats)
 		verdict();
 	for (size_t i = 0; i < table.n_lwps; i++)
 		close_socket(table.all_lwps.at[i]); /* its thread reads the end, and ends its process */

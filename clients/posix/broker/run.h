@@ -39,12 +39,11 @@ struct run {
 	struct process *first;
 	struct lwp *current;
 	bool inside; /* others go on inside of calls */
+	bool repeats; /* from here on it would only repeat another one */
 	bool has_status;
 	int status; /* of the first process */
 	long questions, choices, steps, passed, skipped, examined, idle_points, busy;
 	uint64_t last_look;
-	uint64_t history; /* of questions and steps, if points are wanted */
-	size_t hashed;
 	/* these stay from run to run */
 	struct wants wants;
 	switches switches; /* that were made */
@@ -98,6 +97,7 @@ struct question {
 };
 enum reading { ASKS, HANDLED, BROKEN, REFUSED, OUTSIDE, FOREIGN_TEXT, UNKNOWN };
 enum reading read_question(char *line, struct question *q);
+void leg_asks(const struct question *q, const char *text); /* of legs.c */
 
 void live(struct lwp *l);
 void run_handler(struct lwp *l, struct info info);
@@ -126,6 +126,7 @@ void flush_notes(void);
 _Noreturn void failed(const char *format, ...) __attribute__((format(printf, 1, 2)));
 _Noreturn void broken(const char *format, ...) __attribute__((format(printf, 1, 2)));
 _Noreturn void gone(const struct process *p);
+_Noreturn void repeats(void);
 void set_failure(const char *format, ...) __attribute__((format(printf, 1, 2)));
 bool has_failed(void);
 void outcome_begin(void);
@@ -135,8 +136,6 @@ void note_plain_outcome(void);
 void forget_notes(void);
 void verdict(void);
 
-uint64_t state_of(int tid);
-void hash_question(const struct lwp *l, const char *text);
 void turns_begin(void);
 
 /* ---- program.c */

@@ -70,7 +70,7 @@ void schedule_begin(void)
 
 /* ---- switches that are given */
 
-static const struct switch_to *given_at(int tid, long point)
+const struct switch_to *given_at(int tid, long point)
 {
 	for (size_t i = schedule.given.count; schedule.strategy == SWITCHED && i-- > 0;)
 		if (schedule.given.at[i].tid == tid && schedule.given.at[i].point == point)

@@ -8,6 +8,7 @@ struct switch_to {
 	int tid;
 	long point;
 	int to;
+	struct touches asleep; /* of a given one: what the leg that it postpones touches */
 };
 typedef LIST(struct switch_to) switches;
 typedef LIST(struct lwp *) lwps;
@@ -27,6 +28,8 @@ bool schedule_stays(const struct lwp *current, long point);
 long schedule_ahead(const struct lwp *current, long point, long count);
 struct lwp *schedule_choose(const lwps *can, const lwps *asleep, const struct lwp *current, long point, struct lwp *plain);
 struct lwp *plain_choice(const lwps *can, const struct lwp *current);
+/* The given switch at this point, or NULL. */
+const struct switch_to *given_at(int tid, long point);
 /* Which of these children a wait for any reports; 0 for the lowest number. */
 int schedule_first_of(const int *children, int count, const struct lwp *l, long point);
 

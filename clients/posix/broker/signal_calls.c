@@ -278,7 +278,7 @@ static int first_accepted(struct lwp *l, int64_t until)
 			return met.accepted;
 		if (met.all != 0 || l->cancelled)
 			return -EINTR;
-		if (until != NEVER && table.now >= until)
+		if (until != NEVER && now() >= until)
 			return -EAGAIN;
 		l->process->maybe &= l->mask;
 		AWAIT(l, until, pid, -pid);
@@ -289,7 +289,7 @@ static int first_accepted(struct lwp *l, int64_t until)
 BODY(sigwait_call)
 {
 	signals wanted = (signals)arguments[0] & every_signal & ~UNBLOCKABLE, old = l->mask;
-	int64_t until = arguments[1] < 0 ? NEVER : later(table.now, arguments[1]);
+	int64_t until = arguments[1] < 0 ? NEVER : later(now(), arguments[1]);
 	(void)call;
 	accept_signals(l, wanted);
 	turn(l, act_of(l, TRACEHOST_BLOCK, (old & ~wanted) >> 1), (struct how){0});

@@ -62,6 +62,7 @@ void change(int64_t number)
 {
 	table.clock++;
 	*topic(number) = table.clock;
+	touch_topic(number);
 }
 
 bool can_go(const struct lwp *l)
@@ -78,6 +79,7 @@ bool can_go(const struct lwp *l)
 void end_first_sleep(void)
 {
 	const struct lwp *first = NULL;
+	touch_all();
 	for (size_t i = 0; i < table.lwps.count; i++) {
 		const struct lwp *l = table.lwps.at[i];
 		if (l->until == NEVER)

@@ -103,6 +103,13 @@ struct process {
 	} lists;
 };
 
+enum { TOUCHED = 24 };
+struct touches {
+	bool all;
+	size_t count;
+	uint16_t at[TOUCHED]; /* in ascending order */
+}; /* what a leg touches, by numbers of legs.c */
+
 struct call;
 enum { ARGUMENTS = 6, ASKED = 520 };
 struct lwp {
@@ -118,6 +125,7 @@ struct lwp {
 	int64_t seen; /* the clock then; -1 looks again */
 	long ran, points, before; /* before: steps that were kept when its leg began */
 	bool yields, stepping, leaves, foreign;
+	struct touches asleep; /* of the leg that was due when it was preempted: it sleeps until another leg touches that */
 	bool traps; /* it steps by an instruction */
 	bool to_step; /* by PT_SETSTEP */
 	bool lands; /* its call is over: it asks `user` after the call has returned */
@@ -198,4 +206,15 @@ struct process *reported(int pid);
 int number_process(const bool in_use[PROCESSES]);
 bool numbers_have_wrapped(void);
 int number_lwp(void);
+
+/* ---- legs.c: what the leg that runs touches */
+
+void touch_all(void);
+void touch_host(void);
+void touch_clock(void);
+void touch_process(int64_t pid);
+void touch_news(int64_t pid);
+void touch_with_kin(const struct process *p);
+void touch_topic(int64_t topic);
+int64_t now(void); /* the time, at which the leg looks */
 #endif

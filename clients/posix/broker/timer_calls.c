@@ -7,11 +7,11 @@ enum { SETITIMER = 83, GETITIMER = 86, TIMER_SETTIME = 237, TIMER_GETTIME = 238 
 /* nanosleep(2) and its kin, in virtual time. */
 BODY(sleep_call)
 {
-	int64_t until = later(table.now, arguments[0]);
+	int64_t until = later(now(), arguments[0]);
 	enter(l, call->code, NULL);
-	while (table.now < until)
+	while (now() < until)
 		if (linger(l, 0, false, until)) {
-			say("error %d %lld", EINTR, (long long)(until > table.now ? until - table.now : 0));
+			say("error %d %lld", EINTR, (long long)(until > now() ? until - now() : 0));
 			return;
 		}
 	finish(l);
@@ -22,10 +22,10 @@ BODY(sleep_call)
 BODY(clock_call)
 {
 	(void)call, (void)arguments;
-	table.now = later(table.now, 1000);
+	table.now = later(now(), 1000);
 	others(l);
 	stay(l);
-	say("ok %lld", (long long)table.now);
+	say("ok %lld", (long long)now());
 }
 
 /* ---- timers: one is an LWP of the broker's, which the model doesn't have */
@@ -60,9 +60,9 @@ static struct left left_of(struct process *p, int64_t number)
 	if (timer == NULL)
 		return (struct left){0};
 	if (rung != NULL && rung->due)
-		return (struct left){rung->every - (table.now - rung->at) % rung->every, rung->every};
+		return (struct left){rung->every - (now() - rung->at) % rung->every, rung->every};
 	int64_t until = timer->until != NEVER ? timer->until : 0;
-	return (struct left){until > table.now ? until - table.now : 0, timer->every};
+	return (struct left){until > now() ? until - now() : 0, timer->every};
 }
 
 /* getitimer(2), timer_gettime(2): what is left, and the period. */
@@ -125,7 +125,7 @@ void ring(struct lwp *timer)
 {
 	struct process *p = timer->process;
 	for (int64_t until = timer->first;; until = later(until, timer->every)) {
-		while (table.now < until)
+		while (now() < until)
 			await(timer, until, 0, NULL);
 		if (!p->live)
 			return;
@@ -149,7 +149,7 @@ static void start_timer(struct process *p, int64_t number, int signal, int64_t n
 	snprintf(timer->asked, sizeof timer->asked, "timer");
 	timer->is_timer = true, timer->alive = false;
 	timer->number = number, timer->signal = signal, timer->every = timer->ran = every;
-	timer->first = timer->until = later(table.now, nanoseconds);
+	timer->first = timer->until = later(now(), nanoseconds);
 	timer->waits = true, timer->seen = table.clock, timer->level = 1;
 	into_table(timer);
 }

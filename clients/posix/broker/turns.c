@@ -162,7 +162,7 @@ static void met_signal(struct process *p, int signal)
 		if (!rung->due || rung->signal != signal)
 			continue;
 		rung->due = false;
-		rung->overruns = (table.now - rung->at) / rung->every;
+		rung->overruns = (now() - rung->at) / rung->every;
 		change(rung->topic);
 	}
 }
@@ -396,6 +396,7 @@ void stepped(struct lwp *l) { turn(l, act_of(l, TRACEHOST_COMPUTE, 0), (struct h
 /* In user mode, and no call is made: the LWP stays here while its process is stopped. */
 void stay(struct lwp *l)
 {
+	touch_news(l->process->pid);
 	if (l->process->tracer != 0 || l->process->stops)
 		turn(l, act_of(l, TRACEHOST_RAISE, 0), (struct how){0});
 }
@@ -451,4 +452,8 @@ bool interrupts(const struct process *p, signals met, bool restarts)
 }
 
 /* Whether a signal may be for the LWP to meet. */
-bool is_due(const struct lwp *l) { return l->passed || l->injected.count || l->cancelled || l->process->maybe & ~l->mask; }
+bool is_due(const struct lwp *l)
+{
+	touch_news(l->process->pid);
+	return l->passed || l->injected.count || l->cancelled || l->process->maybe & ~l->mask;
+}

@@ -33,6 +33,16 @@ void numbers_of_last(struct numbers *numbers);
 void write_last_reply(char *text, size_t room);
 void write_step(char *text, size_t room, const struct step *s);
 
+/* ---- legs.c: legs that commute */
+
+void touch_step(const struct step *s, const reply *r);
+void legs_begin(void);
+void leg_ends(const struct lwp *l);
+void leg_is_told(void);
+void leg_chooses(int number);
+uint64_t legs_sum(void);
+uint64_t state_of(int tid);
+
 /* ---- steps */
 
 reply make(struct step s, bool keep);
@@ -83,6 +93,7 @@ struct info info_of(struct lwp *l, int signal, struct info otherwise);
 /* ---- news.c: who hears of what */
 
 bool is_discarded(const struct process *p, int signal); /* of turns.c: a traced process doesn't stop for it */
+bool stops(int64_t signal); /* whether it stops by default */
 void nudge(struct process *p, int signal);
 void count_signal(struct process *p, int64_t signal);
 void end_news(struct process *p, int status);

@@ -25,6 +25,7 @@ static bool has_others(const struct process *p)
 static int first_of(struct lwp *l, const int *children, int count)
 {
 	char then[64];
+	touch_all();
 	l->points++;
 	run.choices++;
 	if (run.wants.made) {
@@ -40,9 +41,10 @@ static int first_of(struct lwp *l, const int *children, int count)
 		note("\n");
 	}
 	int first = schedule_first_of(children, count, l, l->points);
+	leg_chooses(first != 0 ? first : children[0]);
 	if (first == 0 || first == children[0])
 		return 0;
-	APPEND(&run.switches, (struct switch_to){l->tid, l->points, first});
+	APPEND(&run.switches, (struct switch_to){.tid = l->tid, .point = l->points, .to = first});
 	snprintf(then, sizeof then, "it reports %d first", first);
 	if (run.wants.places)
 		note_place("switch", l, then, run.kept.count + 1);
@@ -134,10 +136,10 @@ BODY(leave_only)
 static void wait_for_descriptors(struct lwp *l, bool polls, int64_t number)
 {
 	if (polls && l->polling == NEVER && number >= 0)
-		l->polling = later(table.now, number);
+		l->polling = later(now(), number);
 	int64_t until = l->polling;
 	bool interrupted = linger(l, IO, !polls, until);
-	bool over = until != NEVER && table.now >= until;
+	bool over = until != NEVER && now() >= until;
 	if (interrupted || over)
 		l->polling = NEVER;
 	if (interrupted)
@@ -159,7 +161,7 @@ static void wait_for_lock(struct lwp *l, bool is_semaphore, int64_t end)
 		}
 	} else
 		turn(l, act_of(l, TRACEHOST_RAISE, 0), (struct how){0});
-	say("ok %d", end != NEVER && table.now >= end);
+	say("ok %d", end != NEVER && now() >= end);
 }
 
 /* The thread has looked, and can't go on: `ok 1` if its time is over. */

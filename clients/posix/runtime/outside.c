@@ -29,9 +29,11 @@ static const struct {
 	{SYS_tgkill, "tgkill"},
 	{SYS_rt_sigqueueinfo, "sigqueue"},
 	{SYS_rt_tgsigqueueinfo, "pthread_sigqueue"},
+	{SYS_pidfd_send_signal, "pidfd_send_signal"},
 	{SYS_fork, "fork"},
 	{SYS_vfork, "vfork"},
 	{SYS_clone, "clone"},
+	{SYS_clone3, "clone3"},
 	{SYS_setpgid, "setpgid"},
 	{SYS_setsid, "setsid"},
 	{SYS_ptrace, "ptrace"},
@@ -39,6 +41,8 @@ static const struct {
 	{SYS_settimeofday, "settimeofday"},
 	{SYS_adjtimex, "adjtimex"},
 	{SYS_clock_adjtime, "clock_adjtime"},
+	{SYS_reboot, "reboot"},
+	{SYS_sethostname, "sethostname"},
 };
 enum { HELD = sizeof held / sizeof held[0], WINDOWS = 64, FORK = CLONE_CHILD_SETTID | CLONE_CHILD_CLEARTID | SIGCHLD };
 
@@ -98,11 +102,16 @@ struct report {
 	size_t room;
 };
 
+static int is_of_the_system(const struct dl_phdr_info *info)
+{
+	return strncmp(info->dlpi_name, "/lib", 4) == 0 || strncmp(info->dlpi_name, "/usr/", 5) == 0;
+}
+
 static int report_library(struct dl_phdr_info *info, size_t size, void *given)
 {
 	struct report *report = given;
 	(void)size;
-	if (info->dlpi_name[0] == '/' && strncmp(info->dlpi_name, "/lib", 4) != 0 && strncmp(info->dlpi_name, "/usr/", 5) != 0)
+	if (info->dlpi_name[0] == '/' && !is_of_the_system(info))
 		add_names(info, report->text, report->room);
 	return 0;
 }
@@ -146,11 +155,14 @@ static const void *base_of(const void *address)
 	return dladdr(address, &info) != 0 ? info.dli_fbase : NULL;
 }
 
+/* NULL in a program that is linked statically. */
+static const void *base_of_libc(void) { return base_of((const void *)(size_t)dlsym(RTLD_DEFAULT, "gnu_get_libc_version")); }
+
 /* The first caller outside of the C library, of those from `from` on. */
 static const void *caller(const void *from)
 {
 	void *frames[64];
-	const void *libc = base_of((const void *)(size_t)dlsym(RTLD_DEFAULT, "gnu_get_libc_version"));
+	const void *libc = base_of_libc();
 	int count = backtrace(frames, 64), i = 0;
 	if (libc == NULL || base_of(from) != libc)
 		return from;
@@ -188,11 +200,19 @@ static void before_fork(void)
 		tell("fork", (const void *)(size_t)dlsym(RTLD_DEFAULT, "gnu_get_libc_version"));
 }
 
+/* The C library's clone(2), of a library; its own threads don't come by here. */
+int clone(int (*)(void *), void *, int, void *, ...) __attribute__((weak));
+int clone(int (*function)(void *), void *stack, int flags, void *argument, ...)
+{
+	(void)function, (void)stack, (void)flags, (void)argument;
+	tell("clone", __builtin_return_address(0));
+}
+
 /* ---- the filter */
 
 struct windows {
 	struct {
-		unsigned long from, to;
+		unsigned long from, to, /* an own one makes no thread and no fork by an instruction of its own */ is_own;
 	} at[WINDOWS];
 	int count;
 };
@@ -206,19 +226,52 @@ static int is_sanitizer(const struct dl_phdr_info *info)
 	return strstr(info->dlpi_name, "san.so") != NULL || (sanitizer != NULL && base_of(sanitizer) == base_of(info->dlpi_phdr));
 }
 
+static void add_window(struct windows *windows, unsigned long from, unsigned long size, int is_own)
+{
+	if (windows->count == WINDOWS)
+		return;
+	windows->at[windows->count].from = from;
+	windows->at[windows->count].to = from + size;
+	windows->at[windows->count++].is_own = (unsigned long)is_own;
+}
+
+/* Only the system call instructions of a program at a fixed address: a program that it makes by exec may have its C library
+ * there. */
+static void add_instructions(struct windows *windows, unsigned long from, unsigned long size)
+{
+	static const unsigned char instruction[] = {0x0f, 0x05};
+	const char *at = (const char *)from, *end = at + size;
+	while (windows->count < WINDOWS / 2 && (at = memmem(at, (size_t)(end - at), instruction, sizeof instruction)) != NULL) {
+		at += sizeof instruction;
+		add_window(windows, (unsigned long)at, 1, 1);
+	}
+}
+
+/* The system's libraries aren't own: where they are, an exec'd program may have its C library. */
 static int add_windows(struct dl_phdr_info *info, size_t size, void *given)
 {
-	struct windows *windows = given;
+	const void *libc = base_of_libc();
+	int is_own = libc != NULL && libc != base_of(info->dlpi_phdr) && !is_of_the_system(info), is_fixed = info->dlpi_addr == 0;
 	(void)size;
 	for (int i = 0; i < info->dlpi_phnum && !is_sanitizer(info); i++) {
 		const ElfW(Phdr) *segment = &info->dlpi_phdr[i];
-		if (segment->p_type != PT_LOAD || !(segment->p_flags & PF_X) || windows->count == WINDOWS)
+		if (segment->p_type != PT_LOAD || !(segment->p_flags & PF_X))
 			continue;
-		unsigned long from = info->dlpi_addr + segment->p_vaddr;
-		windows->at[windows->count].from = from;
-		windows->at[windows->count++].to = from + segment->p_memsz;
+		if (is_own && is_fixed)
+			add_instructions(given, segment->p_vaddr, segment->p_memsz);
+		add_window(given, info->dlpi_addr + segment->p_vaddr, segment->p_memsz, is_own && !is_fixed);
 	}
 	return 0;
+}
+
+/* The C library's syscall(2), by which others make calls. It is a part of a page: an exec'd program's clone isn't there. */
+static void add_syscall(struct windows *windows)
+{
+	Dl_info info;
+	const ElfW(Sym) *symbol = NULL;
+	const void *function = (const void *)(size_t)dlsym(RTLD_NEXT, "syscall");
+	if (function != NULL && dladdr1(function, &info, (void **)&symbol, RTLD_DL_SYMENT) != 0 && symbol != NULL)
+		add_window(windows, (unsigned long)function, symbol->st_size, 1);
 }
 
 #define LOAD(place) BPF_STMT(BPF_LD | BPF_W | BPF_ABS, place)
@@ -245,36 +298,43 @@ static void put(struct filter *filter, const struct sock_filter *statements, siz
 		put(filter, statements, sizeof statements / sizeof statements[0]); \
 	} while (0)
 
-/* Which calls are looked at: of a clone those that are neither a thread nor the C library's fork; SIGABRT to oneself is
- * abort(3). The C library has clone(2) if clone3(2) isn't there. Calls of 32 bits have numbers of their own: none passes. */
+/* Answers, in the filter's memory, to an instruction in a window: of the system's libraries, or an own one. */
+enum { OF_SYSTEM, OF_OWN };
+
+/* Which calls are looked at. A thread and a fork, as the C library makes them, are held in own windows only. It has clone(2)
+ * if clone3(2) isn't there. SIGABRT to oneself is abort(3). Calls of 32 bits have numbers of their own: none passes. */
 static void put_calls(struct filter *filter)
 {
 	enum {
-		FIRST = 17,
+		FIRST = 16,
 		X32 = 0x40000000,
-		TRAP = FIRST + HELD + 1,
+		THREAD = FIRST + HELD + 1,
+		TRAP = THREAD + 2,
 		STORE = TRAP + 1
 	}; /* places of statements; a jump counts from the next one */
 	PUT(filter, LOAD(LOW(arch)), IF_EQUAL(AUDIT_ARCH_X86_64, 1, 0), BPF_STMT(BPF_JMP | BPF_JA, TRAP - 3), LOAD(LOW(nr)));
 	PUT(filter, IF_LEAST(X32, TRAP - 5, 0));
 	PUT(filter, IF_EQUAL(SYS_clone3, 0, 2), BPF_STMT(BPF_LD | BPF_IMM, SECCOMP_RET_ERRNO | ENOSYS),
 		BPF_STMT(BPF_JMP | BPF_JA, STORE - 8));
-	PUT(filter, IF_EQUAL(SYS_clone, 0, 4), LOAD(LOW(args[0])), IF_SET(CLONE_THREAD, 1, 0), IF_EQUAL(FORK, 0, TRAP - 12),
-		ANSWER(SECCOMP_RET_ALLOW));
-	PUT(filter, IF_EQUAL(SYS_tgkill, 0, 3), LOAD(LOW(args[2])), IF_EQUAL(SIGABRT, 0, TRAP - 16), ANSWER(SECCOMP_RET_ALLOW));
+	PUT(filter, IF_EQUAL(SYS_clone, 0, 3), LOAD(LOW(args[0])), IF_SET(CLONE_THREAD, THREAD - 11, 0),
+		IF_EQUAL(FORK, THREAD - 12, TRAP - 12));
+	PUT(filter, IF_EQUAL(SYS_tgkill, 0, 3), LOAD(LOW(args[2])), IF_EQUAL(SIGABRT, 0, TRAP - 15), ANSWER(SECCOMP_RET_ALLOW));
 	for (int i = 0; i < HELD; i++)
 		PUT(filter, IF_EQUAL((unsigned)held[i].number, TRAP - (FIRST + i + 1), 0));
-	PUT(filter, ANSWER(SECCOMP_RET_ALLOW), BPF_STMT(BPF_LD | BPF_IMM, SECCOMP_RET_TRAP), BPF_STMT(BPF_ST, 0));
+	PUT(filter, ANSWER(SECCOMP_RET_ALLOW));
+	PUT(filter, BPF_STMT(BPF_LD | BPF_IMM, SECCOMP_RET_ALLOW), BPF_STMT(BPF_JMP | BPF_JA, STORE - (THREAD + 2)));
+	PUT(filter, BPF_STMT(BPF_LD | BPF_IMM, SECCOMP_RET_TRAP));
+	PUT(filter, BPF_STMT(BPF_ST, OF_SYSTEM), BPF_STMT(BPF_LD | BPF_IMM, SECCOMP_RET_TRAP), BPF_STMT(BPF_ST, OF_OWN));
 }
 
-/* What was loaded is answered to an instruction in a window; all others may make the call. */
+/* The first window with the instruction answers; all other instructions may make the call. */
 static void put_windows(struct filter *filter, const struct windows *windows)
 {
 	for (int i = 0; i < windows->count; i++) {
 		unsigned long from = windows->at[i].from, to = windows->at[i].to;
 		PUT(filter, LOAD(HIGH(instruction_pointer)), IF_EQUAL((unsigned)(from >> 32), 0, 5), LOAD(LOW(instruction_pointer)),
-			IF_LEAST((unsigned)from, 0, 3), IF_LEAST((unsigned)to, 2, 0), BPF_STMT(BPF_LD | BPF_MEM, 0),
-			BPF_STMT(BPF_RET | BPF_A, 0));
+			IF_LEAST((unsigned)from, 0, 3), IF_LEAST((unsigned)to, 2, 0),
+			BPF_STMT(BPF_LD | BPF_MEM, windows->at[i].is_own ? OF_OWN : OF_SYSTEM), BPF_STMT(BPF_RET | BPF_A, 0));
 	}
 	PUT(filter, ANSWER(SECCOMP_RET_ALLOW));
 }
@@ -307,6 +367,7 @@ void tracehost_hold_calls(unsigned long known)
 	static struct filter filter;
 	struct sock_fprog program;
 	pthread_atfork(before_fork, NULL, NULL);
+	add_syscall(&windows);
 	dl_iterate_phdr(add_windows, &windows);
 	if (!are_random() || open_door() != 0)
 		return;

@@ -114,6 +114,37 @@ void tracehost_abort(void)
 
 /* ---- exec */
 
+enum { ARGUMENTS = 1024 };
+
+/* What an exec is given is looked at before it is made: bytes that aren't there end the program here, at its own call. */
+static size_t bytes_of(char *const words[])
+{
+	size_t bytes = 0;
+	for (; words != NULL && *words != NULL; words++)
+		bytes += strlen(*words) + 1 + sizeof *words;
+	return bytes;
+}
+
+/* 0, or the errno of an exec that fails. */
+static int why_not(const char *path, char *const argv[], char *const envp[])
+{
+	struct stat st;
+	char head[4] = "";
+	enum { ARGUMENT_BYTES = 512 * 1024 /* FreeBSD's ARG_MAX */ };
+	if (access(path, X_OK) != 0 || stat(path, &st) != 0)
+		return errno;
+	if (!S_ISREG(st.st_mode))
+		return EACCES;
+	if (bytes_of(argv) + bytes_of(envp) > ARGUMENT_BYTES)
+		return E2BIG;
+	int fd = open(path, O_RDONLY | O_CLOEXEC);
+	if (fd < 0)
+		return 0; /* it may be executed, and not read */
+	ssize_t got = read(fd, head, sizeof head);
+	close(fd);
+	return got >= 2 && (memcmp(head, "#!", 2) == 0 || memcmp(head, "\177ELF", sizeof head) == 0) ? 0 : ENOEXEC;
+}
+
 static int has_runtime(const char *path)
 {
 	struct stat st;
@@ -160,10 +191,10 @@ static int replace(const void *where, const char *path, char *const argv[], char
 	static char socket_of[80];
 	char **environment;
 	size_t count = 0;
-	if (access(path, X_OK) != 0) {
-		int saved = errno;
+	int error = why_not(path, argv, envp);
+	if (error != 0) {
 		tracehost_ask(where, "call %d", SYSCALL_EXECVE);
-		errno = saved;
+		errno = error;
 		return -1;
 	}
 	int known = has_runtime(path);
@@ -171,12 +202,13 @@ static int replace(const void *where, const char *path, char *const argv[], char
 	tracehost_ask(where, "exec");
 	if (!known)
 		run_foreign(path, argv, envp);
-	while (envp[count] != NULL)
+	while (envp != NULL && envp[count] != NULL)
 		count++;
 	environment = calloc(count + 2, sizeof *environment);
 	if (environment == NULL)
 		tracehost_broken(path);
-	memcpy(environment, envp, count * sizeof *environment);
+	for (size_t i = 0; i < count; i++)
+		environment[i] = envp[i];
 	snprintf(socket_of, sizeof socket_of, "TRACEHOST_LWP=%d %d %d %lx", own.fd, own_pid, own.tid, tracehost_held);
 	environment[count] = socket_of;
 	own.busy = 1; /* no poke comes between */
@@ -185,11 +217,24 @@ static int replace(const void *where, const char *path, char *const argv[], char
 	tracehost_broken(path);
 }
 
+/* A file without a head is a script of sh(1) for the calls that look for files. */
+static int replace_or_script(const void *where, const char *path, char *const argv[], char *const envp[])
+{
+	char *words[ARGUMENTS + 2] = {"sh", (char *)path};
+	int i = 0;
+	if (replace(where, path, argv, envp) != 0 && errno != ENOEXEC)
+		return -1;
+	while (i < ARGUMENTS - 1 && argv[i] != NULL && argv[i + 1] != NULL)
+		i++, words[i + 1] = argv[i];
+	words[i + 2] = NULL;
+	return replace(where, "/bin/sh", words, envp);
+}
+
 static int replace_in(const void *where, const char *file, const char *all, char *const argv[], char *const envp[])
 {
 	char path[4096], *save = NULL, *copy, *folder;
 	if (strchr(file, '/') != NULL || all == NULL)
-		return replace(where, file, argv, envp);
+		return replace_or_script(where, file, argv, envp);
 	if ((copy = strdup(all)) == NULL)
 		return -1;
 	for (folder = strtok_r(copy, ":", &save); folder != NULL; folder = strtok_r(NULL, ":", &save)) {
@@ -198,7 +243,7 @@ static int replace_in(const void *where, const char *file, const char *all, char
 			break;
 	}
 	free(copy);
-	return replace(where, folder != NULL ? path : file, argv, envp);
+	return replace_or_script(where, folder != NULL ? path : file, argv, envp);
 }
 
 static int replace_by_name(const void *where, const char *file, char *const argv[], char *const envp[])
@@ -228,8 +273,6 @@ int tracehost_execvP(const char *file, const char *folders, char *const argv[])
 }
 
 int tracehost_execvpe(const char *file, char *const argv[], char *const envp[]) { return replace_by_name(HERE, file, argv, envp); }
-
-enum { ARGUMENTS = 1024 };
 
 /* The arguments of execl(3) from the second one on, which are in registers and on the stack: what comes behind their NULL. */
 static const void *collect(char *argv[])

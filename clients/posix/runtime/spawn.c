@@ -142,11 +142,11 @@ static int spawn(const void *where, pid_t *made, const char *file, int by_name, 
 int tracehost_posix_spawn(pid_t *made, const char *path, const posix_spawn_file_actions_t *actions,
 	const posix_spawnattr_t *attributes, char *const argv[], char *const envp[])
 {
-	return spawn(HERE, made, path, 0, actions, attributes, argv, envp);
+	return spawn(HERE, made, path, 0, actions, attributes, argv, envp != NULL ? envp : environ);
 }
 
 int tracehost_posix_spawnp(pid_t *made, const char *file, const posix_spawn_file_actions_t *actions,
 	const posix_spawnattr_t *attributes, char *const argv[], char *const envp[])
 {
-	return spawn(HERE, made, file, 1, actions, attributes, argv, envp);
+	return spawn(HERE, made, file, 1, actions, attributes, argv, envp != NULL ? envp : environ);
 }

@@ -97,7 +97,7 @@ static void on_fault(int number, siginfo_t *info, void *context)
 			const char *at = (const char *)((ucontext_t *)context)->uc_mcontext.gregs[REG_RIP];
 			snprintf(question, sizeof question, "fault %d %d %ld", table[i].bsd, code_of(number, info),
 				number == SIGTRAP ? (long)at : (long)info->si_addr);
-			tracehost_ask_between(number == SIGTRAP ? at : at + 1, question, context);
+			tracehost_ask_between(number == SIGTRAP ? at : own.now.inside ? HERE : at + 1, question, context);
 		}
 }
 

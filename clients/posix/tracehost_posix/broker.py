@@ -19,10 +19,10 @@ from .report import say_once
 from .setting import Broken, Setting, Task, text_of
 
 AHEAD, ROOM = 64, 32768
-"""So many schedules, and bytes of them, are on their way at most: a pipe has room for twice as many bytes."""
+"""The most schedules, and bytes of them, that are on their way: a pipe has room for twice as many bytes."""
 NAP = 0.002
-"""While as many as half of that are on their way, answers are read each so many seconds: to be woken up for each costs time."""
-_LAST = ("passed ", "failed ", "broken ")
+"""While half of these or more are on their way, answers are read each NAP seconds: to be woken up for each costs time."""
+_LAST = ("passed ", "failed ", "repeats ", "broken ")
 
 
 def find() -> str | None:
@@ -147,7 +147,7 @@ class Broker:
     def _line_of(self, task: Task, wants: str) -> bytes:
         """What asks for it."""
         if task.switches is not None:
-            schedule = f"switches {text_of(task.switches)}"
+            schedule = f"switches {text_of(task.switches, task.asleep)}"
         elif task.seed is None:
             schedule = "plain"
         elif task.depth is not None:
@@ -164,7 +164,7 @@ class Broker:
         try:
             while line:
                 line = line[os.write(self._to, line) :]
-        except BrokenPipeError:  # it has ended, which is met where it is to answer
+        except BrokenPipeError:  # it has ended: the read of its answer finds that
             pass
 
     def _answered(self) -> Result:

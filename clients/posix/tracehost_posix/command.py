@@ -21,8 +21,10 @@ from .report import Unwritten, print_lines, say, writing
 from .setting import Broken, Options, Setting, Switch, Task, text_of
 
 FAILED, BROKEN, ANOTHER_WAY = 1, 3, 4
+DESCRIPTORS = 1024
+"""The runtime's begin at 1000."""
 LAST = 100
-"""Of so many last schedules it is said how many were new."""
+"""The figures say how many of the last LAST schedules were new."""
 
 if TYPE_CHECKING:
     import argparse
@@ -35,7 +37,10 @@ class Command:
         self.given, self.setting = given, setting
         self.began = time.monotonic()
         self.runs = self.questions = self.steps = self.passed = self.skipped = self.examined = self.most = 0
-        self.schedules: set[str] = set()
+        self.repeated = 0
+        """Of the runs, those that were left: they would only have repeated others."""
+        self.schedules: set[int] = set()
+        """The runs, but for the order of legs that commute."""
         self.covered: dict[Met, bool] = {}
         self.news: deque[bool] = deque(maxlen=LAST)
         """Of the last runs, whether nothing like them had run before."""
@@ -49,9 +54,12 @@ class Command:
         self.skipped += result.skipped
         self.examined += result.examined
         self.most = max(self.most, result.questions)
-        self.news.append(result.schedule not in self.schedules)
-        self.schedules.add(result.schedule)
         self._cover(dict(result.covered))
+        if result.repeats:
+            self.repeated += 1
+            return
+        self.news.append(result.legs not in self.schedules)
+        self.schedules.add(result.legs)
         if self.given.digest:
             with writing():
                 print(f"{'plain' if task.seed is None else task.seed} {result.digest}")
@@ -168,15 +176,14 @@ class Command:
             if given.preemptions is None:
                 found = search.seeds(pool, given.schedules, task, self.heard)
                 new = 100 * sum(self.news) // len(self.news)
-                ended = f"{self.runs} schedules passed, {len(self.schedules)} of them different; of the last {len(self.news)} {new}% were new"
+                ended = f"{self.runs} schedules passed, {self._different()}; of the last {len(self.news)} {new}% were new"
             else:
                 found = search.preemptions(pool, given.preemptions, given.schedules or 100000, self.heard)
         except search.Exhausted as end:
-            bound = f"with at most {given.preemptions} preemptions"
+            every, more = ("all ", "") if end.complete else ("", ", and there are more")
             ended = (
-                f"all {self.runs} schedules {bound} passed"
-                if end.complete
-                else f"{self.runs} schedules {bound} passed, and there are more"
+                f"{every}{self.runs - self.repeated} schedules with at most {given.preemptions} preemptions passed, "
+                f"{self._different()}{more}; {self.repeated} were left, as they only repeated others"
             )
         finally:
             if found is None:
@@ -189,9 +196,12 @@ class Command:
         finally:
             pool.close()
 
+    def _different(self) -> str:
+        return f"{len(self.schedules)} of them different"
+
     def _failing(self, pool: Pool, task: Task, result: Result) -> int:
         how = f"a schedule with {len(result.switches)} switches" if task.switches is not None else task.name()
-        say(f"fails under {how}, after {self.runs - 1} schedules that passed: {result.why}")
+        say(f"fails under {how}, after {self.runs - self.repeated - 1} schedules that passed: {result.why}")
         if result.why is not None and result.why.startswith("the record is"):
             return FAILED
         broker = pool.broker()
@@ -229,19 +239,24 @@ class Command:
             return
         setting, why = self.setting, outcome.result.why
         options = {"calls": setting.options.calls, "strict": setting.options.strict, "limit": setting.options.limit, "failed": why}
-        record.write(
-            path,
-            outcome,
-            setting.command,
-            setting.kill_on_debugger_exit,
-            {**options, "kill_on_debugger_exit": setting.kill_on_debugger_exit},
-        )
         steps = ", ".join(str(place.step) for place in outcome.places)
         words = " ".join([os.path.basename(setting.command[0]), *setting.command[1:]])
         title = f"{words}: {why or 'passed'}" + (f" (switches before step {steps})" if steps else "")
-        trouble = report.page(setting.model, path, title)
-        if trouble:
+        try:
+            record.write(
+                path,
+                outcome,
+                setting.command,
+                setting.kill_on_debugger_exit,
+                {**options, "kill_on_debugger_exit": setting.kill_on_debugger_exit},
+            )
+            trouble = report.page(setting.model, path, title)
+        except OSError as failed:
+            raise OSError(f"--record: {path}: {failed.strerror}") from failed
+        if trouble == report.NO_VIEWER:
             say(f"{path}.html isn't written: {trouble}")
+        elif trouble is not None:
+            raise OSError(f"--record: {path}.html: {trouble}")
 
     def _end(self, why: str | None) -> int:
         if self.passed:
@@ -294,9 +309,17 @@ def main(words: Sequence[str] | None = None) -> int:
             sys.stdout.flush()
         return status
     except Unwritten as why:
-        os.dup2(os.open(os.devnull, os.O_WRONLY), 1)  # Python writes what is left at its end
-        say(str(why))
+        _throw_away(why.number)
+        try:
+            say(str(why))
+        except Unwritten as also:
+            _throw_away(also.number)
         return BROKEN
+
+
+def _throw_away(number: int) -> None:
+    """What Python writes there at its end."""
+    os.dup2(os.open(os.devnull, os.O_WRONLY), number)
 
 
 def _command(words: Sequence[str] | None) -> int:
@@ -311,8 +334,10 @@ def _command(words: Sequence[str] | None) -> int:
         recordable(given.record, made)
     model = model_of(given, made)
     soft, hard = resource.getrlimit(resource.RLIMIT_NOFILE)
-    resource.setrlimit(resource.RLIMIT_NOFILE, (max(soft, min(hard, 4096)), hard))  # a socket for each thread
     try:
+        if hard < DESCRIPTORS:
+            raise Broken(f"only {hard} open files are allowed (ulimit -n), and {DESCRIPTORS} are needed")
+        resource.setrlimit(resource.RLIMIT_NOFILE, (max(soft, min(hard, 4096)), hard))  # a socket for each thread
         return _run(Command(given, _setting(given, model)))
     except NotRunnable as why:
         if str(why):  # else the program has said it

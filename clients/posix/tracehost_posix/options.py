@@ -13,7 +13,9 @@ from .program import which
 from .report import say, writing
 
 USAGE = 2
+# tools/format version
 VERSION = "0.12.0"
+# end
 
 
 class _Print(argparse.Action):
@@ -33,7 +35,7 @@ class Parser(argparse.ArgumentParser):
     """A mistake is one line, with status 2."""
 
     def error(self, message: str) -> NoReturn:
-        say(message)
+        say(message.removeprefix("argument "))
         sys.exit(USAGE)
 
 
@@ -41,35 +43,32 @@ MOST, MOST_CHOICES = (1 << 62) - 1, (1 << 31) - 1
 """The broker's numbers: a seed, and choices of a run."""
 
 
-def _count(text: str, most: int = MOST) -> int:
-    number = int(text)
-    if not 1 <= number <= most:
-        raise ValueError
-    return number
+def _number(text: str, least: int, most: int) -> int:
+    if not (text.isascii() and text.isdecimal() and len(text) < 20 and least <= int(text) <= most):
+        raise argparse.ArgumentTypeError(f"{text!r} is no number from {least} to {most}")
+    return int(text)
+
+
+def _count(text: str) -> int:
+    return _number(text, 1, MOST)
 
 
 def _choices(text: str) -> int:
-    return _count(text, MOST_CHOICES)
+    return _number(text, 1, MOST_CHOICES)
 
 
 def _natural(text: str) -> int:
-    number = int(text)
-    if number < 0:
-        raise ValueError
-    return number
+    return _number(text, 0, MOST)
 
 
 def _seconds(text: str) -> float:
-    number = float(text)
+    try:
+        number = float(text)
+    except ValueError:
+        number = 0
     if not 0 < number < 1e6:
-        raise ValueError
+        raise argparse.ArgumentTypeError(f"{text!r} is no number of seconds above 0")
     return number
-
-
-_seconds.__name__ = "number of seconds"
-_count.__name__ = f"number from 1 to {MOST}"
-_choices.__name__ = f"number from 1 to {MOST_CHOICES}"
-_natural.__name__ = "number from 0"
 
 
 def parser() -> Parser:
@@ -91,7 +90,9 @@ def parser() -> Parser:
         metavar="K",
         help="all with at most K preemptions, until one fails (--schedules limits them)",
     )
-    which("--switches", metavar="LIST", help="the plain one but for these choices: LWP.POINT:LWP,.. as a failing run prints them")
+    which(
+        "--switches", metavar="LIST", help="the plain one, except at these choices: LWP.POINT:LWP,.. as a failing run prints them"
+    )
     which("--replay", metavar="FILE", help="the one that --record FILE has kept; prints where it goes another way")
     which(
         "--strategy", choices=["random", "pct"], default="random", help="how a seed chooses: random switches, or priorities (PCT)"
@@ -105,7 +106,7 @@ def parser() -> Parser:
         help="under a seed a sleep ends at any time, or when nobody else can go on",
     )
     which("--calls", action="store_true", help="others go on only between calls, not inside of them")
-    add("--jobs", type=_count, default=1, metavar="N", help="so many runs at a time (1)")
+    add("--jobs", type=_count, default=1, metavar="N", help="makes N runs at a time (1)")
     add("--record", metavar="FILE", help="the run, or the one that fails: FILE (scenario), FILE.lines, FILE.schedule, FILE.html")
     add("--gdb", action="store_true", help="starts gdb on the process that fails, before it ends")
     add("--with", dest="tool", metavar="COMMAND", help="starts COMMAND with that process's number")
@@ -117,13 +118,13 @@ def parser() -> Parser:
     )
     add("--kill-on-debugger-exit", choices=["0", "1"], help="the sysctl of this name (1)")
     add("--limit", type=_count, default=20000, metavar="N", help="a run of more questions has no end (20000)")
-    add("--patience", type=_seconds, default=20.0, metavar="S", help="a thread that makes no call for so many seconds hangs (20)")
+    add("--patience", type=_seconds, default=20.0, metavar="S", help="a thread that makes no call for S seconds hangs (20)")
     add(
         "--output-limit",
         type=_count,
         default=64 << 20,
         metavar="BYTES",
-        help="a run may print so many, where its output is kept (67108864)",
+        help="a run whose output is kept may print so much (67108864)",
     )
     add("--digest", action="store_true", help="prints a digest of each run: its steps, answers and output")
     add("--verify", action="store_true", help="has each run's record replayed by tracehost --expect")
@@ -152,11 +153,25 @@ def one_of(given: argparse.Namespace, made: Parser) -> None:
         made.error("--gdb and --with don't go together")
     if given.gdb and which("gdb") is None:
         made.error("--gdb: gdb isn't on the path")
+    if given.tool is not None:
+        _tool(given.tool, made)
     if given.switches is not None:
         try:
             record.switches_of(given.switches)
         except ValueError:
             made.error(f"--switches: {given.switches!r} is no list of LWP.POINT:LWP")
+
+
+def _tool(command: str, made: Parser) -> None:
+    """The command of --with is there."""
+    import shlex
+
+    try:
+        words = shlex.split(command)
+    except ValueError as why:
+        made.error(f"--with: {command!r}: {why}")
+    if not words or which(words[0]) is None:
+        made.error(f"--with: {command!r}: there is no such program")
 
 
 def model_of(given: argparse.Namespace, made: Parser) -> str:
@@ -179,6 +194,12 @@ def replayed(given: argparse.Namespace, made: Parser) -> None:
         schedule = record.read_schedule(given.replay)
     except (OSError, ValueError) as why:
         made.error(f"--replay: {given.replay}.schedule: {getattr(why, 'strerror', None) or why}")
+    for path in (given.replay, f"{given.replay}.lines"):
+        try:
+            with open(path):
+                pass
+        except OSError as why:
+            made.error(f"--replay: {path}: {why.strerror}")
     given.switches = schedule["switches"]
     given.calls, given.strict, given.limit = (
         bool(schedule.get("calls")),
@@ -199,6 +220,8 @@ def recordable(path: str, made: Parser) -> None:
         with tempfile.TemporaryFile(dir=os.path.dirname(path) or "."):
             pass
         if os.path.exists(path):
-            os.close(os.open(path, os.O_WRONLY))
+            os.close(os.open(path, os.O_WRONLY | os.O_NONBLOCK))
     except OSError as why:
         made.error(f"--record: {path}: {why.strerror}")
+    if os.path.exists(path) and not os.path.isfile(path):
+        made.error(f"--record: {path}: it isn't a file")

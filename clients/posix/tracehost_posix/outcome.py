@@ -1,4 +1,4 @@
-"""What comes of a run: the broker's lines, of which broker/outcome.c is the other end, and the words for it."""
+"""What comes of a run: the broker's lines, which broker/outcome.c writes, and the words for it."""
 
 from __future__ import annotations
 
@@ -13,7 +13,7 @@ from .setting import Options, Switch
 Kept = list[tuple[str, str]]
 """The steps of a run, as JSON, and the words of their answers."""
 LOOPS = 5
-"""Of a run without an end it is said which of the last questions were asked most, so many of them."""
+"""The most questions that are printed of a run without an end: those that were asked most at last."""
 
 
 class Choice(NamedTuple):
@@ -24,7 +24,9 @@ class Choice(NamedTuple):
     """The running LWP can't go on: another choice preempts nobody."""
     others: tuple[int, ...]
     state: int
-    """Two choices with the same number come after the same questions and steps."""
+    """Two choices with the same number come after the same legs, but for the order of those that commute."""
+    leg: str = ""
+    """What the leg touches that the running LWP made then, in the broker's numbers; empty for everything."""
 
 
 class Result(NamedTuple):
@@ -44,6 +46,10 @@ class Result(NamedTuple):
     """Stops that were passed over."""
     examined: int = 0
     """Registers that were read or set, and steps by an instruction."""
+    repeats: bool = False
+    """It was left where it would only have repeated another one."""
+    legs: int = 0
+    """Two runs with the same number differ only in the order of legs that commute."""
     points: tuple[Choice, ...] = ()
     covered: tuple[tuple[Met, bool], ...] = ()
     """Calls at which others could go on, and whether one did."""
@@ -182,7 +188,7 @@ def fault(text: str) -> str:
 
 
 def unquote(text: str) -> str:
-    """What stands for bytes as %XX."""
+    """The text, with bytes in place of their %XX."""
     if "%" not in text:
         return text
     from urllib.parse import unquote as unquoted
@@ -210,6 +216,9 @@ class Answer:
         elif name.startswith("point "):
             tid, point, forced, state, *others = map(int, name.split(" ")[1:])
             self.points.append(Choice(Switch(tid, point, 0), bool(forced), tuple(others), state))
+        elif name.startswith("leg "):
+            if self.points:
+                self.points[-1] = self.points[-1]._replace(leg=name[4:])
         elif name == "waits":
             pid, tid, stopped, tracer, reporting, holder = map(int, fields[:6])
             self.waiting.append(Waiting(pid, tid, unquote(fields[6]), bool(stopped), tracer or None, bool(reporting), holder))
@@ -222,14 +231,26 @@ class Answer:
 
     def result(self, line: str, options: Options) -> Result:
         """What the last line says: how it has ended, figures, switches, and what has failed."""
-        name, *figures, switches, text = line.split(" ", 8)
+        name, *figures, switches, text = line.split(" ", 9)
         why = failure(unquote(text), self.waiting, options) if name == "failed" else None
         if why == endless(options.limit):
             self.blamed = loops(self.last)
-        questions, steps, choices, passed, skipped, examined = map(int, figures)
+        questions, steps, choices, passed, skipped, examined, legs = map(int, figures)
         schedule = switches if switches != "-" else ""
         return Result(
-            why, questions, steps, choices, schedule, "", passed, skipped, examined, tuple(self.points), tuple(self.met.items())
+            why,
+            questions,
+            steps,
+            choices,
+            schedule,
+            "",
+            passed,
+            skipped,
+            examined,
+            name == "repeats",
+            legs,
+            tuple(self.points),
+            tuple(self.met.items()),
         )
 
 

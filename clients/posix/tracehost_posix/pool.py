@@ -21,9 +21,9 @@ if TYPE_CHECKING:
 
 _PR_SET_PDEATHSIG = 1
 DEATHS = 3
-"""A task whose worker has died so often isn't tried again."""
+"""How often a task whose worker died is tried."""
 _SAMPLE = 0.05
-"""For so many seconds it is looked which processors have nothing to do."""
+"""The seconds of a look at which processors have nothing to do."""
 
 
 class WorkerEnded(Exception):
@@ -247,7 +247,7 @@ class Pool:
             due += 1
 
     def _sit(self, broker: Broker) -> None:
-        """A single broker begins where the host has started it, and moves to the idlest processor once that is known."""
+        """A single broker begins on the processor that the host chose, and moves to the idlest one once that is known."""
         if self._seat is not None:
             self._seat.look(broker.pids())
         elif self._looks.are_known():
@@ -285,7 +285,7 @@ class Pool:
         worker.given.append(number)
         try:
             worker.send(self._tasks[number])
-        except OSError:  # it has died, which is met where it is to answer
+        except OSError:  # it has died: the read of its answer finds that
             pass
 
     def _receive(self, done: dict[int, Result]) -> None:

@@ -24,6 +24,8 @@ def check(path: str) -> str:
     """The program's path, if it is one with the runtime."""
     found = path if "/" in path else which(f"./{path}") or which(path) or path
     try:
+        if os.path.exists(found) and not os.path.isfile(found) and not os.path.isdir(found):
+            raise NotRunnable(f"{path}: it isn't a file")
         with open(found, "rb") as file:
             text = file.read()
     except OSError as why:

@@ -65,10 +65,15 @@ def read_schedule(path: str) -> dict[str, Any]:
 
     with open(path + ".schedule") as file:
         schedule = json.load(file)
-    if not isinstance(schedule, dict) or not isinstance(schedule.get("switches"), str):
-        raise ValueError("no schedule")
-    switches_of(schedule["switches"])
-    return schedule
+    try:
+        switches_of(schedule["switches"])
+        words, numbers = schedule["program"], (schedule["limit"], schedule.get("kill_on_debugger_exit") or 0)
+        known = all(isinstance(word, str) for word in words) and words and all(isinstance(number, int) for number in numbers)
+    except (ValueError, KeyError, TypeError, AttributeError):
+        known = False
+    if not known:
+        raise ValueError("it isn't one that --record has written")
+    return schedule  # type: ignore[no-any-return]
 
 
 def difference(path: str, kept: Kept) -> str | None:
@@ -78,7 +83,7 @@ def difference(path: str, kept: Kept) -> str | None:
     with open(path + ".lines") as file:
         answers = file.read().splitlines()
     for number, (step, reply) in enumerate(kept):
-        if number >= len(steps):
+        if number >= min(len(steps), len(answers)):
             return f"step {number + 1}: the recorded run has ended; this one makes {step}"
         if step != steps[number]:
             return f"step {number + 1}: recorded {steps[number]}; this run makes {step}"

@@ -14,31 +14,37 @@ from .program import which
 if TYPE_CHECKING:
     import re
 
+NO_VIEWER = "the viewer isn't there: there is no tracehost-view"
 TOP = os.path.realpath(os.path.join(os.path.dirname(__file__), "..", "..", ".."))
 
 
 class Unwritten(Exception):
-    """Standard output can't be written."""
+    """Standard output or error can't be written: its descriptor, and why."""
+
+    def __init__(self, number: int, why: str) -> None:
+        super().__init__(f"{'standard output' if number == 1 else 'standard error'}: {why}")
+        self.number = number
 
 
 @contextmanager
-def writing() -> Iterator[None]:
-    """What is written in it goes to standard output."""
+def writing(number: int = 1) -> Iterator[None]:
+    """What is written in it goes to standard output, or to standard error."""
     try:
         yield
     except OSError as why:
-        raise Unwritten(f"standard output: {why.strerror}") from why
+        raise Unwritten(number, why.strerror) from why
 
 
 def say(text: str) -> None:
     """A line on standard error."""
-    print(f"tracehost-run: {text}", file=sys.stderr)
+    print_lines([f"tracehost-run: {text}"])
 
 
 def print_lines(lines: Iterable[str]) -> None:
-    """Lines on standard error, behind one of `say`."""
-    for line in lines:
-        print(line, file=sys.stderr)
+    """Lines on standard error."""
+    with writing(2):
+        for line in lines:
+            print(line, file=sys.stderr, flush=True)
 
 
 _said: set[str] = set()
@@ -96,26 +102,32 @@ def _source_lines(addresses: set[tuple[str, int]]) -> dict[tuple[str, int], str]
 
 
 def page(model: str, path: str, title: str) -> str | None:
-    """The viewer's page of a record, as PATH.html, with the program's calls by name; a text if it can't be made."""
+    """The viewer's page of a record, as PATH.html, with the program's calls by name; a text if it can't be made.
+
+    There is then no page, not the one of an older run either.
+    """
+    import contextlib
     import re
     import subprocess
     import tempfile
 
+    with contextlib.suppress(FileNotFoundError):
+        os.unlink(path + ".html")
     viewer = _viewer()
     if viewer is None:
-        return "the viewer isn't there: there is no tracehost-view"
+        return NO_VIEWER
     lines = subprocess.run([model, "--json", path], capture_output=True)
     if lines.returncode != 0:
-        return lines.stderr.decode("utf-8", "replace").strip()
+        return lines.stderr.decode("utf-8", "replace").strip() or f"{model}: status {lines.returncode}"
     with open(path) as file:
         scenario = re.sub(r'"call":"other","code":(\d+)', _named_call, file.read())
-    with tempfile.TemporaryDirectory(prefix="tracehost-") as folder, open(path + ".html", "wb") as to:
+    with tempfile.TemporaryDirectory(prefix="tracehost-") as folder:
         labelled = os.path.join(folder, os.path.basename(path))
         with open(labelled, "w") as file:
             file.write(scenario)
-        words = [*viewer, "-t", title, "-", labelled]
-        done = subprocess.run(words, input=lines.stdout, stdout=to, stderr=subprocess.PIPE)
-    return None if done.returncode == 0 else done.stderr.decode("utf-8", "replace").strip()
+        words = [*viewer, f"--title={title}", f"--output={path}.html", "-", labelled]
+        done = subprocess.run(words, input=lines.stdout, stderr=subprocess.PIPE)
+    return None if done.returncode == 0 else done.stderr.decode("utf-8", "replace").strip() or f"status {done.returncode}"
 
 
 def beside(name: str) -> str | None:

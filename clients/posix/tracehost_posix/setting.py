@@ -7,6 +7,7 @@ while it ran. So a switch keeps its place if one before it is taken away.
 from __future__ import annotations
 
 from collections.abc import Iterable
+from itertools import chain, repeat
 from typing import NamedTuple
 
 
@@ -22,11 +23,11 @@ class Options(NamedTuple):
     strict: bool = False
     """No handler runs for a signal that a debugger passes on, and a traced process stops for signals that are discarded."""
     limit: int = 20000
-    """After so many questions a run counts as endless."""
+    """The questions after which a run counts as endless."""
     patience: float = 20.0
-    """A thread that makes no call for so many seconds hangs."""
+    """The seconds after which a thread that makes no call hangs."""
     output_limit: int = 64 << 20
-    """A run whose output is kept may print so many bytes."""
+    """The most bytes that a run whose output is kept may print."""
     coverage: bool = False
     """Notes the calls at which others could go on."""
 
@@ -54,9 +55,10 @@ class Switch(NamedTuple):
     to: int
 
 
-def text_of(switches: Iterable[Switch]) -> str:
-    """Switches for --switches: `LWP.POINT:LWP,..`."""
-    return ",".join(f"{switch.tid}.{switch.point}:{switch.to}" for switch in switches)
+def text_of(switches: Iterable[Switch], asleep: Iterable[str] = ()) -> str:
+    """Switches for --switches: `LWP.POINT:LWP,..`; for the broker, with what `Task.asleep` has of them."""
+    legs = (f"={leg}" if leg else "" for leg in asleep)
+    return ",".join(f"{switch.tid}.{switch.point}:{switch.to}{leg}" for switch, leg in zip(switches, chain(legs, repeat(""))))
 
 
 class Task(NamedTuple):
@@ -68,8 +70,12 @@ class Task(NamedTuple):
     length: int = 0
     """Choices of a run, for priorities."""
     switches: tuple[Switch, ...] | None = None
+    asleep: tuple[str, ...] = ()
+    """What the legs touch that the switches postpone. The LWP of such a leg sleeps until another leg touches that."""
     points: bool = False
     """Whether the result has the choices that a search goes on from."""
+    after: tuple[int, int] | None = None
+    """Of a search: the number of what its last switch comes after, and who goes on."""
 
     def name(self) -> str:
         return "the plain schedule" if self.seed is None else f"--seed {self.seed}"

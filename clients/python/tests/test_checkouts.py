@@ -205,7 +205,7 @@ def pythons() -> list[str]:
 
 
 @pytest.mark.parametrize("python", pythons())
-@pytest.mark.parametrize("name", ["tracehost", "recording", "blocking", "library"])
+@pytest.mark.parametrize("name", ["tracehost", "programs", "recording", "blocking", "library"])
 def test_each_python(python: str, name: str) -> None:
     folder = pathlib.Path(__file__).parent
     libraries = {"TRACEHOST_LIBRARY": str(TOP / RELEASE / "libtracehost.so"), "TRACEHOST": str(TOP / RELEASE / "tracehost")}

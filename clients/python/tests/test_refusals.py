@@ -2,12 +2,13 @@
 
 Sessions of random steps go through the library and a pipe. Each answer is compared with the conditions of
 `tracehost.refusals`, looked up in the user's rows: the first that holds has the errno, and none holds for a step that
-was done.
+was done. TRACEHOST_TEST_SCALE multiplies the sessions.
 """
 
 from __future__ import annotations
 
 import errno
+import os
 import pathlib
 import random
 import re
@@ -24,6 +25,7 @@ from tracehost.refusals import Asked, Rows, asked_by, causes
 
 FORMAT = pathlib.Path(__file__).resolve().parents[3] / "docs" / "FORMAT.md"
 TRANSPORTS: list[Literal["library", "pipe"]] = ["library", "pipe"]
+SCALE = int(os.environ.get("TRACEHOST_TEST_SCALE", "1"))
 Step = dict[str, Any]
 
 
@@ -99,7 +101,7 @@ def first_cause(host: Host, asked: Asked) -> str | None:
 @pytest.mark.parametrize("transport, sessions", [("library", 120), ("pipe", 10)])
 def test_the_first_condition_that_holds_gives_the_errno(transport: Literal["library", "pipe"], sessions: int) -> None:
     met: set[str] = set()
-    for seed in range(sessions):
+    for seed in range(sessions * SCALE):
         chance = Chance(seed)
         with Host(transport=transport) as host:
             for _ in range(250):
@@ -141,11 +143,10 @@ def host(request: pytest.FixtureRequest) -> Iterator[Host]:
         yield made
 
 
-def test_each_call_and_why(host: Host) -> None:
+def test_each_request_and_why(host: Host) -> None:
     user = host.user(1001)
-    one, two = user.process(user.spawn()), user.spawn()
-    three = user.process(user.spawn())
-    turn, ptrace = user.turn, one.ptrace
+    one, _, three = user.process(user.spawn()), user.spawn(), user.process(user.spawn())
+    ptrace = one.ptrace
     assert told(lambda: ptrace(Request.PT_CONTINUE, 1005)) == (
         "ptrace(PT_CONTINUE, 1005) by 1000: ESRCH, user 1001 has no process 1005"
     )
@@ -168,10 +169,16 @@ def test_each_call_and_why(host: Host) -> None:
     assert told(lambda: ptrace(Request.PT_CONTINUE, 1001, 32)) == ("ptrace(PT_CONTINUE, 1001, 32) by 1000: EINVAL, 32 is no signal")
     assert told(lambda: ptrace(Request.PT_GETLWPLIST, 1001, 0)).endswith("EINVAL, data is 0, and has to be how many LWPs to list")
     assert told(lambda: ptrace(Request.PT_SET_EVENT_MASK, 1001, 0x41)) == (
-        "ptrace(PT_SET_EVENT_MASK, 1001, 0x41) by 1000: EINVAL, an event of the mask has no name"
+        "ptrace(PT_SET_EVENT_MASK, 1001, 0x41) by 1000: EINVAL, the mask's 0x40 is no event"
     )
     ptrace(Request.PT_CONTINUE, 1001)
     assert told(lambda: ptrace(Request.PT_CONTINUE, 1001)).endswith("EBUSY, 1001 is in no trace stop")
+
+
+def test_each_other_call_and_why(host: Host) -> None:
+    user = host.user(1001)
+    one, two, three = user.process(user.spawn()), user.spawn(), user.process(user.spawn())
+    turn = user.turn
     assert told(lambda: one.wait4(0)) == "wait4(0) by 1000: EINVAL, which is 0, and there are no process groups"
     assert told(lambda: one.wait4(1002)).endswith("ECHILD, 1002 is neither a child of 1000 nor traced by it")
     assert told(lambda: three.handle()) == "handle() by 1002: ECHILD, 1002 has no child and traces no process"

@@ -1,16 +1,20 @@
-"""The command ``tracehost``, and ``python -m tracehost``: runs the program that was installed with this package.
+"""The command ``tracehost``, and ``python -m tracehost``: runs the program that was installed with this package. The commands
+``tracehost-view`` and ``tracehost-perfetto`` are those of its viewer.
 
 ``python -m tracehost`` without words on a terminal is the prompt of ``python -m tracehost.shell``.
 """
 
 from __future__ import annotations
 
+import importlib.machinery
+import importlib.util
 import os
 import signal
 import sys
 from typing import NoReturn
 
 from .program import bundled
+from .viewing import viewer_folders
 
 
 def main() -> NoReturn:
@@ -23,6 +27,28 @@ def main() -> NoReturn:
     for ignored in (signal.SIGPIPE, signal.SIGXFSZ):  # by Python; the program would inherit that
         signal.signal(ignored, signal.SIG_DFL)
     os.execv(program, ["tracehost", *sys.argv[1:]])
+
+
+def view() -> None:
+    _of_viewer("make")
+
+
+def perfetto() -> None:
+    _of_viewer("perfetto")
+
+
+def _of_viewer(name: str) -> None:
+    """Runs a script of the viewer by the name that it was called by, in the package or its checkout."""
+    sys.dont_write_bytecode = True
+    script = next((folder / name for folder in viewer_folders() if (folder / name).exists()), None)
+    if script is None:
+        sys.exit(f"{os.path.basename(sys.argv[0])}: this package was installed without the viewer")
+    loader = importlib.machinery.SourceFileLoader(f"viewer_{name}", str(script))
+    spec = importlib.util.spec_from_loader(loader.name, loader)
+    assert spec is not None
+    module = sys.modules[loader.name] = importlib.util.module_from_spec(spec)
+    loader.exec_module(module)
+    module.main(sys.argv[1:])
 
 
 if __name__ == "__main__":

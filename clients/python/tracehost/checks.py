@@ -15,19 +15,21 @@ from .replies import New
 _Kind = TypeVar("_Kind")
 
 
-def whole(name: str, value: object) -> int:
-    """The value as a whole number. Neither a bool nor a signal of this system is one: its number may be another's."""
+def whole(name: str, value: object, kind: type[enum.Enum] = Signal) -> int:
+    """The value as a whole number. Neither a bool nor a signal of this system is one: its number may be another's. `kind` has
+    the names that a text may mean.
+    """
     if isinstance(value, (bool, signal.Signals)):
-        raise _wrong(name, "a whole number", value)
+        raise _wrong(name, value, kind)
     try:
         return int(operator.index(value))  # type: ignore[arg-type]  # the index of an IntEnum is one in Python 3.9
     except TypeError:
-        raise _wrong(name, "a whole number", value) from None
+        raise _wrong(name, value, kind) from None
 
 
-def word(name: str, value: object) -> int:
+def word(name: str, value: object, kind: type[enum.Enum] = Signal) -> int:
     """A number of C's 32 bits, as the protocol has it: -1 is 4294967295."""
-    number = whole(name, value)
+    number = whole(name, value, kind)
     return number + (1 << 32) if -(1 << 31) <= number < 0 else number
 
 
@@ -39,8 +41,8 @@ def number_of_process(name: str, value: object) -> int:
 def of_kind(name: str, kind: type[_Kind], value: Any) -> _Kind:
     """A value that has to be of this class."""
     if not isinstance(value, kind):
-        wrong = _wrong(name, kind.__name__, value)
-        raise TypeError(f"{wrong}{_hint_of_kind(kind, value)}")
+        foreign = f" of {type(value).__name__}" if isinstance(value, enum.Enum) else ""
+        raise TypeError(f"{name}: expected {kind.__name__}, got {value!r}{foreign}{_hint_of_kind(kind, value)}")
     return value
 
 
@@ -53,7 +55,7 @@ def without_foreign_signals(step: Mapping[str, Any]) -> Mapping[str, Any]:
     for key, value in step.items():
         for item in value if isinstance(value, (list, tuple)) else (value,):
             if isinstance(item, signal.Signals):
-                raise _wrong(key, "a whole number", item)
+                raise _wrong(key, item, Signal)
             if isinstance(item, Request):
                 raise TypeError(f'{key}: expected a name, got {item!r}; write "{item.name}"')
             if isinstance(item, Mapping):
@@ -61,25 +63,24 @@ def without_foreign_signals(step: Mapping[str, Any]) -> Mapping[str, Any]:
     return step
 
 
-def _wrong(name: str, wanted: str, value: object) -> TypeError:
-    return TypeError(f"{name}: expected {wanted}, got {value!r}{_hint(wanted, value)}")
+def _wrong(name: str, value: object, kind: type[enum.Enum]) -> TypeError:
+    return TypeError(f"{name}: expected a whole number, got {value!r}{_hint(value, kind)}")
 
 
-def _hint(wanted: str, value: object) -> str:
-    """What to write."""
+def _hint(value: object, kind: type[enum.Enum]) -> str:
+    """What to write in the place of a value that is no whole number."""
     if isinstance(value, New):
         return "; it has a pid and a tid"
-    if wanted == "a whole number":
-        if isinstance(value, bool):
-            return f"; write {int(value)}"
-        if isinstance(value, signal.Signals) and value.name not in Signal.__members__:
-            return f", a signal of this system; FreeBSD has no {value.name}"
-        if isinstance(value, signal.Signals):
-            return f", a signal of this system; write Signal.{value.name}"
-        if isinstance(value, float) and value.is_integer():
-            return f"; write {int(value)}"
-        if isinstance(value, str):
-            return f"; write {int(value)}" if value.strip("-").isdecimal() else _member(value, Signal)
+    if isinstance(value, bool):
+        return f"; write {int(value)}"
+    if isinstance(value, signal.Signals) and value.name not in Signal.__members__:
+        return f", a signal of this system; FreeBSD has no {value.name}"
+    if isinstance(value, signal.Signals):
+        return f", a signal of this system; write Signal.{value.name}"
+    if isinstance(value, float) and value.is_integer():
+        return f"; write {int(value)}"
+    if isinstance(value, str):
+        return f"; write {int(value)}" if value.strip("-").isdecimal() else _member(value, kind)
     return f" of {type(value).__name__}" if isinstance(value, enum.Enum) else ""
 
 
@@ -87,18 +88,22 @@ def _hint_of_kind(kind: type[Any], value: object) -> str:
     """What to write in the place of a value that isn't of this class."""
     if isinstance(value, type):
         return f"; write {value.__name__}()"
-    if issubclass(kind, enum.Enum) and not isinstance(value, enum.Enum):
-        return _member(value, kind)
-    return ""
+    if not issubclass(kind, enum.Enum):
+        return f"; write {kind.__name__}(..)"
+    return "" if isinstance(value, enum.Enum) else _member(value, kind)
+
+
+_FEW = 8
 
 
 def _member(value: object, kind: type[enum.Enum]) -> str:
-    """The member of this value or name, or of one like it."""
+    """The member of this value or name, or of one like it; of few members all of them."""
     for member in kind:
         if value == member.value or value == member.name:
             return f"; write {kind.__name__}.{member.name}"
-    if not isinstance(value, str):
-        return ""
-    names = {text: member.name for member in kind for text in (member.name, str(member.value))}
-    near = difflib.get_close_matches(value, names, 1)
-    return f"; did you mean {kind.__name__}.{names[near[0]]}?" if near else ""
+    # the name, its last part, and the word of a scenario
+    words = {text.lower(): m.name for m in kind for text in (str(m.value), m.name.rpartition("_")[2], m.name)}
+    near = difflib.get_close_matches(value.lower(), words, 1) if isinstance(value, str) else []
+    if near:
+        return f"; did you mean {kind.__name__}.{words[near[0]]}?"
+    return f"; {kind.__name__} has {', '.join(member.name for member in kind)}" if len(kind) <= _FEW else ""

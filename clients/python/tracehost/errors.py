@@ -14,7 +14,7 @@ class Held(Exception):
 
 
 class RefusedStep(ValueError):
-    """What was sent is no step, and nothing was done."""
+    """The text that was sent isn't a step. Nothing was done."""
 
     fault: str
     """The fault's name in docs/FORMAT.md, section 8."""

@@ -327,9 +327,8 @@ class User:
     def turn(self, lwp: int, act: Act, *, block: bool = False, timeout: float | None = None) -> Turned:
         """The turn of an LWP: None if it did its act, else what came of the act or instead of it.
 
-        ESRCH if the user has no such LWP; EINVAL for an act that doesn't go with what the LWP is in; EAGAIN at a
-        limit. If it doesn't run, raises Held. With `block` the call sleeps instead until another thread lets the LWP
-        go on, and raises TimeoutError after `timeout` seconds.
+        If it doesn't run, raises Held. With `block` the call sleeps instead until another thread lets the LWP go on,
+        and raises TimeoutError after `timeout` seconds.
         """
         _check_timeout(block, timeout)
         call = ("turn", self.uid, word("lwp", lwp), check_act(act))
@@ -399,14 +398,13 @@ class Process:
         - the number of LWPs that PT_GETLWPLIST asks for.
 
         PT_LWPINFO returns an `LwpInfo`, PT_GET_EVENT_MASK an `EventMask`, PT_GETNUMLWPS a number, PT_GETLWPLIST the
-        numbers of LWPs in order of birth, and every other request None. EPERM if the target isn't traced. EBUSY
-        if another process traces it, or wait4 hasn't reported its stop yet. ESRCH if the user has no such
-        process or LWP. EINVAL for a bad `data`, or if tracers would make a cycle.
+        numbers of LWPs in order of birth, and every other request None. EBUSY mostly means that wait4 hasn't
+        reported the stop yet; docs/ERRNOS.md explains each errno.
         """
         of_kind("request", Request, request)
         if request == Request.PT_TRACE_ME:
             return self._call("ptrace", request, 0, 0)
-        if request == Request.PT_SET_EVENT_MASK and whole("data", data) & ~ALL_EVENTS:
+        if request == Request.PT_SET_EVENT_MASK and whole("data", data, EventMask) & ~ALL_EVENTS:
             # bits without a name: the model is asked for what it refuses first, and EINVAL comes last
             self.ptrace(Request.PT_GET_EVENT_MASK, target)
             asked = Asked("ptrace", self.user.uid, self.pid, (request, target, data))
@@ -427,7 +425,7 @@ class Process:
         something to collect. It raises TimeoutError after `timeout` seconds. ECHILD if the caller has none that
         `which` names; EINVAL if `which` is 0 or below -1.
         """
-        asked = int(whole("options", options))
+        asked = whole("options", options, WaitOption)
         if asked:
             names_of(asked, OPTIONS)  # ValueError if a bit has no name
         sleeps = block and not asked & WaitOption.WNOHANG
@@ -475,8 +473,6 @@ class Process:
         `Decision`, or a pair of Decision.CONTINUE or Decision.DETACH and the signal to pass on. Then the request is
         made, a step of its own: another thread's step may come before it, and it may raise what `ptrace` raises. The
         reply has that decision, and None for its handler.
-
-            debugger.handle_with(lambda stop: Decision.KILL if stop.code == EXECVE else Decision.CONTINUE)
         """
         handled = self.handle(block=True, timeout=timeout) if block else self.handle(timeout=timeout)
         if not isinstance(handled, Handled) or handled.decision not in (Decision.LEAVE, Decision.DECLINE):

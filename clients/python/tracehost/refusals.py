@@ -53,6 +53,11 @@ class Asked(NamedTuple):
         return _signed(self.first if self.op == "sigaction" else self.data)
 
     @property
+    def unnamed(self) -> int:
+        """The bits of an event mask that are no events."""
+        return self.data & ~ALL_EVENTS
+
+    @property
     def kind(self) -> str:
         """What the target's number may be of."""
         return "process" if self.target <= _LAST_PID else "LWP"
@@ -234,7 +239,13 @@ _OPS: dict[str, tuple[Cause, ...]] = {
     "install": (_CALLER, Cause("EAGAIN", "user {a.uid} has 64 stop handlers", _by_arguments)),
     "handle": (_CALLER, Cause("ECHILD", _NO_CHILD, lambda a, rows: not rows.has_child(a.caller, -1))),
     "turn": (
-        Cause("ESRCH", "user {a.uid} has no LWP {a.first}", lambda a, rows: rows.lwp(a.first) is None),
+        Cause("ESRCH", "{a.first} is no LWP, whose numbers begin at 100000", _by_arguments, lambda a: a.first <= _LAST_PID),
+        Cause(
+            "ESRCH",
+            "user {a.uid} has no LWP {a.first}",
+            lambda a, rows: rows.lwp(a.first) is None,
+            lambda a: a.first > _LAST_PID,
+        ),
         Cause("EINVAL", "LWP {a.first} is in no system call", lambda a, rows: not _is_in_call(a, rows), _leaves),
         Cause("EINVAL", "LWP {a.first} is in a system call, which it has to leave first", _is_in_call, lambda a: not _leaves(a)),
         Cause(
@@ -249,7 +260,13 @@ _OPS: dict[str, tuple[Cause, ...]] = {
 
 _TARGET = (
     _CALLER,
-    Cause("ESRCH", "user {a.uid} has no {a.kind} {a.target}", lambda a, rows: rows.target(a.target) is None),
+    Cause("ESRCH", "the target is 0, which is no process", _by_arguments, lambda a: a.target == 0),
+    Cause(
+        "ESRCH",
+        "user {a.uid} has no {a.kind} {a.target}",
+        lambda a, rows: rows.target(a.target) is None,
+        lambda a: a.target != 0,
+    ),
     Cause("ESRCH", "{a.target} has ended", lambda a, rows: _target(a, rows).state == ProcessState.ZOMBIE.value),
 )
 _PTRACE: dict[str, tuple[Cause, ...]] = {
@@ -288,9 +305,9 @@ _PTRACE: dict[str, tuple[Cause, ...]] = {
         ),
         Cause(
             "EINVAL",
-            "an event of the mask has no name",
+            "the mask's {a.unnamed:#x} is no event",
             _by_arguments,
-            lambda a: a.first == Request.PT_SET_EVENT_MASK and bool(a.data & ~ALL_EVENTS),
+            lambda a: a.first == Request.PT_SET_EVENT_MASK and bool(a.unnamed),
         ),
     ),
 }

@@ -71,7 +71,7 @@ class Shell(cmd.Cmd):
         try:
             self._send(json.dumps(step_of(shlex.split(line), self._uid), separators=(",", ":")))
         except (Unclear, ValueError) as error:
-            self._print(f"{error}; `help` lists the steps")
+            self._print(f"{error}{'' if str(error).endswith('?') else ';'} `help` lists the steps")
 
     def onecmd(self, line: str) -> bool:
         if line == "EOF":

@@ -20,7 +20,7 @@ COMMANDS = ("user", "list", "undo", "save", "view", "help", "quit")
 
 
 class Unclear(Exception):
-    """The words are no step."""
+    """The words aren't a step."""
 
 
 def step_of(words: Sequence[str], uid: int) -> Step:
@@ -40,7 +40,7 @@ def step_of(words: Sequence[str], uid: int) -> Step:
 
 
 def _no_step(words: Sequence[str]) -> str:
-    """Why these words are no step."""
+    """Why these words aren't a step."""
     if len(words) > 1 and words[0].isdecimal() and words[1] in (*CALLER_OPS, *ACTS, *Request.__members__):
         kind = "turn" if words[1] in ACTS else "ptrace" if words[1] not in CALLER_OPS else words[1]
         rest = words[2:] if kind == words[1] else words[1:]

@@ -76,6 +76,6 @@ class Rule(NamedTuple):
     def _object(self) -> str:
         decision = of_kind("decision", Decision, self.decision).value
         signal = "" if self.signal is None else f',"signal":{whole("signal", self.signal)}'
-        flags = f',"flags":{names_of(whole("flags", self.flags), STOP_FLAGS)}' if self.flags else ""
+        flags = f',"flags":{names_of(whole("flags", self.flags, StopFlag), STOP_FLAGS)}' if self.flags else ""
         passed = "" if self.pass_signal is None else f',"pass":{whole("pass_signal", self.pass_signal)}'
         return f'{{"decision":"{decision}"{signal}{flags}{passed}}}'

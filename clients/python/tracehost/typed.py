@@ -102,7 +102,7 @@ def _c_rule(rule: Rule) -> CRule:
     """Raises NotTyped if the rule has a number that is refused or that the library reads in another way."""
     signal = 0 if rule.signal is None else whole("signal", rule.signal)
     passed = 0 if rule.pass_signal is None else whole("pass_signal", rule.pass_signal)
-    flags = whole("flags", rule.flags)
+    flags = whole("flags", rule.flags, StopFlag)
     bits = sum(1 << number for number, flag in enumerate(_FLAGS) if flag & flags)
     if (rule.signal is not None and not 1 <= signal <= 31) or not 0 <= passed <= 31 or flags_of(bits) != flags:
         raise NotTyped

@@ -57,10 +57,15 @@ def _output_of(command: Sequence[str]) -> bytes:
     return done.stdout
 
 
+def viewer_folders() -> list[Path]:
+    """Where the viewer may be: in this package, or in its checkout."""
+    here = Path(__file__).resolve()
+    return [here.parent / "viewer", *(checkout / "viewer" for checkout in list(here.parents)[3:4])]
+
+
 def _viewer(program: str) -> list[str]:
     """The command that makes a page: of this package or its checkout, else installed."""
-    here = Path(__file__).resolve()
-    for folder in (here.parent / "viewer", *(checkout / "viewer" for checkout in list(here.parents)[3:4])):
+    for folder in viewer_folders():
         if (folder / "make").exists():
             return [sys.executable, str(folder / "make")]
     installed = shutil.which("tracehost-view")

@@ -11,8 +11,10 @@ pub enum Error {
     Errno(Errno),
     /// The caller, or the LWP at its turn, doesn't run, and nothing changes: it is also counted as an answer.
     Held,
-    /// A user is not one of 1001 to 1064, or there are more than 16 rules.
+    /// A user is not one of 1001 to 1064.
     Invalid,
+    /// A stop handler has at most 16 rules.
+    TooManyRules,
     /// Memory ran out before a step was made.
     NoMemory,
     /// Memory ran out for the text of an answer: [`Session::last_line`](crate::Session::last_line) has it.
@@ -41,7 +43,8 @@ impl fmt::Display for Error {
         match self {
             Error::Errno(errno) => errno.fmt(f),
             Error::Held => f.pad("The caller or the LWP doesn't run, and the step isn't made"),
-            Error::Invalid => f.pad("A user is not 1001 to 1064, or there are more than 16 rules"),
+            Error::Invalid => f.pad("A user is not 1001 to 1064"),
+            Error::TooManyRules => f.pad("A stop handler has at most 16 rules"),
             Error::NoMemory => f.pad("Out of memory, and no step is made"),
             Error::NoText => f.pad("Out of memory for the text of an answer"),
             Error::TooMany => f.pad("The user has had all its answers"),

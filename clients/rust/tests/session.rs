@@ -34,7 +34,7 @@ fn errors() {
         flags: StopFlags::empty(),
         decision: Decision::Leave,
     };
-    assert_eq!(session.install(DEBUGGER, &[rule; 17]), Err(Error::Invalid));
+    assert_eq!(session.install(DEBUGGER, &[rule; 17]), Err(Error::TooManyRules));
     assert_eq!(session.last_line().unwrap(), "1001 3 ok", "nothing of this was a step");
     assert_eq!(session.install(DEBUGGER, &[rule; 16]), Ok(()));
     let target = Caller {
