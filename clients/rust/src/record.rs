@@ -61,7 +61,10 @@ impl Recording {
     pub fn create(scenario: &Path, lines: Option<&Path>, kill_on_debugger_exit: bool) -> io::Result<Recording> {
         let mut scenario = Output::create(scenario)?;
         let lines = lines.map(Output::create).transpose()?;
-        let head = format!("{{\"kill_on_debugger_exit\":{},\"steps\":[", u8::from(kill_on_debugger_exit));
+        let head = format!(
+            "{{\"kill_on_debugger_exit\":{},\"steps\":[",
+            u8::from(kill_on_debugger_exit)
+        );
         scenario.add(head.as_bytes(), END)?;
         Ok(Recording {
             scenario,

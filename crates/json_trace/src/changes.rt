@@ -14,11 +14,7 @@ struct Changes<R: Row> {
 }
 
 /// Compares two lists of rows.
-fn changes_of<R: Row>(
-    alloc: Global,
-    before: &[R],
-    after: &[R],
-) -> Result<Changes<R>, AllocError> {
+fn changes_of<R: Row>(alloc: Global, before: &[R], after: &[R]) -> Result<Changes<R>, AllocError> {
     let mut changed = Vec::new(alloc);
     let mut removed = Vec::new(alloc);
     let mut rest = before;

@@ -1,5 +1,5 @@
 -- What an open session is, and what its calls do.
-use Rattle.std.specs.Prelude.{⊥, ◌≡◌, ℕ, ◌-◌, ◌+◌, ◌^◌, List, Option, Some, None, Ok, Err, slice_index}
+use Rattle.std.specs.Prelude.{◌≡◌, ℕ, ◌-◌, ◌+◌, ◌^◌, List, Option, Some, None, Ok, Err, slice_index}
 use Rattle.{pid_blocks.specs.Users.IsUser, requests.specs.{Hosts.Steps as HostSteps, Machine.Machine}, scenario_runs.specs.declared.style.Style.Style}
 use Rattle.step_types.specs.{Plain.UserStep, Plain.PlainStep, declared.Reply.Reply}
 use Rattle.{scenario_text.specs.{declared.fault.Fault.Fault, OneStep.IsStep}, open_sessions.specs.{Answers.{LineReply, AnswersLine, answer_text, reply_text, made_after}}}

@@ -18,6 +18,7 @@ mod answers;
 mod fault;
 pub mod laws;
 pub mod members;
+mod same_steps;
 mod serve_fault;
 mod serving;
 mod session;

@@ -35,11 +35,7 @@ pub fn push_signals(out: &mut Writer, name: &str, set: SigSet) -> Result<(), All
 }
 
 /// Writes the names of flags.
-pub fn push_flags<F: Flags + Copy>(
-    out: &mut Writer,
-    name: &str,
-    set: F,
-) -> Result<(), AllocError> {
+pub fn push_flags<F: Flags + Copy>(out: &mut Writer, name: &str, set: F) -> Result<(), AllocError> {
     out.key(name)?;
     out.begin_array()?;
     for flag in F::flags() {

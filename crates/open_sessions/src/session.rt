@@ -12,6 +12,7 @@ ghost use Rattle.scenario_text.specs.declared.fault.Fault.TheVariants.{Memory as
 
 use crate::answers::{LineAnswer, copy_of, numbers_of, reply_of};
 use crate::fault::SessionFault;
+use crate::same_steps::is_same_step;
 use crate::step_members::step_line;
 use crate::texts::push_last;
 use pid_blocks::Uid;
@@ -39,7 +40,7 @@ impl Model for Session {
     ghost use Rattle.std.specs.Prelude.{option_map};
     ghost use Rattle.open_sessions.specs.Calls.{OpenSession};
     ghost use Rattle.open_sessions.specs.Answers.{line_reply};
-    ghost use Rattle.scenario_text.specs.Plan.{asked};
+    ghost use Rattle.scenario_text.specs.Plan.{asked as user_step};
 
     ghost Value = { OpenSession };
 
@@ -47,7 +48,7 @@ impl Model for Session {
       host = s.host;
       made = s.made;
       last = option_map line_reply s.last;
-      asked = option_map asked s.asked;
+      asked = option_map user_step s.asked;
     } };
 }
 
@@ -194,7 +195,8 @@ impl Session {
         ensures session { self.new ≡ self.old }
         ensures shown { IfOk result (λ n. IfSome n (λ n. (line : List ℕ) × LineOf self.old.asked line
             × (out.new ≡ shown line out.old) × (n ≡ length line))) }
-        ensures unchanged { (n : ℕ) → result ≢ Ok (Some n) → out.new ≡ out.old }
+        ensures none { result ≡ Ok None → out.new ≡ out.old }
+        ensures unchanged { OnErr result (out.new ≡ out.old) }
     {
         let Some((user, step)) = self.asked else {
             return Ok(None);
@@ -220,7 +222,7 @@ impl Session {
 fn is_same(read: &(Uid, PlainStep), user: Uid, step: &PlainStep) -> bool
     ensures { IsTrue result → asked read.now ≡ record { uid = user; step = step.now } }
 {
-    read.0 == user && read.1 == *step
+    read.0 == user && is_same_step(&read.1, step)
 }
 
 /// Makes a step of the user on the host. A handler that it installs answers by its policy.

@@ -162,11 +162,7 @@ pub fn push_step<H>(
 }
 
 /// Returns the line of a user's step, without its line feed.
-pub(crate) fn step_line(
-    alloc: Global,
-    user: Uid,
-    step: &PlainStep,
-) -> Result<Vec<u8>, AllocError> {
+pub(crate) fn step_line(alloc: Global, user: Uid, step: &PlainStep) -> Result<Vec<u8>, AllocError> {
     let policy = match step {
         Step::Install { handler, .. } => Some(handler),
         _ => None,

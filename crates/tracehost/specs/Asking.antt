@@ -39,7 +39,7 @@ shown_by arguments user =
       style = style_by arguments.json;
       threads = arguments.threads;
       trace = has_value arguments.json (codes "trace");
-      rows = has_value arguments.json (codes "trace+rows")
+      rows = has_value arguments.json (codes "trace+rows");
     }
 
 -- with --lines a session line by line, and else a scenario
