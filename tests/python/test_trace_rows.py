@@ -87,7 +87,8 @@ def compare(tools: Tools, data: bytes) -> None:
     lines = [json.loads(line) for line in rows.out.splitlines()]
     assert [plain(line) for line in lines] == [json.loads(line) for line in trace.out.splitlines()]
     given = json.loads(data)
-    host, states = opened(tools, given.get("kill_on_debugger_exit", 1) != 0), defaultdict(State)
+    host = opened(tools, given.get("kill_on_debugger_exit", 1) != 0)
+    states: defaultdict[int, State] = defaultdict(State)
     for line in lines:
         host.exchange(json.dumps({"user": line["user"], **line["asked"]}))
         states[line["user"]].change(line["rows"])
@@ -181,7 +182,9 @@ def test_expected_rows(program: Path, tmp_path: Path) -> None:
 
 
 def test_a_full_disk(program: Path) -> None:
-    command, text = [program, "--json=trace+rows"], json.dumps({"steps": [SPAWN]})
+    text = json.dumps({"steps": [SPAWN]})
     with open("/dev/full", "wb") as full:
-        got = subprocess.run(command, input=text, stdout=full, stderr=subprocess.PIPE, text=True, check=False)
+        got = subprocess.run(
+            [program, "--json=trace+rows"], input=text, stdout=full, stderr=subprocess.PIPE, text=True, check=False
+        )
     assert (got.returncode, got.stderr) == (3, "tracehost: cannot write\n")
