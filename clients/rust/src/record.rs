@@ -32,7 +32,8 @@ impl Output {
             return Err(Error::from_raw_os_error(sys::EFBIG));
         }
         if let Err(error) = self.file.write_all_at(&text, self.kept) {
-            self.restore(end)?;
+            // the first error is the one to tell
+            let _ = self.restore(end);
             return Err(error);
         }
         self.kept += added.len() as u64;
@@ -89,7 +90,7 @@ impl Recording {
         if let Err(error) = self.scenario.add(format!("{between}{step}").as_bytes(), END) {
             if let Some(lines) = &mut self.lines {
                 lines.kept = before;
-                lines.restore(b"")?;
+                let _ = lines.restore(b"");
             }
             return Err(error);
         }

@@ -63,7 +63,7 @@ fn each_call_is_recorded() -> Result<(), Box<dyn std::error::Error>> {
         decision: Decision::Continue(None),
     };
     session.install(debugger, &[rule])?;
-    session.ptrace(debugger, Request::Continue(Some(Signal::SIGUSR1)), target.pid)?;
+    session.ptrace(debugger, Request::Continue(None), target.pid)?;
     assert!(session.turn(USER, target.lwp, Act::Enter(Call::Exit(3))).is_ok());
     assert_eq!(
         session.kill(debugger, Which::Process(9), None),
