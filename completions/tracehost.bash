@@ -22,7 +22,7 @@ _tracehost()
         return
         ;;
     --json=)
-        mapfile -t COMPREPLY < <(compgen -P "$front" -W "replies trace" -- "$word")
+        mapfile -t COMPREPLY < <(compgen -P "$front" -W "replies trace trace+rows" -- "$word")
         return
         ;;
     --explain=)

@@ -151,6 +151,14 @@ uint32_t tracehost_line(tracehost *h, bool json, const uint8_t *line, size_t lin
                         size_t *length);
 uint32_t tracehost_last_line(tracehost *h, bool json, uint8_t *out, size_t out_size, size_t *length);
 
+/*
+ * Stores the line of the step that was answered last, whatever call made it, as tracehost_line stores an answer, but
+ * without a line feed. Given to tracehost_line, or as one of a scenario's steps, it is this step. So what a session was
+ * asked can be kept and replayed. INVALID before any answer, after a line that was refused, and for a step that no line
+ * is: a PT_TRACE_ME that names a target or data, and a PT_SET_EVENT_MASK with bits that no event has.
+ */
+uint32_t tracehost_last_step(tracehost *h, uint8_t *out, size_t out_size, size_t *length);
+
 /* Steps. `caller`, `target`, `lwp`, `which` and `signal` may be any number: the reply has the error that they cause. */
 uint32_t tracehost_spawn(tracehost *h, uint32_t user, tracehost_reply *reply);
 uint32_t tracehost_list(tracehost *h, uint32_t user, uint32_t caller, tracehost_reply *reply);

@@ -105,8 +105,21 @@ def by_calls(tools: Tools, session: Session) -> list[str]:
     return lines
 
 
+def by_last_steps(tools: Tools, session: Session) -> list[str]:
+    """Typed calls, and the line of each one's step answered by a second session."""
+    host, again, as_json = opened(tools, session.kills), opened(tools, session.kills), session.is_json
+    calls = TypedCalls(host, Progress())
+    lines = []
+    for line in session.lines:
+        call(calls, line.step)
+        step = host.last_step()
+        assert step is not None, line.words
+        lines.append(line_answer(again, as_json, step))
+    return lines
+
+
 Way = Callable[[Tools, Session], list[str]]
-WAYS: tuple[Way, ...] = (by_scenario, by_lines, by_threads, by_user, by_library, by_calls)
+WAYS: tuple[Way, ...] = (by_scenario, by_lines, by_threads, by_user, by_library, by_calls, by_last_steps)
 
 
 def call(calls: TypedCalls, step: Step) -> None:

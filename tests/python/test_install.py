@@ -221,7 +221,7 @@ def test_python(installed: Installed) -> None:
     installed.write("ten.py", readme.split("```python\n")[1].split("```")[0])
     wanted = readme.split("```python\n")[1].split("prints\n\n")[1].split("\n\n")[0]
     assert place.shell(f"{python} ten.py", installed.room) == re.sub("^    ", "", wanted, flags=re.MULTILINE) + "\n"
-    installed.write("test_attach.py", block("CLIENTS.md", "python", 3))
+    installed.write("test_attach.py", block("CLIENTS.md", "python", 1))
     assert "# test_attach.py" in installed.place.read(f"{installed.room}/test_attach.py")
     assert "2 passed" in place.shell(f"{python} -m pytest -q -p no:cacheprovider test_attach.py", installed.room)
 

@@ -90,7 +90,7 @@ def by_one_and_three(options: list[object], words: list[object]) -> tuple[int, b
         done = run([*RUN, "--jobs", jobs, *options, *words])
         ends.append((done.returncode, done.stdout, done.stderr))
     assert ends[0] == ends[1]
-    assert ends[0][0] in (0, 1), ends[0]
+    assert ends[0][0] in (0, 1) or b"nothing was tried" in ends[0][2], ends[0]  # by a program that makes no call
     return ends[0]
 
 

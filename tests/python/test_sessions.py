@@ -17,6 +17,7 @@ from session_ways import (
     Tools,
     Way,
     by_calls,
+    by_last_steps,
     by_library,
     by_lines,
     by_scenario,
@@ -88,6 +89,11 @@ def test_library(tools: Tools, name: str) -> None:
 @for_each(lambda session: True)
 def test_calls(tools: Tools, name: str) -> None:
     check(tools, name, by_calls)
+
+
+@for_each(is_text)
+def test_last_steps(tools: Tools, name: str) -> None:
+    check(tools, name, by_last_steps)
 
 
 def seen_by(tools: Tools, session: Session, user: int) -> tuple[bytes, bytes]:

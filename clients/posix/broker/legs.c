@@ -250,7 +250,7 @@ void leg_ends(const struct lwp *l)
 	}
 	if (is_told)
 		tell();
-	if (run.wants.points)
+	if (schedule.strategy == SWITCHED)
 		wake();
 	sum += mixed(hash, hash >> 32);
 	leg.all = false;

@@ -171,7 +171,7 @@ def _tool(command: str, made: Parser) -> None:
     except ValueError as why:
         made.error(f"--with: {command!r}: {why}")
     if not words or which(words[0]) is None:
-        made.error(f"--with: {command!r}: there is no such program")
+        made.error(f"--with: {command!r} is no command on the path")
 
 
 def model_of(given: argparse.Namespace, made: Parser) -> str:

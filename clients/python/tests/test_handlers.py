@@ -102,7 +102,7 @@ def test_a_function_that_makes_calls_raises_or_answers_wrongly(world: World) -> 
     assert world.debugger.handle_with(look) is not None
     decisions: list[tuple[Any, type[Exception], str]] = [
         ("continue", TypeError, "^decision: expected Decision, got 'continue'; write Decision.CONTINUE$"),
-        (None, TypeError, "^decision: expected Decision, got None$"),
+        (None, TypeError, "^decision: expected Decision, got None; Decision has DECLINE, LEAVE, CONTINUE, DETACH, KILL$"),
         ((Decision.KILL, 9), ValueError, "^decision: KILL passes on no signal$"),
     ]
     for decision, error, text in decisions:

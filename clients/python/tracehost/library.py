@@ -117,6 +117,7 @@ _TYPES: dict[str, list[Any]] = {
     "copy": [_HANDLE, _HANDLE],
     "line": [_HANDLE, c_bool, c_char_p, c_size_t, c_char_p, c_size_t, _LENGTH],
     "last_line": [_HANDLE, c_bool, c_char_p, c_size_t, _LENGTH],
+    "last_step": [_HANDLE, c_char_p, c_size_t, _LENGTH],
     "numbers": [_HANDLE, POINTER(c_uint32), c_size_t, _LENGTH],
     "view": [_HANDLE, c_uint32, POINTER(CProcess), c_size_t, POINTER(CLwp), c_size_t, _LENGTH, _LENGTH],
 }
@@ -222,6 +223,19 @@ class Session:
             code = self.library["last_line"](self.handle, False, self._room, len(self._room), length)
         self.check(code)
         return ctypes.string_at(self._room, self._length.value - 1).decode("utf-8", "replace")
+
+    def last_step(self) -> Optional[str]:
+        """The line of the step that was answered last; None before any answer, after a refused line, and for a step that
+        no line is: a mask with bits that no event has, PT_TRACE_ME with a target."""
+        length = byref(self._length)
+        while True:
+            code = self.library["last_step"](self.handle, self._room, len(self._room), length)
+            if code == INVALID:
+                return None
+            self.check(code)
+            if self._length.value <= len(self._room):
+                return ctypes.string_at(self._room, self._length.value).decode()
+            self._room = ctypes.create_string_buffer(self._length.value)
 
     def new_errors(self) -> str:
         return ""

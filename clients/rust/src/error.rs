@@ -3,7 +3,7 @@
 use crate::{sys, Errno};
 use std::fmt;
 
-/// Why a call has no reply. Only after [`Error::NoText`] a step was made.
+/// Why a call has no reply. A step was made only after [`Error::NoText`] and [`Error::RecordingFailed`].
 #[derive(Clone, Copy, Debug, PartialEq, Eq, Hash)]
 #[non_exhaustive]
 pub enum Error {
@@ -21,6 +21,8 @@ pub enum Error {
     NoText,
     /// The user has had 2^64 - 1 answers.
     TooMany,
+    /// The step was made, and can't be recorded: [`Session::record_error`](crate::Session::record_error) says why.
+    RecordingFailed,
 }
 
 impl Error {
@@ -46,6 +48,7 @@ impl fmt::Display for Error {
             Error::NoMemory => f.pad("Out of memory, and no step is made"),
             Error::NoText => f.pad("Out of memory for the text of an answer"),
             Error::TooMany => f.pad("The user has had all its answers"),
+            Error::RecordingFailed => f.pad("The step was made, and can't be recorded"),
         }
     }
 }

@@ -36,6 +36,7 @@ struct Readme;
 mod error;
 mod flags;
 mod numbers;
+mod record;
 mod replies;
 mod session;
 mod steps;

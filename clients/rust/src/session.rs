@@ -1,10 +1,13 @@
 //! A session, and its calls.
 
+use crate::record::{self, Recording};
 use crate::replies::{checked, new, reply};
 use crate::view::{Lwp, Process, View};
 use crate::{
     sys, Act, Caller, Decision, Disposition, Error, Handled, New, Reply, Request, Rule, Signal, WaitOptions, Which,
 };
+use std::io;
+use std::path::Path;
 
 /// The settings of a session.
 #[derive(Clone, Copy, Debug, PartialEq, Eq, Hash)]
@@ -36,6 +39,9 @@ impl Default for Settings {
 #[derive(Debug)]
 pub struct Session {
     handle: sys::Handle,
+    settings: Settings,
+    recording: Option<Recording>,
+    record_error: Option<io::Error>,
 }
 
 impl Session {
@@ -47,12 +53,87 @@ impl Session {
     /// Opens a session with these settings. [`Error::NoMemory`] if memory runs out.
     pub fn with_settings(settings: Settings) -> Result<Session, Error> {
         match sys::Handle::open(settings.kill_on_debugger_exit) {
-            Ok(handle) => Ok(Session { handle }),
+            Ok(handle) => Ok(Session::of(handle, settings)),
             Err(code) => Err(Error::of_code(code)),
         }
     }
 
-    /// Copies the session at its present state. Both then go their own ways.
+    fn of(handle: sys::Handle, settings: Settings) -> Session {
+        Session {
+            handle,
+            settings,
+            recording: None,
+            record_error: None,
+        }
+    }
+
+    /// Keeps the steps of the session in the file `scenario`, and the lines of their answers in the file `lines`.
+    ///
+    /// The scenario is whole after each step: `tracehost scenario --expect lines` passes. A line that is refused, a step
+    /// that is answered ENOMEM and the steps of a forked child aren't recorded. If a step can't be written, its call
+    /// returns [`Error::RecordingFailed`] though it was made, both files are as before, and recording ends.
+    ///
+    /// # Errors
+    ///
+    /// The error of a file that can't be made, which names the file; `AlreadyExists` if the session has made a step, or is
+    /// recorded.
+    ///
+    /// ```
+    /// # fn main() -> Result<(), Box<dyn std::error::Error>> {
+    /// # let folder = std::env::temp_dir();
+    /// let (scenario, lines) = (folder.join("spawned.json"), folder.join("spawned.out"));
+    /// let mut session = tracehost::Session::new()?;
+    /// session.record(&scenario, Some(lines.as_path()))?;
+    /// session.spawn(1001)?;
+    /// assert_eq!(std::fs::read_to_string(&lines)?, "1001 1 new 1000 100000\n");
+    /// # Ok(())
+    /// # }
+    /// ```
+    pub fn record(&mut self, scenario: impl AsRef<Path>, lines: Option<&Path>) -> io::Result<()> {
+        let is_new = self.last_line().is_ok_and(|line| line.is_empty());
+        if !is_new || self.recording.is_some() {
+            return Err(record::too_late());
+        }
+        let kills = self.settings.kill_on_debugger_exit;
+        self.recording = Some(Recording::create(scenario.as_ref(), lines, kills)?);
+        Ok(())
+    }
+
+    /// Why recording ended, if a call returned [`Error::RecordingFailed`].
+    pub fn record_error(&self) -> Option<&io::Error> {
+        self.record_error.as_ref()
+    }
+
+    /// Adds the last step to the recording, if there is one.
+    fn recorded(&mut self) -> Result<(), Error> {
+        let Some(mut recording) = self.recording.take() else {
+            return Ok(());
+        };
+        let added = match self.last_step()? {
+            Some(step) => self.last_line().map(|line| recording.add(&step, &line))?,
+            None => Ok(()),
+        };
+        match added {
+            Ok(()) => {
+                self.recording = Some(recording);
+                Ok(())
+            }
+            Err(error) => {
+                self.record_error = Some(error);
+                Err(Error::RecordingFailed)
+            }
+        }
+    }
+
+    /// The reply of a call, once its step is recorded.
+    fn made(&mut self, code: u32, raw: sys::Reply) -> Result<sys::Reply, Error> {
+        if code == sys::ANSWERED {
+            self.recorded()?;
+        }
+        checked(code, raw)
+    }
+
+    /// Copies the session at its present state. Both then go their own ways. The copy isn't recorded.
     ///
     /// ```
     /// # fn main() -> Result<(), tracehost::Error> {
@@ -70,7 +151,7 @@ impl Session {
     /// ```
     pub fn try_clone(&self) -> Result<Session, Error> {
         match self.handle.copy() {
-            Ok(handle) => Ok(Session { handle }),
+            Ok(handle) => Ok(Session::of(handle, self.settings)),
             Err(code) => Err(Error::of_code(code)),
         }
     }
@@ -78,13 +159,13 @@ impl Session {
     /// Makes a process of the user with one LWP. Its parent is process 1.
     pub fn spawn(&mut self, user: u32) -> Result<New, Error> {
         let (code, raw) = self.handle.spawn(user);
-        Ok(new(&checked(code, raw)?))
+        Ok(new(&self.made(code, raw)?))
     }
 
     /// Lists the user's processes, zombies too, by rising number.
     pub fn list(&mut self, caller: Caller) -> Result<Vec<u32>, Error> {
         let (code, raw) = self.handle.list(caller.user, caller.pid);
-        let raw = checked(code, raw)?;
+        let raw = self.made(code, raw)?;
         Ok(self.numbers(&raw))
     }
 
@@ -92,14 +173,14 @@ impl Session {
     pub fn sigaction(&mut self, caller: Caller, signal: Signal, disposition: Disposition) -> Result<(), Error> {
         let (signal, disposition) = (signal.number(), disposition.number());
         let (code, raw) = self.handle.sigaction(caller.user, caller.pid, signal, disposition);
-        checked(code, raw).map(drop)
+        self.made(code, raw).map(drop)
     }
 
     /// kill(2): posts a signal, or only looks for the processes.
     pub fn kill(&mut self, caller: Caller, which: Which, signal: Option<Signal>) -> Result<(), Error> {
         let signal = signal.map_or(0, Signal::number);
         let (code, raw) = self.handle.kill(caller.user, caller.pid, which.number(), signal);
-        checked(code, raw).map(drop)
+        self.made(code, raw).map(drop)
     }
 
     /// wait4(2), as with WNOHANG: [`Reply::Status`], or [`Reply::Nothing`].
@@ -116,7 +197,7 @@ impl Session {
             *raw = rule.raw();
         }
         let (code, raw) = self.handle.install(caller.user, caller.pid, raws);
-        checked(code, raw).map(drop)
+        self.made(code, raw).map(drop)
     }
 
     /// Waits for any child, and gives a trace stop to the caller's handlers: [`Reply::Handled`], [`Reply::Status`], or
@@ -216,6 +297,26 @@ impl Session {
         self.last_answer(true, 0)
     }
 
+    /// The line of the step that was answered last, whatever call made it: given to [`line`](Session::line), it is this step.
+    /// None before any answer, after a line that was refused, and for a step that no line is: a mask with bits that no event
+    /// has.
+    ///
+    /// ```
+    /// # fn main() -> Result<(), tracehost::Error> {
+    /// let mut session = tracehost::Session::new()?;
+    /// session.spawn(1001)?;
+    /// assert_eq!(session.last_step()?.as_deref(), Some(r#"{"user":1001,"op":"spawn"}"#));
+    /// # Ok(())
+    /// # }
+    /// ```
+    pub fn last_step(&self) -> Result<Option<String>, Error> {
+        match whole(128, |room| self.handle.last_step(room)) {
+            Ok(step) => Ok(Some(step)),
+            Err(Error::Invalid) => Ok(None),
+            Err(error) => Err(error),
+        }
+    }
+
     /// The user's processes and LWPs at this moment. It makes no step.
     ///
     /// ```no_run
@@ -248,8 +349,8 @@ impl Session {
         }
     }
 
-    fn reply(&self, code: u32, raw: sys::Reply) -> Result<Reply, Error> {
-        let raw = checked(code, raw)?;
+    fn reply(&mut self, code: u32, raw: sys::Reply) -> Result<Reply, Error> {
+        let raw = self.made(code, raw)?;
         Ok(reply(&raw, || self.numbers(&raw)))
     }
 
@@ -267,23 +368,34 @@ impl Session {
     fn answer(&mut self, step: &str, json: bool) -> Result<String, Error> {
         let mut room = vec![0; 128];
         let (code, length) = self.handle.line(json, step.as_bytes(), &mut room);
-        match code {
-            sys::ANSWERED if length <= room.len() => Ok(text(room, length)),
-            sys::ANSWERED => self.last_answer(json, length),
-            _ => Err(Error::of_code(code)),
+        if !matches!(code, sys::ANSWERED | sys::NO_TEXT) {
+            return Err(Error::of_code(code));
+        }
+        self.recorded()?;
+        if code == sys::NO_TEXT {
+            Err(Error::NoText)
+        } else if length <= room.len() {
+            Ok(text(room, length))
+        } else {
+            self.last_answer(json, length)
         }
     }
 
     /// The last answer, with room for so many bytes at first.
     fn last_answer(&self, json: bool, size: usize) -> Result<String, Error> {
-        let mut room = vec![0; size];
-        loop {
-            let (code, length) = self.handle.last_line(json, &mut room);
-            match code {
-                sys::ANSWERED if length <= room.len() => return Ok(text(room, length)),
-                sys::ANSWERED => room.resize(length, 0),
-                _ => return Err(Error::of_code(code)),
-            }
+        whole(size, |room| self.handle.last_line(json, room))
+    }
+}
+
+/// The whole text that a call stores, with room for so many bytes at first.
+fn whole(size: usize, store: impl Fn(&mut [u8]) -> (u32, usize)) -> Result<String, Error> {
+    let mut room = vec![0; size];
+    loop {
+        let (code, length) = store(&mut room);
+        match code {
+            sys::ANSWERED if length <= room.len() => return Ok(text(room, length)),
+            sys::ANSWERED => room.resize(length, 0),
+            _ => return Err(Error::of_code(code)),
         }
     }
 }

@@ -3,7 +3,7 @@
 #![allow(unsafe_code)]
 
 use std::cell::UnsafeCell;
-use std::ffi::c_void;
+use std::ffi::{c_int, c_void};
 
 /// The code of a call that was answered.
 pub const ANSWERED: u32 = 0;
@@ -129,6 +129,7 @@ extern "C" {
         length: *mut usize,
     ) -> u32;
     fn tracehost_last_line(h: *mut Raw, json: bool, out: *mut u8, out_size: usize, length: *mut usize) -> u32;
+    fn tracehost_last_step(h: *mut Raw, out: *mut u8, out_size: usize, length: *mut usize) -> u32;
     fn tracehost_install(
         h: *mut Raw,
         user: u32,
@@ -148,6 +149,22 @@ extern "C" {
         processes_length: *mut usize,
         lwps_length: *mut usize,
     ) -> u32;
+}
+
+/// The errno of a file that would be too long.
+pub const EFBIG: i32 = 27;
+
+extern "C" {
+    fn getrlimit(resource: c_int, limit: *mut [u64; 2]) -> c_int;
+}
+
+/// The most bytes that a file may get, by RLIMIT_FSIZE of getrlimit(2).
+pub fn file_size_limit() -> u64 {
+    const RLIMIT_FSIZE: c_int = 1;
+    let mut limit = [u64::MAX; 2];
+    // SAFETY: on 64-bit Linux a struct rlimit is two u64, the soft limit first, and no limit is the greatest.
+    unsafe { getrlimit(RLIMIT_FSIZE, &mut limit) };
+    limit[0]
 }
 
 /// An open handle. It isn't `Sync`: `UnsafeCell` keeps calls by `&self` on one thread, one after another.
@@ -194,6 +211,15 @@ impl Handle {
         let (room, size) = (out.as_mut_ptr(), out.len());
         // SAFETY: the handle is open, no other call is being made, and the slice and `length` are disjoint.
         let code = unsafe { tracehost_last_line(self.0.get(), json, room, size, &mut length) };
+        (code, length)
+    }
+
+    /// The last answer's step, as [`Handle::line`] returns an answer.
+    pub fn last_step(&self, out: &mut [u8]) -> (u32, usize) {
+        let mut length = 0;
+        let (room, size) = (out.as_mut_ptr(), out.len());
+        // SAFETY: the handle is open, no other call is being made, and the slice and `length` are disjoint.
+        let code = unsafe { tracehost_last_step(self.0.get(), room, size, &mut length) };
         (code, length)
     }
 

@@ -8,9 +8,11 @@
 //! Begin with `writing`.
 #![tactic(auto)]
 
-mod members;
+mod changes;
 mod places;
-mod steps;
+mod rows;
+mod states;
 mod writing;
 
+pub use states::write_states;
 pub use writing::TraceWriter;

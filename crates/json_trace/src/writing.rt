@@ -2,9 +2,9 @@
 ghost use Rattle.std.specs.Io.{WritesAtMost};
 
 use crate::places::{Place, Places};
-use crate::steps::push_step;
 use json::Writer;
 use memchr::memchr;
+use open_sessions::push_step;
 use pid_blocks::Uid;
 use scenario_runs::Scenario;
 use std::alloc::{AllocError, Global};
@@ -122,7 +122,9 @@ fn push_members(head: &mut Vec<u8>, place: &Place<'_>) -> Result<(), AllocError>
     out.key("index")?;
     out.u64(u64::from(place.index))?;
     out.key("asked")?;
+    out.begin_object()?;
     push_step(&mut out, place.step, place.policy)?;
+    out.end_object()?;
     *head = out.into_inner();
     head.push(b',')?;
     Ok(())

@@ -1,8 +1,11 @@
 //! An open session: a host whose users' steps are answered one after another, as values or as lines of text.
 //!
 //! A `Session` has a host, each user's count of answers, and the last answer, which can be asked for as a value or as
-//! a line. The C library is a thin layer over it, and so is `serve`, which is `tracehost --lines`: a debugger's author
-//! writes a step, reads the reply, and decides what comes next.
+//! a line, and so can the step that it answers. The C library is a thin layer over it, and so is `serve`, which is
+//! `tracehost --lines`: a debugger's author writes a step, reads the reply, and decides what comes next.
+//!
+//! No clause speaks of what `step_members` writes. `Session::show_step` reads each line again, so a line that it shows
+//! is the step; tests show that it shows one for each step that a line can be.
 //!
 //! Begin with `session`, then `serving`. The main clause of `answer` and `step`: the answer is the machine's
 //! (specs/Answers). That of `serve`: the bytes that were written are the answers to the lines that were read, each
@@ -14,12 +17,16 @@ mod answering;
 mod answers;
 mod fault;
 pub mod laws;
+pub mod members;
+mod same_steps;
 mod serve_fault;
 mod serving;
 mod session;
+mod step_members;
 mod texts;
 
 pub use fault::SessionFault;
 pub use serve_fault::ServeError;
 pub use serving::serve;
 pub use session::Session;
+pub use step_members::push_step;

@@ -1,16 +1,19 @@
 //! The open session.
 
-ghost use Rattle.std.specs.Prelude.{◌≡◌, ◌≢◌, ◌++◌, Err, None, Some, replicate, length, IfOk, IfErr, OnOk, OnErr, string_bytes, option_map};
+ghost use Rattle.std.specs.Prelude.{ℕ, List, ◌≡◌, ◌≢◌, ◌++◌, Ok, Err, None, Some, replicate, length, IfOk, IfErr, IfSome, IsTrue, OnOk, OnErr, string_bytes, option_map};
 ghost use Rattle.requests.specs.Hosts.{Steps as HostSteps};
 ghost use Rattle.requests.specs.Machine.{empty};
 ghost use Rattle.requests.specs.View.{view};
 ghost use Rattle.open_sessions.specs.Answers.{last_numbers, last_reply, shown};
-ghost use Rattle.open_sessions.specs.Calls.{last_text, Steps, Answers, IsFull, FullFor};
+ghost use Rattle.open_sessions.specs.Calls.{last_text, Steps, Answers, IsFull, FullFor, LineOf};
+ghost use Rattle.scenario_text.specs.Plan.{asked};
 ghost use Rattle.open_sessions.specs.declared.fault.SessionFault.TheVariants as session_fault;
 ghost use Rattle.scenario_text.specs.declared.fault.Fault.TheVariants.{Memory as NoMemory};
 
 use crate::answers::{LineAnswer, copy_of, numbers_of, reply_of};
 use crate::fault::SessionFault;
+use crate::same_steps::is_same_step;
+use crate::step_members::step_line;
 use crate::texts::push_last;
 use pid_blocks::Uid;
 use requests::{Host, PlainStep, Reply};
@@ -21,13 +24,14 @@ use stop_handlers::ByPolicy;
 use trace_stop::Settings;
 use visibility::{View, user_view};
 
-/// A host, the number of answers that each user has had, and the last answer. The reader of the lines' steps and the
-/// text of an answer are kept for their memory.
+/// A host, the number of answers that each user has had, the last answer and the step that it answers. The reader of the
+/// lines' steps and the text of an answer are kept for their memory.
 #[derive(Drop)]
 pub struct Session {
     host: Host<ByPolicy>,
     made: [u64; USERS],
     last: Option<LineAnswer>,
+    asked: Option<(Uid, PlainStep)>,
     steps: StepReader,
     text: String,
 }
@@ -36,22 +40,29 @@ impl Model for Session {
     ghost use Rattle.std.specs.Prelude.{option_map};
     ghost use Rattle.open_sessions.specs.Calls.{OpenSession};
     ghost use Rattle.open_sessions.specs.Answers.{line_reply};
+    ghost use Rattle.scenario_text.specs.Plan.{asked as user_step};
 
     ghost Value = { OpenSession };
 
-    ghost view = { λ s. record { host = s.host; made = s.made; last = option_map line_reply s.last } };
+    ghost view = { λ s. record {
+      host = s.host;
+      made = s.made;
+      last = option_map line_reply s.last;
+      asked = option_map user_step s.asked;
+    } };
 }
 
 impl Session {
     /// Opens a session with an unused host. An error means out of memory.
     pub fn new(alloc: Global, settings: Settings) -> Result<Session, AllocError>
-        ensures { IfOk result (λ s. s ≡ record { host = empty settings; made = replicate 64 0; last = None }) }
+        ensures { IfOk result (λ s. s ≡ record { host = empty settings; made = replicate 64 0; last = None; asked = None }) }
     {
         let host = Host::new(alloc, settings)?;
         Ok(Session {
             host,
             made: [0; USERS],
             last: None,
+            asked: None,
             steps: StepReader::new(alloc),
             text: String::new(alloc),
         })
@@ -68,6 +79,7 @@ impl Session {
             host,
             made: self.made,
             last,
+            asked: self.asked,
             text: String::new(alloc),
             steps: StepReader::new(alloc),
         })
@@ -92,6 +104,7 @@ impl Session {
         let reply = make_step(alloc, &mut self.host, user, step);
         self.made[slot] = count + 1;
         self.last = Some(Ok((user, reply)));
+        self.asked = Some((user, *step));
         Ok(())
     }
 
@@ -114,7 +127,7 @@ impl Session {
 
     /// Keeps the fault for which a line is not a step as the last answer.
     fn refuse(&mut self, fault: Fault) -> Result<(), SessionFault>
-        ensures refused { OnOk result ((fault ≢ NoMemory) × (self.new ≡ record self.old { last = Some (Err fault) })) }
+        ensures refused { OnOk result ((fault ≢ NoMemory) × (self.new ≡ record self.old { last = Some (Err fault); asked = None })) }
         ensures unchanged { OnErr result (self.new ≡ self.old) }
         ensures memory { IfErr result (λ e. e ≡ session_fault.Memory) }
     {
@@ -122,6 +135,7 @@ impl Session {
             Fault::Memory => Err(SessionFault::Memory),
             _ => {
                 self.last = Some(Err(fault));
+                self.asked = None;
                 Ok(())
             }
         }
@@ -170,12 +184,45 @@ impl Session {
         Ok(copy_front(self.text.as_bytes(), out))
     }
 
+    /// Writes the line of the step that was answered last over the front of the bytes, as far as they have room, and
+    /// returns its whole length. Read as a line, it is this step. `None` before any answer, after a line that was refused,
+    /// and for a step that no line is: a PT_TRACE_ME that names a target, a mask with bits that no event has.
+    ///
+    /// # Errors
+    ///
+    /// Out of memory. The bytes are as they were, and the line can be asked for again.
+    pub fn show_step(&mut self, alloc: Global, out: &mut [u8]) -> Result<Option<usize>, AllocError>
+        ensures session { self.new ≡ self.old }
+        ensures shown { IfOk result (λ n. IfSome n (λ n. (line : List ℕ) × LineOf self.old.asked line
+            × (out.new ≡ shown line out.old) × (n ≡ length line))) }
+        ensures none { result ≡ Ok None → out.new ≡ out.old }
+        ensures unchanged { OnErr result (out.new ≡ out.old) }
+    {
+        let Some((user, step)) = self.asked else {
+            return Ok(None);
+        };
+        let line = step_line(alloc, user, &step)?;
+        // the line is given only if the reader of lines finds this step in it
+        match self.steps.parse_step(alloc, line.as_slice()) {
+            Ok(read) if is_same(&read, user, &step) => Ok(Some(copy_front(line.as_slice(), out))),
+            Err(Fault::Memory) => Err(AllocError),
+            _ => Ok(None),
+        }
+    }
+
     /// Returns what the user sees of the host. An error means out of memory.
     pub fn view(&self, alloc: Global, user: Uid) -> Result<View, AllocError>
         ensures { IfOk result (λ v. v ≡ view user self.now.host) }
     {
         user_view(alloc, &self.host, user)
     }
+}
+
+/// Tests whether what was read is this step of this user.
+fn is_same(read: &(Uid, PlainStep), user: Uid, step: &PlainStep) -> bool
+    ensures { IsTrue result → asked read.now ≡ record { uid = user; step = step.now } }
+{
+    read.0 == user && is_same_step(&read.1, step)
 }
 
 /// Makes a step of the user on the host. A handler that it installs answers by its policy.

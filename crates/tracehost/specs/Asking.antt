@@ -34,7 +34,13 @@ IsUserOrNone (Some number) = IsUser number
 -- only the lines of this user, or without --user those of all users
 abbrev pub shown_by : Arguments → Option ℕ → Selection
 shown_by arguments user =
-    record { user = user; style = style_by arguments.json; threads = arguments.threads; trace = has_value arguments.json (codes "trace") }
+    record {
+      user = user;
+      style = style_by arguments.json;
+      threads = arguments.threads;
+      trace = has_value arguments.json (codes "trace");
+      rows = has_value arguments.json (codes "trace+rows");
+    }
 
 -- with --lines a session line by line, and else a scenario
 abbrev pub mode_by : Arguments → Option ℕ → Mode

@@ -20,7 +20,7 @@ pub(crate) struct Arguments<'a> {
     pub(crate) threads: bool,
     /// The file of `--expect`.
     pub(crate) expect: Option<&'a str>,
-    /// The word of `--json`: `replies` or `trace`.
+    /// The word of `--json`: `replies`, `trace` or `trace+rows`.
     pub(crate) json: Option<&'a str>,
     /// Whether `--lines` is there.
     pub(crate) lines: bool,
@@ -38,6 +38,8 @@ pub(crate) struct Selection {
     pub(crate) threads: bool,
     /// Each line has the step that it answers, too.
     pub(crate) trace: bool,
+    /// Each line has its step, and what that changed of its user's rows.
+    pub(crate) rows: bool,
 }
 
 /// How the input is read.
@@ -141,6 +143,7 @@ fn mode_of<'a>(arguments: Arguments<'a>, user: Option<Uid>) -> Mode<'a>
             style,
             threads: arguments.threads,
             trace: has_value(arguments.json, "trace"),
+            rows: has_value(arguments.json, "trace+rows"),
         },
         expected: arguments.expect,
     }

@@ -47,7 +47,7 @@ impl fmt::Display for Message {
 const WHEN: &[&str] = &["auto", "always", "never"];
 
 /// The values of `--json`.
-const WHAT: &[&str] = &["replies", "trace"];
+const WHAT: &[&str] = &["replies", "trace", "trace+rows"];
 
 /// The end of the help.
 const AFTER_HELP: &str =
@@ -65,9 +65,19 @@ const SETTING_ADVICE: &str =
 /// The refusal of `--json=trace` for a session line by line.
 const TRACE_OF_LINES: &str = "the argument '--lines' cannot be used with '--json=trace'";
 
-/// What helps if `--json=trace` is given for a session line by line.
+/// The refusal of `--json=trace+rows` for a session line by line.
+const ROWS_OF_LINES: &str = "the argument '--lines' cannot be used with '--json=trace+rows'";
+
+/// The refusal of `--json=trace+rows` for a run with threads.
+const ROWS_OF_THREADS: &str = "the argument '--threads' cannot be used with '--json=trace+rows'";
+
+/// What helps if `--json=trace` or `--json=trace+rows` is given for a session line by line.
 const TRACE_ADVICE: &str =
     "  --json=trace: with --lines each answer comes after its step; write --json\n";
+
+/// What helps if `--json=trace+rows` is given for a run with threads.
+const ROWS_ADVICE: &str =
+    "  --json=trace+rows: the steps are made one after another; leave --threads out\n";
 
 /// The long options by their first letters, each with a value if it needs one.
 const LONG_OPTIONS: [(&str, &str); 6] = [
@@ -109,7 +119,9 @@ fn with_scenario_options<'a>(
         .require_equals(true)
         .default_missing_value("replies")
         .value_parser(WHAT)
-        .help("Print each line as a JSON object: the reply, or with trace also its step");
+        .help(
+            "Print each line as a JSON object: the reply, with trace also its step, with trace+rows also the rows that it changed",
+        );
     command.arg(json)
 }
 
@@ -159,15 +171,25 @@ fn matches_of<'a>(
     let command = with_scenario_options(alloc, command.arg(explain)?)?;
     let mut command = with_line_options(alloc, command)?;
     let matches = command.try_get_matches_from_mut(words)?;
-    if matches.get_flag("lines") && asks_trace(&matches) {
-        return Err(command.error(ErrorKind::ArgumentConflict, TRACE_OF_LINES)?);
+    match conflict_in(&matches) {
+        Some(refusal) => Err(command.error(ErrorKind::ArgumentConflict, refusal)?),
+        None => Ok(matches),
     }
-    Ok(matches)
 }
 
-/// Whether the lines have the steps that they answer.
-fn asks_trace(matches: &ArgMatches<'_>) -> bool {
-    has_value(matches.get_str("json"), "trace")
+/// The refusal of `--json` with this value beside the other options, if they can't be used together.
+fn conflict_in(matches: &ArgMatches<'_>) -> Option<&'static str> {
+    let json = matches.get_str("json");
+    let rows = has_value(json, "trace+rows");
+    if matches.get_flag("lines") && has_value(json, "trace") {
+        Some(TRACE_OF_LINES)
+    } else if matches.get_flag("lines") && rows {
+        Some(ROWS_OF_LINES)
+    } else if matches.get_flag("threads") && rows {
+        Some(ROWS_OF_THREADS)
+    } else {
+        None
+    }
 }
 
 /// Whether refused input is explained, by the words of a command line that is refused.
@@ -207,12 +229,14 @@ fn option_advice(alloc: Global, words: &[String]) -> Result<String, AllocError> 
 
 /// What helps against options that can't be used together.
 fn conflict_advice(alloc: Global, words: &[String]) -> Result<String, AllocError> {
-    for word in words {
-        if word.as_str() == "--json=trace" {
-            return String::from_str(alloc, TRACE_ADVICE);
-        }
+    let is_given = |option: &str| words.iter().any(|word| word.as_str() == option);
+    if is_given("--json=trace+rows") && is_given("--threads") {
+        String::from_str(alloc, ROWS_ADVICE)
+    } else if is_given("--json=trace") || is_given("--json=trace+rows") {
+        String::from_str(alloc, TRACE_ADVICE)
+    } else {
+        Ok(String::new(alloc))
     }
-    Ok(String::new(alloc))
 }
 
 /// What helps against a command line that `clap` refuses; empty if that says enough.

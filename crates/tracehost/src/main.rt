@@ -6,7 +6,7 @@
 //! one.
 //!
 //! Both read standard input if FILE is missing or `-`. With `--json` each line is a JSON object, and with
-//! `--json=trace` it has the step that it answers, too. `--explain` explains on standard error where and why input is refused; on a terminal
+//! `--json=trace` it has the step that it answers, too, with `--json=trace+rows` also the rows that the step changed. `--explain` explains on standard error where and why input is refused; on a terminal
 //! it does so without being asked.
 #![tactic(auto)]
 
@@ -23,7 +23,7 @@ use crate::command_line::{Message, Refusal, asked_of};
 use crate::expecting::{none_differs, read_expected};
 use crate::explaining::{Explained, explain_empty_run, explained_scenario, prompt, unread};
 use byte_lines::first_difference;
-use json_trace::TraceWriter;
+use json_trace::{TraceWriter, write_states};
 use open_sessions::{ServeError, serve};
 use scenario::run_threads_with;
 use scenario_runs::{
@@ -250,7 +250,9 @@ fn write_run<R: AllocGlobal + Threads + Wait + Sync, F: Decider + Send + Drop, W
     shown: &Selection,
     writer: &mut W,
 ) -> Result<(), RunFault> {
-    if shown.trace {
+    if shown.rows {
+        write_states(rt.alloc(), scenario, shown.user, writer)
+    } else if shown.trace {
         write_trace(rt, scenario, handlers, shown, writer)
     } else {
         write_replies(rt, scenario, handlers, shown, writer)

@@ -2,7 +2,7 @@
 use Rattle.std.specs.Prelude.{◌≡◌, ◌⊎◌, ℕ, Bool, if◌then◌else◌, List, Option, Some, None, IsSome, IsSomeAnd, length, map}
 use Rattle.{pid_blocks.specs.Users.IsUser, requests.specs.View.view, step_types.specs.Plain.PlainStep, scenario_runs.specs.declared.style.Style.{Style, TheVariants.{Text, Json}}}
 use Rattle.tracehost_c.specs.{declared.{replies.FlatReply.FlatReply, rows.{FlatProcess.FlatProcess, FlatLwp.FlatLwp}}, Replies.flat, FlatRows.{flat_process, flat_lwp}}
-use Rattle.open_sessions.specs.{Answers.{last_numbers, shown}, Calls.{OpenSession, last_text, Steps, Answers, IsFull, FullFor}}
+use Rattle.open_sessions.specs.{Answers.{last_numbers, shown}, Calls.{OpenSession, last_text, LineOf, Steps, Answers, IsFull, FullFor}}
 
 abbrev pub style_of : Bool → Style
 style_of json = if json then Json else Text
@@ -24,6 +24,10 @@ pub data LineCall (line : List ℕ) (old new : Option OpenSession) (code : ℕ) 
 -- the line of the last answer of an open session
 abbrev pub ShowsLast : Style → Option OpenSession → (room filled : List ℕ) → ℕ → Type 0
 ShowsLast style session room filled n = IsSomeAnd session (λ s. Shows (last_text style s) room filled n)
+
+-- a line that is the step of the last answer of an open session
+abbrev pub ShowsStep : Option OpenSession → (room filled : List ℕ) → ℕ → Type 0
+ShowsStep session room filled n = IsSomeAnd session (λ s. (line : List ℕ) × LineOf s.asked line × Shows line room filled n)
 
 -- the numbers of the last answer of an open session
 abbrev pub ShowsNumbers : Option OpenSession → (room filled : List ℕ) → ℕ → Type 0

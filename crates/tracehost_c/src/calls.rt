@@ -1,7 +1,7 @@
 //! What the calls have in common.
-ghost use Rattle.std.specs.Prelude.{ℕ, ◌≡◌, ◌≢◌, ◌≤◌, None, Some};
+ghost use Rattle.std.specs.Prelude.{ℕ, List, ◌≡◌, ◌≢◌, ◌≤◌, None, Some};
 ghost use Rattle.open_sessions.specs.Answers.{last_numbers};
-ghost use Rattle.open_sessions.specs.Calls.{last_text};
+ghost use Rattle.open_sessions.specs.Calls.{last_text, LineOf};
 ghost use Rattle.tracehost_c.specs.declared.replies.FlatReply.{FlatReply as Flat};
 ghost use Rattle.tracehost_c.specs.Calls.{style_of, LineCall, Shows, StepOf, TypedCall};
 
@@ -81,6 +81,28 @@ pub(crate) fn put_line(
         },
         Err(SessionFault::Memory) => NO_MEMORY,
         Err(SessionFault::TooManyAnswers) => TOO_MANY,
+    }
+}
+
+/// Writes the line of the step that was answered last.
+pub(crate) fn put_step(
+    alloc: Global,
+    session: &mut Session,
+    out: &mut [u8],
+    whole: &mut usize,
+) -> u32
+    ensures session { session.new ≡ session.old }
+    ensures code { (result ≢ 1) × (result ≤ 3) }
+    ensures shown { result ≡ 0 → (line : List ℕ) × LineOf session.old.asked line × Shows line out.old out.new whole.new }
+    ensures refused { result ≢ 0 → (out.new ≡ out.old) × (whole.new ≡ whole.old) }
+{
+    match session.show_step(alloc, out) {
+        Ok(Some(length)) => {
+            *whole = length;
+            ANSWERED
+        }
+        Ok(None) => INVALID,
+        Err(_) => NO_MEMORY,
     }
 }
 

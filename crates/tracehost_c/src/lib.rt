@@ -17,7 +17,7 @@ ghost use Rattle.signals.specs.Dispositions.{disposition_numbered};
 ghost use Rattle.step_types.specs.Names.{request_numbered};
 ghost use Rattle.tracehost_c.specs.Numbers.{act_of as numbered_act, options_numbered};
 ghost use Rattle.tracehost_c.specs.Rules.{policy_numbered};
-ghost use Rattle.tracehost_c.specs.Calls.{style_of, LineCall, ShowsLast, ShowsNumbers, ShowsView, TypedCall};
+ghost use Rattle.tracehost_c.specs.Calls.{style_of, LineCall, ShowsLast, ShowsNumbers, ShowsStep, ShowsView, TypedCall};
 
 mod acts;
 mod calls;
@@ -31,7 +31,8 @@ mod views;
 
 use acts::act_of;
 use calls::{
-    ANSWERED, INVALID, NO_MEMORY, NOT_OPEN, make, put_line, put_numbers, put_text, refused,
+    ANSWERED, INVALID, NO_MEMORY, NOT_OPEN, make, put_line, put_numbers, put_step, put_text,
+    refused,
 };
 use handle::Tracehost;
 use open_sessions::Session;
@@ -58,6 +59,7 @@ pub extern "C" fn tracehost_open(
       host = empty (record { kill_on_debugger_exit = kill_on_debugger_exit });
       made = replicate 64 0;
       last = None;
+      asked = None;
     }) }
     ensures unchanged { result ≢ 0 → out.new ≡ out.old }
     ensures code { result ≤ 2 }
@@ -170,6 +172,31 @@ pub extern "C" fn tracehost_last_line(
     let taken = std::mem::replace(handle, Tracehost::closed(alloc));
     let mut session = taken.session();
     let code = put_text(alloc, &mut session, json, out, whole);
+    *handle = Tracehost::of(session);
+    code
+}
+
+/// Writes the line of the step that was answered last over the front of `out`, as far as it has room, and the line's
+/// whole length. Read as a line, it is this step.
+#[unsafe(no_mangle)]
+pub extern "C" fn tracehost_last_step(
+    alloc: Global,
+    handle: &mut Tracehost,
+    out: &mut [u8],
+    whole: &mut usize,
+) -> u32
+    ensures session { handle.new.held.session ≡ handle.old.held.session }
+    ensures closed { (result ≡ 1) ↔ IsNone handle.old.held.session }
+    ensures code { result ≤ 3 }
+    ensures shown { result ≡ 0 → ShowsStep handle.old.held.session out.old out.new whole.new }
+    ensures refused { result ≢ 0 → (out.new ≡ out.old) × (whole.new ≡ whole.old) }
+{
+    if !handle.is_open() {
+        return NOT_OPEN;
+    }
+    let taken = std::mem::replace(handle, Tracehost::closed(alloc));
+    let mut session = taken.session();
+    let code = put_step(alloc, &mut session, out, whole);
     *handle = Tracehost::of(session);
     code
 }

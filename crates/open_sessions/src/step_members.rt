@@ -1,12 +1,11 @@
-//! A step as a JSON object: the keys of docs/FORMAT.md in its order, but for the user. A key whose value is that of a
-//! missing key is left out.
+//! A step as JSON: the keys of docs/FORMAT.md in its order. A key whose value is that of a missing key is left out.
 use crate::members::{push_flags, push_name, push_nonzero, push_number, push_signals};
 use event_masks::{Call, EventMask};
 use json::Writer;
-use scenario_runs::BareStep;
+use pid_blocks::Uid;
 use signals::Disposition;
-use std::alloc::AllocError;
-use step_types::{Act, Options, Request, Step};
+use std::alloc::{AllocError, Global};
+use step_types::{Act, Options, PlainStep, Request, Step};
 use stop_handlers::{Decision, Policy, Rule};
 
 fn push_ptrace(
@@ -115,7 +114,7 @@ fn push_turn(out: &mut Writer, lwp: u32, act: &Act) -> Result<(), AllocError> {
 }
 
 /// Writes the number of the process that makes the call. A turn and a spawn have none.
-fn push_caller(out: &mut Writer, step: &BareStep) -> Result<(), AllocError> {
+fn push_caller<H>(out: &mut Writer, step: &Step<H>) -> Result<(), AllocError> {
     match step.caller() {
         Some(caller) => push_number(out, "caller", caller),
         None => Ok(()),
@@ -123,7 +122,11 @@ fn push_caller(out: &mut Writer, step: &BareStep) -> Result<(), AllocError> {
 }
 
 /// Writes the keys of the step's op after its caller.
-fn push_keys(out: &mut Writer, step: &BareStep, policy: Option<&Policy>) -> Result<(), AllocError> {
+fn push_keys<H>(
+    out: &mut Writer,
+    step: &Step<H>,
+    policy: Option<&Policy>,
+) -> Result<(), AllocError> {
     match step {
         Step::Spawn | Step::List { .. } | Step::Handle { .. } => Ok(()),
         Step::Sigaction {
@@ -147,15 +150,27 @@ fn push_keys(out: &mut Writer, step: &BareStep, policy: Option<&Policy>) -> Resu
     }
 }
 
-/// Writes the step as an object, with the policy that it installs.
-pub(crate) fn push_step(
+/// Writes the keys of the step but for its user, with those of the policy that it installs.
+pub fn push_step<H>(
     out: &mut Writer,
-    step: &BareStep,
+    step: &Step<H>,
     policy: Option<&Policy>,
 ) -> Result<(), AllocError> {
-    out.begin_object()?;
     push_name(out, "op", step.kind().name())?;
     push_caller(out, step)?;
-    push_keys(out, step, policy)?;
-    out.end_object()
+    push_keys(out, step, policy)
+}
+
+/// Returns the line of a user's step, without its line feed.
+pub(crate) fn step_line(alloc: Global, user: Uid, step: &PlainStep) -> Result<Vec<u8>, AllocError> {
+    let policy = match step {
+        Step::Install { handler, .. } => Some(handler),
+        _ => None,
+    };
+    let mut out = Writer::new(Vec::new(alloc));
+    out.begin_object()?;
+    push_number(&mut out, "user", user.get())?;
+    push_step(&mut out, step, policy)?;
+    out.end_object()?;
+    Ok(out.into_inner())
 }
