@@ -143,7 +143,7 @@ def test_dispositions(program: Path) -> None:
 
 
 def test_a_stop_by_hand(program: Path) -> None:
-    """A followed fork: what its stops change."""
+    """PT_ATTACH stops the process; a wait reports the stop once."""
     steps = [
         SPAWN,
         SPAWN,
@@ -153,6 +153,7 @@ def test_a_stop_by_hand(program: Path) -> None:
     ]
     rows = rows_of(program, steps)
     stopped = {"pid": 1001, "parent": 1, "tracer": 1000, "state": "trace_stop", "stop_signal": "SIGSTOP", "stop_lwp": 100001}
+    stopped["events"] = ["PTRACE_EXEC"]  # an attach asks for it
     assert rows[2]["processes"][-1] == stopped
     assert rows[3] == {"processes": [stopped | {"reported": True}]}
     assert rows[4] == {}

@@ -161,12 +161,17 @@ def test_a_page_of_no_scenario(tmp_path: pathlib.Path) -> None:
 
 
 def test_the_page_has_each_field() -> None:
-    """The table of docs/CLIENTS.md: every field and every other name of it, and no others."""
-    page = (pathlib.Path(__file__).resolve().parents[3] / "docs" / "CLIENTS.md").read_text(encoding="utf-8")
+    """docs/PYTHON.md: every field, every other name of it and every other property, and no others."""
+    page = (pathlib.Path(__file__).resolve().parents[3] / "docs" / "PYTHON.md").read_text(encoding="utf-8")
     replies: list[Any] = [New, Waited, LwpInfo, Stopped, Handled, Caught, Ended, ProcessRow, LwpRow]
     for reply in replies:
-        row = re.search(rf"^\| `{reply.__name__}` \| (.*) \|$", page, re.MULTILINE)
-        assert row is not None, reply
-        listed = re.findall(r"`(\w+)`", row[1])
+        name = reply.__name__
+        part = re.search(rf"^### {name}\n(.*?)(?=^#|\Z)", page, re.M | re.S) or re.search(rf"^(`{name}\(.*)$", page, re.M)
+        assert part is not None, name
+        fields = re.search(rf"^`{name}\((.*?)\)`", part[1], re.M)
+        also = re.search(r"Also (.*)\.$", part[1], re.M)
+        assert fields is not None, name
+        names = [other for each in (also[1].split("; ") if also else []) for other in re.findall(r"`(\w+)`", each)[1:]]
+        listed = [*fields[1].split(", "), *names, *re.findall(r"^- `(\w+)`", part[1], re.M)]
         others = [name for name, value in vars(reply).items() if isinstance(value, property)]
         assert sorted(listed) == sorted([*reply._fields, *others]), reply

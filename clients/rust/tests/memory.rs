@@ -54,6 +54,8 @@ fn text() {
     assert_eq!(session.last_line().unwrap(), "1001 1 ok");
     assert_eq!(session.line("0").unwrap(), "1001 1 ok", "the first room was too small");
     assert_eq!(session.json_line("0").unwrap(), "y".repeat(1000));
+    assert_eq!(session.last_step(), Err(Error::NoMemory));
+    assert_eq!(session.last_step().unwrap(), Some("z".repeat(1000)));
 }
 
 #[test]

@@ -55,6 +55,20 @@ uint32_t tracehost_last_line(tracehost *h, bool json, uint8_t *out, size_t out_s
     return TRACEHOST_ANSWERED;
 }
 
+/* as an answer in JSON; the first time memory runs out */
+uint32_t tracehost_last_step(tracehost *h, uint8_t *out, size_t out_size, size_t *length)
+{
+    static bool asked;
+    wanted(h->tag != 0);
+    if (!asked) {
+        asked = true;
+        return TRACEHOST_NO_MEMORY;
+    }
+    *length = LONG;
+    memset(out, 'z', out_size);
+    return TRACEHOST_ANSWERED;
+}
+
 uint32_t tracehost_view(tracehost *h, uint32_t user, tracehost_process *processes, size_t processes_size,
                         tracehost_lwp *lwps, size_t lwps_size, size_t *processes_length, size_t *lwps_length)
 {
