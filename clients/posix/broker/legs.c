@@ -8,9 +8,9 @@
  * An LWP that only leaves a call looks at no news. What isn't known to touch less touches everything: processes and LWPs that
  * begin or end, a new tracer, signals to all.
  *
- * A leg is known by what it does, and by the last legs before it that touched the same. So a run is known, but for the order
- * of legs that commute, by the sum of its legs: it is a trace of A. Mazurkiewicz, Concurrent Program Schemes and their
- * Interpretations, 1977. */
+ * The number of a leg is made of what it does, and of the last legs before it that touched the same. The number of a run is
+ * the sum of its legs' numbers, so runs that differ only in the order of legs that commute have the same number. Such runs
+ * are one trace by A. Mazurkiewicz, Concurrent Program Schemes and their Interpretations, 1977. */
 #include <string.h>
 #include "run.h"
 

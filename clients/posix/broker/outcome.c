@@ -127,7 +127,7 @@ void gone(const struct process *p)
 	leave_run();
 }
 
-/* The run goes on as another one does, but for the order of legs that commute. */
+/* The run goes on as another one does. At most legs that commute come in another order. */
 void repeats(void)
 {
 	run.repeats = true;

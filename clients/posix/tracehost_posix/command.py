@@ -40,7 +40,7 @@ class Command:
         self.repeated = 0
         """Of the runs, those that were left: they would only have repeated others."""
         self.schedules: set[int] = set()
-        """The runs, but for the order of legs that commute."""
+        """The runs. Those that differ only in the order of legs that commute count as one."""
         self.covered: dict[Met, bool] = {}
         self.news: deque[bool] = deque(maxlen=LAST)
         """Of the last runs, whether nothing like them had run before."""

@@ -24,7 +24,7 @@ class Choice(NamedTuple):
     """The running LWP can't go on: another choice preempts nobody."""
     others: tuple[int, ...]
     state: int
-    """Two choices with the same number come after the same legs, but for the order of those that commute."""
+    """Two choices with the same number come after the same legs. At most legs that commute are in another order."""
     leg: str = ""
     """What the leg touches that the running LWP made then, in the broker's numbers; empty for everything."""
 
@@ -47,7 +47,7 @@ class Result(NamedTuple):
     examined: int = 0
     """Registers that were read or set, and steps by an instruction."""
     repeats: bool = False
-    """It was left where it would only have repeated another one."""
+    """It was left, since from there on it would only have repeated another one."""
     legs: int = 0
     """Two runs with the same number differ only in the order of legs that commute."""
     points: tuple[Choice, ...] = ()
