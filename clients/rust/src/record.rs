@@ -19,8 +19,7 @@ struct Output {
 
 impl Output {
     fn create(path: &Path) -> io::Result<Output> {
-        let named = |error: Error| Error::new(error.kind(), format!("{}: {error}", path.display()));
-        let file = File::create(path).map_err(named)?;
+        let file = File::create(path).map_err(|error| named(path, &error))?;
         Ok(Output { file, kept: 0 })
     }
 
@@ -48,6 +47,11 @@ impl Output {
     }
 }
 
+/// The error, with the file that it is about.
+fn named(path: &Path, error: &Error) -> Error {
+    Error::new(error.kind(), format!("{}: {error}", path.display()))
+}
+
 /// The files of a recording. The scenario is whole after each step, and the lines are those of its steps.
 #[derive(Debug)]
 pub struct Recording {
@@ -59,14 +63,16 @@ pub struct Recording {
 
 impl Recording {
     /// Makes the files, or empties them.
-    pub fn create(scenario: &Path, lines: Option<&Path>, kill_on_debugger_exit: bool) -> io::Result<Recording> {
-        let mut scenario = Output::create(scenario)?;
+    pub fn create(path: &Path, lines: Option<&Path>, kill_on_debugger_exit: bool) -> io::Result<Recording> {
+        let mut scenario = Output::create(path)?;
         let lines = lines.map(Output::create).transpose()?;
         let head = format!(
             "{{\"kill_on_debugger_exit\":{},\"steps\":[",
             u8::from(kill_on_debugger_exit)
         );
-        scenario.add(head.as_bytes(), END)?;
+        scenario
+            .add(head.as_bytes(), END)
+            .map_err(|error| named(path, &error))?;
         Ok(Recording {
             scenario,
             lines,

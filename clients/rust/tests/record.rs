@@ -106,6 +106,8 @@ fn a_file_that_cannot_be_made_is_named() {
         (error.kind(), error.to_string().starts_with("/nonexistent/s.json: ")),
         (ErrorKind::NotFound, true)
     );
+    let full = session.record("/dev/full", None).expect_err("a full disk");
+    assert!(full.to_string().starts_with("/dev/full: "), "{full}");
     assert!(session.spawn(USER).is_ok());
     let late = session
         .record("/nonexistent/s.json", None)
