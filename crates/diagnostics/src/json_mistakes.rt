@@ -66,7 +66,7 @@ impl Wants {
             (Wants::Item | Wants::Key, ',') => "; leave out one of the commas",
             (Wants::ItemOrEnd | Wants::KeyOrEnd, ',') => "; leave out the comma",
             (_, '/') | (_, '#') => "; JSON has no comments",
-            (_, '\'') => "; JSON has double quotes alone",
+            (_, '\'') => "; JSON has only double quotes",
             (_, '(') | (_, ')') => "; JSON has no parentheses",
             (Wants::Colon, '=') => "; write `:`",
             (Wants::CommaOrBrace | Wants::CommaOrBracket, ';') => "; write `,`",
@@ -119,7 +119,7 @@ fn word_hint(word: &str) -> &'static str {
     match word.chars().next() {
         Some('0'..='9' | '-' | '+' | '.') => "",
         Some('/' | '#') => "; JSON has no comments",
-        Some('\'') => "; JSON has double quotes alone",
+        Some('\'') => "; JSON has only double quotes",
         Some('`') => "; leave out the backquotes",
         Some('(' | ')') => "; JSON has no parentheses: an array has brackets, an object braces",
         _ => "; texts go in double quotes",

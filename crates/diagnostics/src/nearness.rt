@@ -30,7 +30,7 @@ fn edits(alloc: Global, written: &str, name: &str) -> Result<usize, AllocError> 
     generic_levenshtein(alloc, written.as_slice(), name.as_slice())
 }
 
-/// Whether what was written is the name, but for characters that can't be seen.
+/// Whether what was written is the name, apart from characters that can't be seen.
 fn is_seen_as(written: &str, name: &str) -> bool {
     let mut letters = name.chars();
     for character in written.chars() {

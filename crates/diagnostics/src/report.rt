@@ -6,7 +6,7 @@ use std::alloc::{AllocError, Global};
 /// The most characters of a text that are shown.
 const MAX_SHOWN: usize = 40;
 
-/// The lines so far. Where memory runs out that is noted, and reported at the end, so that no single word returns an error.
+/// The lines so far. If memory runs out, that is noted, and reported at the end, so that no single word returns an error.
 #[derive(Drop)]
 pub(crate) struct Report {
     pub(crate) alloc: Global,

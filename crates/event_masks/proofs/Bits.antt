@@ -24,6 +24,6 @@ events-are : known_bits event_table ≡ all_events
 unfolding known_from
 events-are = refl
 
--- a mask with known bits alone, as the flags' own test says it
+-- a mask with only known bits, as the flags' own test says it
 pub known-is : (bits : ℕ) (o : Option EventMask) → IfSome o (λ f. f.0 ≡ bits) → IsSome o ↔ (bit_and bits (known_bits event_table) ≡ bits) → o ≡ mask_of_bits bits
 known-is bits o value known = grind (arith, nat_tests, or_add_and bits 63, events-are)

@@ -1,4 +1,4 @@
--- Moments: a session learns what another one knew, and its calls stand behind that.
+-- Moments: a session learns what another one knew, and its calls come after that.
 use Rattle.host_lock.proofs.CommonNames.{◌≡◌, ℕ, ◌+◌, ◌-◌, ◌*◌, ◌<◌, ◌≤◌, ◌==◌, Bool, true, false, leb, if◌then◌else◌, List, [], ◌∷◌, ◌++◌, length, get_or, drop, sym, refl, ap, ap₂, ◌∙◌, subst, arith, ⊎_elim, MatchBool, length-append}
 use Rattle.host_lock.proofs.CommonNames.{append-nil, append_assoc, nil_from_length, filter-append, none, step, Machine, Entry, entries_of, StartsWith, IsLegal, entry, max_calls, Idle, View, M, Each, both, HasLearned, looked, longer, longest, longest_of}
 use Rattle.host_lock.proofs.CommonNames.{moment_view, others, session_view, split_left, split_right, start_of, known_of, mine_of, view_in, Makes}

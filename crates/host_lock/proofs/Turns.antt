@@ -52,7 +52,7 @@ trade_set l i v w at f = let s = total_set f l i v w at in omega arith
 trade_snoc : (l : List View) (i : ℕ) (v left right : View) → get_elem? l i ≡ some v → Trade l (set l i left ++ right ∷ []) (v ∷ []) (left ∷ right ∷ [])
 trade_snoc l i v left right at f = let s = total_set f l i v left at in let t = total_snoc f (set l i left) right in omega arith
 
--- both have the same, but for the slot
+-- both have the same except in the slot
 record Even (olds news : List View) : Type 0 where
   tickets : (q : ℕ) → total (ticket_of q) news ≡ total (ticket_of q) olds
   numbers : (q : ℕ) → total (number_of q) news ≡ total (number_of q) olds
@@ -91,7 +91,7 @@ module _ {F J : Type 0} where
     abbrev Rule : State (HostSlot F J) View → Type 0
     Rule = SharedInvariant h n
 
-    -- the seats' totals stay, but for what the log counts
+    -- the seats' totals stay, except for what the log counts
     keeps_rule : (s : State (HostSlot F J) View) (r : Rule s) (log : List Entry) (homes : List (maybe.Option (HostSlot F J))) (views olds news : List View) → Trade s.views views olds news → Even olds news
         → total calls_of news + length log ≡ total calls_of olds + length r.log → Each (λ (e : Entry). e.session < n) log → InSlot h log views homes
         → ((j : ℕ) (d : View) → get_elem? views j ≡ some d → Fits h n r.serving log d) → Rule record { words = r.serving ∷ r.ticket ∷ length log ∷ []; homes = homes; views = views }

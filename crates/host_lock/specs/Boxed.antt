@@ -1,4 +1,4 @@
--- Steps whose handlers are on the heap, as the steps that they stand for.
+-- Steps whose handlers are on the heap, as the steps that they mean.
 use Rattle.std.specs.{Prelude.{◌≡◌, List, refl}, Global.Box}
 use Rattle.{stop_handlers.specs.declared.Rule.Rule}
 use Rattle.step_types.specs.{Plain.PlainStep, Plain.map_handler, declared.step.Step.Step}

@@ -191,7 +191,7 @@ impl<F: Decider + Send + Drop, J: CallLog + Send + Drop> SharedHost<F, J> {
     }
 
     /// Makes one step of the session's user. It may wait for the calls of other sessions. The step takes effect at its
-    /// place in the journal. Where the session has already made `MAX_CALLS` calls, the answer is `Spent`, and nothing
+    /// place in the journal. If the session has already made `MAX_CALLS` calls, the answer is `Spent`, and nothing
     /// changes. A call with the reply ENOMEM has no place in the journal, and changes only the count of calls. The step
     /// is a `Step<Handler<F>>`, or a `BoxedStep<F>` with its handler on the heap.
     pub fn call<R: Wait, H: OwnHandler<F>>(
@@ -246,7 +246,7 @@ impl<F: Decider + Send + Drop, J: CallLog + Send + Drop> SharedHost<F, J> {
         }
     }
 
-    /// Lets the session know what another one knew at the moment. From then on, each call of the session stands in
+    /// Lets the session know what another one knew at the moment. From then on, each call of the session comes in
     /// the journal behind all of that. It makes no step of the machine, does not wait and takes no memory.
     pub fn learn(&self, session: &mut Session, moment: Moment)
         requires session { IsOf self.now session.old }

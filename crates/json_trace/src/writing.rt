@@ -31,7 +31,7 @@ enum Part {
 
 /// A writer of the JSON lines of a scenario's run. It writes each of them with two more members after `user` and
 /// `step`: `index`, the number of its step among all users' steps, and `asked`, the step. Each user's lines come in the
-/// order of their steps, which may be all users' order, or user by user, or one user's alone.
+/// order of their steps, which may be all users' order, or user by user, or only one user's.
 #[derive(Drop)]
 pub struct TraceWriter<'a, W: Write + Drop> {
     places: Places<'a>,

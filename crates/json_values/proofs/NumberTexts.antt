@@ -10,7 +10,7 @@ pub without_minus : (s : List ℕ) → false ≡ (get_or s 0 0 == 45) → number
 unfolding number_of
 without_minus s e = rw (sym e) refl
 
--- ---- digits alone
+-- ---- only digits
 
 abbrev digits : List ℕ → Parts
 digits s = record { whole = s; point = false; fraction = []; exponent_negative = false; exponent = []; len = length s }

@@ -43,7 +43,7 @@ plain_run : (xs : List ℕ) → lex in_string xs ≡ lex in_string (drop (prefix
 plain_run [] = refl
 plain_run (x ∷ xs) = run_byte (is_plain x) x (prefix_len is_plain xs) xs refl (plain_run xs)
 
--- plain bytes stand for themselves
+-- plain bytes mean themselves
 plain_content : (x : ℕ) (xs : List ℕ) → is_plain x ≡ true → content plain (x ∷ xs) ≡ prepend (x ∷ []) (content plain xs)
 unfolding content
 plain_content x xs e = grind (arith, nat_tests, or_parts, not-true)
@@ -119,7 +119,7 @@ pub first_of_number : (t r : List ℕ) → after_number t ≡ Some r → head t 
 unfolding after_number
 first_of_number t r found = grind (arith, nat_tests, none-some, ne_eqb, lt-leb, leb)
 
--- what stands before a delimiter and reads as a number is a number by itself
+-- what comes before a delimiter and reads as a number is a number by itself
 pub number_at : (d : List ℕ) (from end : ℕ) → from ≤ end → end ≤ length d → after_number (drop from d) ≡ Some (drop end d) → ends_word (drop end d) ≡ true → IsNumberAt d from end
 number_at d from end later within found ended = search (rules, number_alone, piece_and_rest)
 
@@ -158,7 +158,7 @@ module _ (d : List ℕ) (from end value : ℕ) (minus : get_or d from 32 ≡ 45)
   pub negative_value : option_and_then as_i64 (number_of (piece d from end)) ≡ Some (neg_ℤ (pos value))
   negative_value = grind (arith, nat_tests, integer_of-negative, signed, some_digits)
 
--- what is read at a place, and what stands behind it
+-- what is read at a place, and what comes after it
 pub ruleset strings_read = (nat_tests, head_at, no_content, string_content, past_string)
 
 pub ruleset numbers_read = (nat_tests, past_number, number_at)

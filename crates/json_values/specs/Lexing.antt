@@ -39,13 +39,13 @@ pub record IsNumberAt (text : List ℕ) (from end : ℕ) : Type 0 where
   pub number : IsNumber (piece text from end)
   pub ended : ends_word (drop end text) ≡ true
 
--- t is the token of the literal with this name: if the name stands before a delimiter, it is the first lexeme
+-- t is the token of the literal with this name: if the name comes before a delimiter, it is the first lexeme
 abbrev pub LiteralOf : List ℕ → Token → Type 0
 LiteralOf name t = (rest : List ℕ) → ends_word rest ≡ true → lex between (name ++ rest) ≡ token t ∷ lex between rest
 
 -- ---- the tokens that a reader has before it
 
--- the lexer stands at a lexeme, or at the end
+-- the lexer is at a lexeme, or at the end
 pub record IsLexer (a : Inside) : Type 0 where
   pub utf8 : IsUtf8 a.text.now
   pub no_escape : HasNoEscape a.text.now
@@ -63,7 +63,7 @@ abbrev pub NotBeforeComma : Place → List ℕ → Type 0
 NotBeforeComma AfterValue text = head text ≢ 44
 NotBeforeComma place text = ⊤
 
--- a closing bracket or the end may stand there
+-- a closing bracket or the end may come there
 abbrev pub may_close : Place → Bool
 may_close Fresh = true
 may_close AfterValue = true
@@ -75,7 +75,7 @@ may_begin Fresh = true
 may_begin AfterComma = true
 may_begin place = false
 
--- the tokens if none of those fits that may stand there
+-- the tokens if none of those fits that may come there
 abbrev pub refused_at : Place → List Token
 refused_at Failed = []
 refused_at place = bad ∷ []

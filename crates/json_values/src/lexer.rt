@@ -1,4 +1,4 @@
-//! The lexemes of a text without escapes, each read where it stands.
+//! The lexemes of a text without escapes, each read in its place.
 ghost use Rattle.std.specs.Prelude.{◌≡◌, ◌≤◌, ◌∷◌, ℕ, List, [], length, drop, true, Some, None, IfSome, MatchOption, option_and_then};
 ghost use Rattle.json.specs.Align.{is_blank, is_good};
 ghost use Rattle.json.specs.Lex.{token, operator, other, class, between, lex};

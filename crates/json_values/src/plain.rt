@@ -91,7 +91,7 @@ fn word<'a>(lexer: &mut Lexer<'a>, place: Place) -> (Token<'a>, Place)
     (token, after_value(lexer))
 }
 
-/// Takes what may stand at the begin of a value, but for a string.
+/// Takes what may come at the beginning of a value, except a string.
 #[inline(always)]
 #[tactic(auto, using(crate::proofs::Places::opens_array, crate::proofs::Places::opens_object, crate::proofs::Places::stray))]
 fn begin<'a>(lexer: &mut Lexer<'a>, place: Place) -> (Token<'a>, Place)

@@ -14,7 +14,7 @@ pub first-at : (pid : ℕ) (lwps : List LwpData) → first_lwp pid lwps ≡ slic
 first-at pid [] = refl
 first-at pid (k ∷ ks) = search (rules, first-at pid ks, slice_get)
 
--- an LWP at a place of its process's list: its number finds it, and the next one stands a place further
+-- an LWP at a place of its process's list: its number finds it, and the next one is a place further
 pub record IsFoundAt (pid : ℕ) (lwps : List LwpData) (i : ℕ) (l : LwpData) : Type 0 where
   pub named : lwp_of l.tid lwps ≡ Some l
   pub own : l.pid ≡ pid

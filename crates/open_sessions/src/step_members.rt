@@ -150,7 +150,7 @@ fn push_keys<H>(
     }
 }
 
-/// Writes the keys of the step but for its user, with those of the policy that it installs.
+/// Writes all keys of the step except its user. `policy` is the one that the step installs.
 pub fn push_step<H>(
     out: &mut Writer,
     step: &Step<H>,

@@ -1,4 +1,4 @@
--- Lists of which each element is something.
+-- Lists whose elements are all something.
 use Rattle.proc_table.proofs.CommonNames.{nat_tests, ◌≡◌, Bool, true, false, List, [], ◌∷◌, ◌++◌, map, Some, None, rules, arith, filter, find, AllByRecursion, cases_Bool}
 pub use Rattle.lwp_table.proofs.IndexLemmas.{some_of, some_and}
 

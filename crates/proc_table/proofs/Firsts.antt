@@ -11,7 +11,7 @@ use Rattle.proc_table.proofs.NextOf.{next-found, next-none}
 use Rattle.proc_table.proofs.Linked.{key_node, as_member, member-of, list-of, IsNext-nearest}
 use Rattle.proc_table.proofs.ListNodes.{slot_at}
 
--- the walk has passed the rows of the list up to this number, each of which fails, and is at the link to the next one
+-- the walk has passed the rows of the list up to this number, which all fail, and is at the link to the next one
 pub record IsPassing (f : ℕ → Option RowNode) (kin : ListKind) (t : ℕ) (returns : ProcData → Bool → Type 0) (passed : ℕ) (link : Option ℕ) : Type 0 where
   pub next : IsNext (keys (nodes_of kin f)) t passed link
   pub past : (j : ℕ) (other : RowNode) → f j ≡ Some other → (node_of kin other).list_owner ≡ Some t → other.row.pid ≤ passed → returns other.row false
@@ -70,7 +70,7 @@ module _ {f : ℕ → Option RowNode} {es : List (ℕ × ℕ)} {counts : List �
   whole : find (λ p. ltb 0 p.pid && (is_this t (list_owner kin p) && test p)) rows ≡ find_named kin t test rows
   whole = find-above_zero (λ p. is_this t (list_owner kin p) && test p) rows (in_own_blocks-all_rows _ (finds (rows_of f) es counts tied.slotted))
 
-  -- a row that passes is in the list, in a slot where no call returned false
+  -- a row that passes is in the list, in a slot at which no call returned false
   passer : (r : ProcData) → process_of r.pid rows ≡ Some r → (is_this t (list_owner kin r) && test r) ≡ true
       → (s : ℕ) × (slot : RowNode) × (f s ≡ Some slot) × ((node_of kin slot).list_owner ≡ Some t) × (slot.row.pid ≡ r.pid) × (returns slot.row false → ⊥)
   passer r at passes = grind (arith, nat_tests, key-of-row tied kin t r, this-is t (list_owner kin r), member_slot f kin t, row-of tied, its, same_Some)

@@ -53,7 +53,7 @@ list-of f linked head t own there number = rw (← number) (linked.lists head ow
 pub nearest-beyond : (f : ℕ → Option Node) → IsLinked f → (t q : ℕ) (old : Node) → f q ≡ Some old → old.list_owner ≡ None → (o : Option ℕ) → IsNearest up (members f) t (at_least old.pid) o → IsNearest up (members f) t (above old.pid) o
 nearest-beyond f linked t q old there free = grind (arith, nat_tests, node-of, same_Some)
 
--- the links beside a place in the list of t are turned, and the node in q comes to stand in this list or in none
+-- the links beside a place in the list of t are turned, and the node in q comes into this list or into none
 module _ (f z : ℕ → Option Node) (linked : IsLinked f) (head t q : ℕ) (own old : Node) (has_head : f head ≡ Some own) (number : own.pid ≡ t) (has_q : f q ≡ Some old)
     (before after to from list_owner prev next : Option ℕ)
     (turned : (s : ℕ) → z s ≡ option_map (hung q list_owner prev next s) (option_map (backward head after from s) (option_map (forward head before to s) (f s)))) where

@@ -9,7 +9,7 @@ use Rattle.proc_table.proofs.ListNodes.{slot_at, row_slot}
 pub each_kin : (P : ListKind → Type 0) (kin : ListKind) → P kin → P (other kin) → (k : ListKind) → P k
 each_kin P kin a b k = grind (arith, nat_tests)
 
--- a head stays one where rows stay
+-- a head stays one if rows stay
 pub head-kept : (f g : ℕ → Option RowNode) (h t : ℕ) → rows_of g h ≡ rows_of f h → IsHead f h t → IsHead g h t
 head-kept f g h t rows there = grind (arith, nat_tests)
 
@@ -58,7 +58,7 @@ module _ (f g : ℕ → Option RowNode) (es : List (ℕ × ℕ)) (q : ℕ) (are_
   node_of_others : (k : ListKind) (s : ℕ) → s ≢ q → nodes_of k g s ≡ nodes_of k f s
   node_of_others k s apart = ap (option_map (node_of k)) (others s apart)
 
-  -- heads stay where their slots do
+  -- heads stay if their slots do
   module _ (h t : ℕ) (apart : h ≢ q) where
     pub head-apart : IsHead f h t → IsHead g h t
     head-apart there = rw (others h apart) there

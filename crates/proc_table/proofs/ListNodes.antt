@@ -76,7 +76,7 @@ link-there le kin f t P o near = grind (arith, nat_tests, node-of, slot_at)
 pub member-row : (kin : ListKind) (f : ℕ → Option RowNode) (s : ℕ) (m : Member) (slot : RowNode) → members (nodes_of kin f) s ≡ Some m → f s ≡ Some slot → as_member (node_of kin slot) m.list ≡ m
 member-row kin f s m slot there is = grind (arith, nat_tests, node-of, as_member, same_Some)
 
--- a slot that has a row keeps one where rows stay
+-- a slot that has a row keeps one if rows stay
 pub still-there : (f g : ℕ → Option RowNode) → ((s : ℕ) → rows_of g s ≡ rows_of f s) → (o : Option ℕ) → IfSome o (λ s. IsSome (f s)) → IfSome o (λ s. IsSome (g s))
 still-there f g rows o there = grind (arith, nat_tests)
 

@@ -60,7 +60,7 @@ lwp_count_own u rows = grind (arith, nat_tests, owns_own u, always rows.lwps, co
 pub counts_own : CountsSeeOwn
 counts_own = (process_count_own, lwp_count_own)
 
--- the next free number of a block depends on that block's numbers alone
+-- the next free number of a block depends only on that block's numbers
 first_free-same : (taken other : ℕ → Bool) (count n : ℕ) → ((m : ℕ) → n ≤ m → m < n + count → taken m ≡ other m) → first_free taken count n ≡ first_free other count n
 first_free-same taken other zero n h = refl
 first_free-same taken other (suc count) n h = ap₂ (λ (b : Bool) (r : Option ℕ). elim b [ true ↦ r | false ↦ Some n ]) (h n (omega arith) (omega arith)) (first_free-same taken other count (n + 1) (λ m le lt. h m (omega arith) (omega arith)))

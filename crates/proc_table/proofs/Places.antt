@@ -6,7 +6,7 @@ use Rattle.lwp_table.specs.Chain.{Node}
 abbrev pub up_to : ℕ → ℕ → Type 0
 up_to a p = p ≤ a
 
--- the walk has passed the members up to a number that is below `pid`, and stands between these two
+-- the walk has passed the members up to a number that is below `pid`, and is between these two
 pub record HasPassed (m : ℕ → Option Node) (t pid passed : ℕ) (prev next : Option ℕ) : Type 0 where
   pub prev_is : IsNearest down m t (up_to passed) prev
   pub next_is : IsNearest up m t (above passed) next

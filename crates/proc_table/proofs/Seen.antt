@@ -22,7 +22,7 @@ module _ {A : Type 0} (number : A → ℕ) where
   pub any-found : (test : A → Bool) (xs : List A) → list_any test xs ≡ is_some (find test xs)
   any-found test xs = any-is_some test xs
 
--- by what the look-up alone finds
+-- by what only the look-up finds
 module _ (u n : ℕ) (ps : List ProcData) (r : Rise ps) where
   pub visible_process-kept : find (λ p. nat_eq p.pid n && nat_eq p.uid u) ps ≡ keep (λ (p : ProcData). nat_eq p.uid u) (process_of n ps)
   visible_process-kept = find-kept (λ (p : ProcData). p.pid) (λ p. nat_eq p.uid u) n ps (once ps r)

@@ -33,7 +33,7 @@ NextTraceeLeast = (pid : ℕ) → GivesLeast (traces pid) (next_tracee pid)
 abbrev pub NextChildLeast : Type 0
 NextChildLeast = (pid : ℕ) → GivesLeast (λ p. p.parent == pid) (next_child pid)
 
--- the rows of a user's processes and of their LWPs alone
+-- only the rows of a user's processes and of their LWPs
 abbrev pub only_of : ℕ → Rows → Rows
 only_of u rows = record rows { processes = of_user u rows.processes; lwps = filter (λ l. owns u l.pid rows.processes) rows.lwps }
 

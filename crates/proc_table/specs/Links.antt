@@ -47,7 +47,7 @@ forward head at to s node = record node { first = if nat_eq head s && is_none at
 abbrev pub backward : ℕ → Option ℕ → Option ℕ → ℕ → Node → Node
 backward head at to s node = record node { last = if nat_eq head s && is_none at then to else node.last; prev = if leads_to at s then to else node.prev }
 
--- and after the node in slot q came to stand in the list of this number, or in none, between these two
+-- and after the node in slot q came into the list of this number, or into none, between these two
 abbrev pub hung : ℕ → Option ℕ → Option ℕ → Option ℕ → ℕ → Node → Node
 hung q list_owner prev next s node = record node {
   list_owner = if nat_eq q s then list_owner else node.list_owner;

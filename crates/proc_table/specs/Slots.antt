@@ -4,7 +4,7 @@ use Rattle.proc_table.specs.CommonNames.{ℕ, List, Option, Some, nat_eq, count_
 use Rattle.proc_table.specs.Keep.{keep}
 use Rattle.proc_table.specs.Kept.{InOwnBlock}
 
--- what contracts see of the processes alone: the rows by rising number, and how many more fit without allocation
+-- what contracts see of only the processes: the rows by rising number, and how many more fit without allocation
 pub record ProcRows : Type 0 where
   pub rows : List ProcData
   pub spare : ℕ

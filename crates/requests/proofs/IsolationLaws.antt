@@ -62,7 +62,7 @@ view_of_parts : {ps qs : List ProcData} {ls ks : List LwpData} {a b c d : ℕ} {
     → made ps ls a c is x ≡ made qs ks b d js y
 view_of_parts p l a c i s = rw (p, l, a, c, i, s) refl
 
--- two hosts of which one is what u sees of the other
+-- two hosts: one is what u sees of the other
 seen_twin : (u : ℕ) (start : Rows) (a b : Machine) → Sim u start a.rows b.rows → installed_by u a ≡ installed_by u b → a.settings ≡ b.settings → view u a ≡ view u b
 seen_twin u start a b s pairs settings = view_of_parts
     (sym (filter_only (own u) (own u) (λ p. Unit {0}) (λ p g is. is) a.rows.processes (every a.rows.processes)) ∙ ap (of_user u) s.processes)

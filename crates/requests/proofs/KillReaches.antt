@@ -37,7 +37,7 @@ gone : (f : ProcData → Option ProcData) → ((p : ProcData) → IfSome (f p) (
 gone f same n [] is = refl
 gone f same n (p ∷ ps) is = grind (arith, nat_tests, gone f same n ps, same p, is)
 
--- A list of processes of which some are gone: those get nothing
+-- A list of processes, some of them gone: those get nothing
 
 abbrev Gone : (ProcData → Option ProcData) → Rows → ProcData → Type 0
 Gone f rows p = f p ≡ None → process_of p.pid rows.processes ≡ None

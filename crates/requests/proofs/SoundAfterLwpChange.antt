@@ -25,7 +25,7 @@ module _ (rows : Rows) (p : ProcData) (l : LwpData) (a : Acting rows p l) where
   due_sound shown is = acting_stops (change_lwp l.tid (λ k. record k { due = Due.Nothing }) rows) p (record l { due = Due.Nothing }) (acting_lwp rows p l a (λ k. record k { due = Due.Nothing }) (record { same = λ k. (refl, refl, refl); waits = (lwp_stands rows p l a).waits; fit = λ fit. grind (arith, nat_tests) })) shown
       (grind (arith, nat_tests, due_shown l.due shown is, lwp_fit rows p l a)) (grind (arith, nat_tests, due_shown l.due shown is))
 
-  -- if LWPs of the process alone go, of which one stays, or its row is changed, and it reports nothing
+  -- if only LWPs of the process go, and one of them stays, or its row is changed, and it reports nothing
 
   pub its_number : (q : ProcData) → Row rows FitProcess q → (q.pid == p.pid) ≡ true → p ≡ q
   its_number q row is = sym (row_is row a.home (eqb-true q.pid p.pid is))

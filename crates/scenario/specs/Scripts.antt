@@ -24,7 +24,7 @@ scripts_in list = filter has_steps (map (λ u. (u, steps_of u list)) users)
 abbrev pub told_to : ℕ → List Reply → List Answered
 told_to u rs = map (λ r. record { uid = u; reply = r }) rs
 
--- the replies of which a user's lines were made
+-- the replies that a user's lines were made from
 abbrev pub replies_in : UserLines → List Reply
 replies_in lines = unseen_in lines.replies
 

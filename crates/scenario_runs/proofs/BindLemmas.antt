@@ -3,7 +3,7 @@ use Rattle.scenario_runs.proofs.CommonNames.{⊤, ◌≡◌, ℕ, ◌+◌, ◌<�
 use Rattle.scenario_runs.proofs.CommonNames.{length-append, Rule, Step, Reply, Steps, Machine, Makes, PlainStep, with_handler, UserStep, map-push, asked, with_policies, first_policy, policies_after, policies_in}
 use Rattle.scenario_runs.proofs.CommonNames.{first, policy_before, with_installed, IsAnswered, IsBound, left_after, append_assoc}
 
--- the steps from place i on, of which x is the first, with the policies from there on
+-- the steps from place i on, whose first is x, with the policies from there on
 module _ (ss : List (ℕ × Step ⊤)) (i : ℕ) (x : ℕ × Step ⊤) (ps qs : List (List Rule)) (h : i < length ss) (here : get_or ss i x ≡ x) where
   with_policies_first : with_policies (drop i ss) ps ≡ asked (x.0, with_installed (first_policy ps) x.1) ∷ with_policies (drop (i + 1) ss) (policies_after x.1 ps)
   with_policies_first = at_drop_more (λ xs. with_policies xs ps) ss i x h ∙ ap (λ (y : ℕ × Step ⊤). with_policies (y ∷ drop (i + 1) ss) ps) here

@@ -4,7 +4,7 @@ ghost use Rattle.scenario_text.specs.Keys.{key_named, key_set};
 
 use std::ops::BitOr;
 
-/// A set of keys. `OTHER` stands for all that neither steps nor rules have.
+/// A set of keys. `OTHER` means all that neither steps nor rules have.
 #[derive(Clone, Copy, Drop)]
 pub(crate) struct Keys(pub(crate) u32);
 

@@ -1,4 +1,4 @@
--- Scripts whose handlers are on the heap, as the scripts that they stand for.
+-- Scripts whose handlers are on the heap, as the scripts that they mean.
 use Rattle.std.specs.{Prelude.{ℕ, List, map, Vec}, Global.Global}
 use Rattle.{host_lock.specs.Boxed.{SmallStep, own_step}, sessions.specs.declared.boxing.BoxedScript.BoxedScript}
 use Rattle.step_types.specs.Plain.{PlainStep}

@@ -17,6 +17,13 @@ impl Dispositions {
         }
     }
 
+    /// Returns the signals that the process ignores, and those that it catches.
+    pub fn sets(&self) -> (SigSet, SigSet)
+        ensures { result ≡ (self.now.ignored, self.now.caught) }
+    {
+        (self.ignored, self.caught)
+    }
+
     /// Returns what the process does with the signal.
     pub fn get(&self, signal: Signal) -> Disposition
         ensures { result ≡ disposition_of self.now signal }

@@ -5,7 +5,7 @@
 //! a handler proves this fact.
 //!
 //! A closure `|view: &StopView| ..` can become a handler if it may be called on every stop, its answer depends on
-//! the stop alone, and this answer is the policy's. It can call `Policy::decide` on a copy of the policy, or decide
+//! only the stop, and this answer is the policy's. It can call `Policy::decide` on a copy of the policy, or decide
 //! by cases of its own. It is passed as `ByClosure(closure)`. Some closures can't become a handler: those that
 //! answer anything else for some stop, and those whose answer depends on something that others change, such as a
 //! counter. For them, what `Handler::new` requires can't be proved.

@@ -77,7 +77,7 @@ fn check_answered(
     case.check_hosts(host, &other, "a list leaves another host")
 }
 
-/// Makes the scenario's steps as a list, and returns the replies, or `None` where the list is refused.
+/// Makes the scenario's steps as a list, and returns the replies, or `None` if the list is refused.
 fn ran(case: &Case<'_>, host: &mut Host<ByPolicy>) -> Result<Option<Vec<Reply>>, TestError> {
     let steps = bound(case)?;
     Ok(run_list(case.alloc, host, steps).ok())

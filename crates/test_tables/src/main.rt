@@ -9,7 +9,7 @@ mod manual;
 
 use std::io;
 
-/// Returns the value, or the error of a wrong input where there is none.
+/// Returns the value, or the error of a wrong input if there is none.
 fn present<T>(value: Option<T>) -> io::Result<T>
     ensures { value ≡ result_ok result }
 {

@@ -10,7 +10,7 @@ without_apart a b = same_from_bits _ _ (λ i. simp (bit_at_and, bit_at_or, bit_a
 pub without_less : (a b c : ℕ) → bit_and a b ≡ 0 → bit_and (without a c) b ≡ 0
 without_less a b c none = same_from_bits _ _ (λ i. let apart = ap (λ x. bit_at x i) none in simp (bit_at_and, bit_at_or, bit_at_xor, bit_at-zero) (omega (arith, simp (bit_at_and, bit_at-zero) at apart, bit_at-lt a i, bit_at-lt b i, bit_at-lt c i)))
 
--- a set of which nothing was taken out
+-- a set that nothing was taken out of
 pub without_none : (a : ℕ) → without a 0 ≡ a
 without_none a = same_from_bits _ _ (λ i. simp (bit_at_or, bit_at_xor, bit_at-zero) (omega (arith, bit_at-lt a i)))
 

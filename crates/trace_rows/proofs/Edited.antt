@@ -23,7 +23,7 @@ pub edit_none : {X : Type 0} (f : X → Option X) → ((x : X) → f x ≡ Some 
 edit_none f h [] = refl
 edit_none f h (x ∷ xs) = grind (arith, h x, edit_none f h xs)
 
--- an edit of processes alone leaves the LWPs
+-- an edit of only processes leaves the LWPs
 pub lwps_left : (rows : Rows) → filter_map (λ l. by_owner (λ p k. Some k) l (process_of l.pid rows.processes)) rows.lwps ≡ rows.lwps
 lwps_left rows = search (rules, edit_none)
 

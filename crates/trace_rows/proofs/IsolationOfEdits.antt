@@ -43,7 +43,7 @@ change_same s chosen process lwp foreign mine mine_lwp = each_same s (λ p. Some
   live = λ p l good is live. inl (grind (arith, mine p good is, live));
 })
 
--- processes alone
+-- only processes
 pub edit_same : {u : ℕ} {start c v : Rows} → Sim u start c v → (f : ProcData → Option ProcData)
     → ((p : ProcData) → GoodProc p → p.uid ≡ u → SameOwnership p (f p))
     → ((p : ProcData) → GoodProc p → p.uid ≢ u → f p ≡ Some p)
@@ -63,7 +63,7 @@ process_same_after {u} s n here f stays = edit_same s (λ p. Some (if p.pid == n
     kept : (p : ProcData) → GoodProc p → p.uid ≡ u → Stays p (if p.pid == n then f p else p)
     kept p good is = stays_if p (f p) (p.pid == n) good (λ e. stays p good is (eqb-true p.pid n e))
 
--- LWPs alone
+-- only LWPs
 lwps_alone : (g : LwpData → Option LwpData) (rows : Rows) → AllByRecursion (LiveOwner rows.processes) rows.lwps → each (λ p. Some p) (λ p l. g l) rows ≡ edit_lwps g rows
 lwps_alone g rows in_owners_block = rw (
   edit_none (λ p. Some p) (λ p. refl) rows.processes,

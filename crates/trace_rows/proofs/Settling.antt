@@ -1,4 +1,4 @@
--- Settling makes rows sound that are so but for the pending sets of one process.
+-- Settling makes rows sound that are so except in the pending sets of one process.
 use Rattle.trace_rows.proofs.CommonNames.{nat_tests, LwpData, ProcData, is_live, process_of, Rows, change, change_process, is_numbered, unwanted, settled_process, settled_lwp, settle, FitProcess, FitLwp, IsSound, FitButPending}
 use Rattle.trace_rows.proofs.CommonNames.{FitLwpButPending, IsSoundButPending, ◌≡◌, inl, ℕ, true, Some, refl, sym, subst, eqb-true, bit_and, arith, Actions}
 use Rattle.std.proofs.lemmas.Nat.{and_le_l}
@@ -21,7 +21,7 @@ settle_sound rows pid s = sound_holds (settle pid rows) (changes_hold rows (is_n
 pub zero_apart : (n : ℕ) → bit_and 0 n ≡ 0
 zero_apart n = omega (arith, and_le_l 0 n)
 
--- a live process with other dispositions is fit but for what is pending
+-- a live process with other dispositions is fit except for what is pending
 pub redisposed : (d : Actions) (p : ProcData) → FitProcess p → is_live p ≡ true → FitProcess (record p { dispositions = d; pending = 0 })
 redisposed d p fit live = grind (arith, nat_tests)
 

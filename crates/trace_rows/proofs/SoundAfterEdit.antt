@@ -114,7 +114,7 @@ pub record Same (f : ProcData → Option ProcData) (g : ProcData → LwpData →
   pub process : (p : ProcData) → IfSome (f p) (λ q. (q.pid ≡ p.pid) × (q.uid ≡ p.uid))
   pub lwp : (p : ProcData) (l : LwpData) → IfSome (g p l) (λ k. (k.tid ≡ l.tid) × (k.pid ≡ l.pid))
 
--- what an edit requires: `over` tests for the numbers of the processes that end, of which no LWP is left
+-- what an edit requires: `over` tests for the numbers of the processes that end, which have no LWP left
 pub record Edit (rows : Rows) (over : ℕ → Bool) (f : ProcData → Option ProcData) (g : ProcData → LwpData → Option LwpData) (P : ProcData → Type 0) (Q : ProcData → LwpData → Type 0) (P' : ProcData → Type 0) (Q' : ProcData → LwpData → Type 0) : Type 0 where
   pub same : Same f g
   pub ring : NoNewRing rows.processes (filter_map f rows.processes)
@@ -173,7 +173,7 @@ module _ (rows : Rows) (f : ProcData → Option ProcData) (g : ProcData → LwpD
   pub one_left : (p : ProcData) → process_of p.pid rows.processes ≡ Some p → (l : LwpData) → l.pid ≡ p.pid → (k : LwpData) → g p l ≡ Some k → (k : LwpData) × (by_owner g l (owner rows l) ≡ Some k) × (k.tid ≡ l.tid) × (k.pid ≡ l.pid)
   one_left p at l own k is = search (rules, if_at)
 
-  -- if the LWPs of a process stay, of each of which R holds
+  -- if the LWPs of a process stay, and R holds of each
   pub stay_where : (R : LwpData → Type 0) → AllByRecursion R rows.lwps → (p : ProcData) → process_of p.pid rows.processes ≡ Some p → ((l : LwpData) → R l → l.pid ≡ p.pid → (k : LwpData) × (g p l ≡ Some k)) → Stay rows after p
   stay_where R all p at keeps = search (rules, count_kept, eqb-true, any_forward, and_right, one_left)
 
@@ -212,7 +212,7 @@ module _ (rows : Rows) (over : ℕ → Bool) (f : ProcData → Option ProcData) 
   each_row : (R : ProcData → Type 0) → ((p q : ProcData) → Row rows P p → (q.pid ≡ p.pid) × (q.uid ≡ p.uid) → KeptRow rows made over P' p q → R q) → AllByRecursion R made.processes
   each_row R to = All-edit f (Row rows P) R (λ p row. grind (arith, e.same.process p, e.process p row, to p)) rows.processes (all_rows rows s)
 
-  -- an LWP that is left, with its process: its block, that it stands, and its fact
+  -- an LWP that is left, with its process: its block, that it is standing, and its fact
   abbrev Here : LwpData → Type 0
   Here k = (q : ProcData) × (process_of k.pid made.processes ≡ Some q) × InBlock (tid_block q.uid) k.tid × Standing made q k × Q' q k
 
@@ -256,7 +256,7 @@ module _ (rows : Rows) (over : ℕ → Bool) (f : ProcData → Option ProcData) 
       let lwps = owners Q' (λ q k h. h.1) in
       assumption
 
--- Edits of processes alone, and of LWPs alone
+-- Edits of only processes, and of only LWPs
 pub processes_alone : (f : ProcData → Option ProcData) (rows : Rows) → each f (λ p l. Some l) rows ≡ edit_processes f rows
 processes_alone f rows = ap (λ ls. record rows { processes = filter_map f rows.processes; lwps = ls }) (lwps_left rows)
 

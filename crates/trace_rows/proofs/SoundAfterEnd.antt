@@ -50,7 +50,7 @@ module _ (settings : Settings) (rows : Rows) (p : ProcData) (s : IsSound rows) (
       far : meets 250 rows.processes p.pid q.pid ≡ true → ⊥
       far near = grind (arith, kills, alive, near, stays)
 
-  -- if they don't, and p traces no live process, p ends alone
+  -- if they don't, and p traces no live process, only p ends
   alone : settings.kill_on_debugger_exit ≡ false → (q : ProcData) → traces p.pid q ≡ false → (t : ℕ) → q.tracer ≡ Some t → over t ≡ false
   alone spares q free t is = by_bool (over t) (λ dies. doomed t ⊥ dies (λ same. grind (arith, nat_tests, same, is, free)) (λ kill met. cc))
 

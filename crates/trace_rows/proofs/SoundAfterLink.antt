@@ -1,4 +1,4 @@
--- A process gets a tracer: the new link closes no ring, and rows stay sound but for the process itself.
+-- A process gets a tracer: the new link closes no ring, and rows stay sound, except perhaps the process itself.
 use Rattle.trace_rows.proofs.CommonNames.{nat_tests, ProcData, process_of, Rows, each, change_process, IsLiveOf, FitProcess, FitLwp, IsSound, ◌≡◌, ◌≢◌, ◌⊎◌, inl, ℕ, zero, suc, ◌+◌, true, false, ◌==◌, ◌||◌, if◌then◌else◌, List, [], ◌∷◌}
 use Rattle.trace_rows.proofs.CommonNames.{filter_map, Option, Some, refl, sym, ap, ◌∙◌, true≢false, subst, arith, eqb-true, eq-eqb, tracer_in, tracer_of}
 use Rattle.event_masks.specs.declared.EventMask.{EventMask}
@@ -74,7 +74,7 @@ module _ (rows : Rows) (p : ProcData) (n : ℕ) (mask : EventMask) (s : IsSound 
   stays : (q : ProcData) → Row rows FitProcess q → Stay rows made q
   stays q row = stay rows to (λ q l. Some l) same_rows q row.at (λ l. (l, refl))
 
-  -- every row is fit but for the one that is traced from now on
+  -- every row is fit except the one that is traced from now on
   abbrev pub Traced : ProcData → Type 0
   Traced q = (q.pid ≢ p.pid → FitProcess q) × (q.pid ≡ p.pid → q ≡ linked p)
 

@@ -3,7 +3,7 @@ use Rattle.trace_stop.proofs.CommonNames.{is_this, ◌≡◌, ℕ, Bool, true, f
 use Rattle.trace_stop.proofs.CommonNames.{exists, process_after, lwp_after, nat_tests}
 use Rattle.trace_stop.proofs.Told.{fallen, tells, told_by}
 
--- the doom of q alone, and a doom without q
+-- the doom of only q, and a doom without q
 abbrev pub alone : ℕ → ℕ → Bool
 alone q n = n == q
 

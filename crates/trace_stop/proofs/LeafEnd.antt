@@ -1,4 +1,4 @@
--- The end of a process without live tracees: it ends alone.
+-- The end of a process without live tracees: only it ends.
 use Rattle.trace_stop.proofs.CommonNames.{or-false, ◌≡◌, ◌≢◌, ℕ, zero, suc, List, [], ◌∷◌, filter_map, Bool, true, false, not, ◌&&◌, ◌==◌, if◌then◌else◌, Option, Some, IfSome, refl, sym, ap, ◌∙◌, arith, rules, eqb-true}
 use Rattle.trace_stop.proofs.CommonNames.{subst, ◌<◌, count_by, true≢false, fun_ext, nat_tests, AllByRecursion, list_any, ProcData, process_of, is_live, is_live_at, traces, Rows, Rise, each, untraced, notified}
 use Rattle.trace_stop.proofs.CommonNames.{lost_signals, end, end_each, end_of, is_live_of, Linked, MidStepInvariant, meets, is_doomed, dooms, notifies_of, traces_live, end_alone, LeafEnd, DetachedEnd, LeafEndsNoOther}
@@ -55,7 +55,7 @@ end_each_same ends ends' over over' p status rows all same =
     (All-imply (λ r. ends r ≡ ends' r) _ (λ r e. (rw e refl, λ l. rw e refl)) rows.processes all))
     ∙ ap (λ (d : ℕ → Bool). end_each ends' d p status rows) (fun_ext same)
 
--- the numbers that end if q alone does
+-- the numbers that end if only q does
 one_number : (t : ProcData → Bool) (q n : ℕ) (ps : List ProcData) → AllByRecursion (λ r. t r ≡ (r.pid == q)) ps → list_any (λ r. (r.pid == n) && t r) ps ≡ (list_any (λ r. r.pid == q) ps && (n == q))
 one_number t q n [] all = refl
 one_number t q n (r ∷ ps) all = grind (arith, nat_tests, all.0, one_number t q n ps all.1)

@@ -138,7 +138,7 @@ module _ (rows : Rows) (p q : ℕ) (s : MidStepInvariant rows) (qp : (q == p) �
   p_left : is_live_at p left ≡ true
   p_left = grind (arith, nat_tests, lives-after p, p_live, qp)
 
-  -- the same rows are doomed, but for q
+  -- the same rows are doomed, except q
   doomed-after : (n : ℕ) → dooms kills left.processes p n ≡ rest doomed q n
   doomed-after n = grind (arith, nat_tests, dooms_is left p left-rises n (λ same. ap (λ m. is_live_at m left) (eqb-true n p same) ∙ p_left), doomed-is n, lives-after n, meets-after 250 n)
 

@@ -14,7 +14,7 @@ AlikeLists u [] [] m = Unit {0}
 AlikeLists u (x ∷ xs) (y ∷ ys) m = AlikeSteps u m x.step y.step × AlikeLists u xs ys (host_after u x.step m)
 AlikeLists u xs ys m = ⊥
 
--- two lists of all users' steps, from hosts of which the user sees the same: if the user's own steps differ only in
+-- two lists of all users' steps, from hosts that show the user the same: if the user's own steps differ only in
 -- such numbers, the user's replies and the user's views at the end are the same
 abbrev pub ForeignNumbers : Type 0
 ForeignNumbers = (m k : Machine) (u : ℕ) (xs ys : List UserStep) → IsUser u → Users xs → Users ys → Apart m → Apart k → view u m ≡ view u k

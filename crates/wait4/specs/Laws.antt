@@ -1,4 +1,4 @@
--- Which child a wait reports, and how a wait depends on one user's rows alone.
+-- Which child a wait reports, and how a wait depends only on one user's rows.
 use Rattle.std.specs.Prelude.{◌≡◌, ◌≢◌, ◌&&◌}
 use Rattle.trace_rows.specs.CommonNames.{ℕ, ℤ, true, Rows, owns, LeastOrNone, only_of}
 use Rattle.trace_rows.specs.Facts.{IsSound}

@@ -1,4 +1,4 @@
-//! Opening, closing, and the journal between them. A call after a moment stands behind it in the journal.
+//! Opening, closing, and the journal between them. A call after a moment comes after it in the journal.
 
 ghost use Rattle.std.specs.Prelude.{IfSome};
 ghost use Rattle.host_lock.specs.Sessions.{IsOf};
@@ -103,7 +103,7 @@ fn is_shown(session: &Session, user: u32, number: usize, made: u32) -> bool {
     session.uid().get() == user && session.number() == number && session.calls_made() == made
 }
 
-/// Closes the host. `None` where only one of the two sessions closes it, both don't, or a session shows other calls.
+/// Closes the host. `None` if only one of the two sessions closes it, both don't, or a session shows other calls.
 fn close_in_turn(
     alloc: Global,
     host: SharedHost<ByPolicy>,

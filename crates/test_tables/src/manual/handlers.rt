@@ -15,7 +15,7 @@ use stop_handlers::{
     ByClosure, ByPolicy, Decider, Decision, Handler, Policy, Rule, StopView, TooManyRules,
 };
 
-/// Returns a stop of the process 1001 with this signal. `None` where the number isn't a signal's.
+/// Returns a stop of the process 1001 with this signal. `None` if the number isn't a signal's.
 fn stop(signal: u32, flags: u32) -> Option<StopView> {
     Some(StopView {
         pid: Pid::new(1001)?,

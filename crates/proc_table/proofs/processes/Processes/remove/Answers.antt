@@ -14,7 +14,7 @@ update_lists-requires-clause-there c = taken c.self.invariant _ c.args.pid c.kno
 pub remove-gone-requires : goal.remove-gone-requires
 remove-gone-requires c = taken c.self.invariant _ c.args.pid c.known_slot-slot.result c.update_lists.ensures.rows (rw (← c.self.view_is) at c.requires.there) (rw c.get-number.ensures.number at c.known_slot-slot.ensures)
 
--- what is then kept, and of which rows
+-- what is then kept, and for which rows
 after : (c : After-slot) → IsWithout (get c.self.inside.nodes) c.self.inside.slots.entries c.self.inside.counts c.args.pid c.remove-gone.result.row.uid (get c.remove-gone.new.self)
 after c =
     let there = some_of _ (rw (← c.self.view_is) at c.requires.there) in
