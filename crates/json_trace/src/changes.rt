@@ -65,8 +65,7 @@ fn push_removed(out: &mut Writer, name: &str, numbers: &[u32]) -> Result<(), All
     out.end_array()
 }
 
-/// Writes what is different between two views of a user, as the member `rows`. Before a user's first step there is
-/// no view.
+/// Writes what is different between two views of a user, as an object. Before a user's first step there is no view.
 pub(crate) fn push_changes(
     alloc: Global,
     out: &mut Writer,
@@ -83,11 +82,17 @@ pub(crate) fn push_changes(
     };
     let processes = changes_of(alloc, processes, after.processes.as_slice())?;
     let lwps = changes_of(alloc, lwps, after.lwps.as_slice())?;
-    out.key("rows")?;
     out.begin_object()?;
     push_changed(out, "processes", processes.changed.as_slice())?;
     push_changed(out, "lwps", lwps.changed.as_slice())?;
     push_removed(out, "removed_processes", processes.removed.as_slice())?;
     push_removed(out, "removed_lwps", lwps.removed.as_slice())?;
     out.end_object()
+}
+
+/// Returns all rows of a view, as the text of an object with the members of `rows`. An error means out of memory.
+pub fn rows_text(alloc: Global, view: &View) -> Result<Vec<u8>, AllocError> {
+    let mut out = Writer::new(Vec::new(alloc));
+    push_changes(alloc, &mut out, None, view)?;
+    Ok(out.into_inner())
 }

@@ -1,6 +1,8 @@
 //! Adds to each JSON line of a run the step that it answers. docs/FORMAT.md lists the members.
 //!
-//! It is a writer around another one: `scenario_runs` writes a reply's line into it, and it puts the step's members
+//! `write_states` also writes the rows that each step changed, as its user sees them.
+//!
+//! `TraceWriter` is a writer around another one: `scenario_runs` writes a reply's line into it, and it puts the step's members
 //! in front. So the run itself doesn't know of traces.
 //!
 //! No clause speaks of the members. The tests named schema and trace compare them with the schema and the scenario.
@@ -14,5 +16,7 @@ mod rows;
 mod states;
 mod writing;
 
+pub use changes::rows_text;
+pub use places::ScenarioSteps;
 pub use states::write_states;
 pub use writing::TraceWriter;

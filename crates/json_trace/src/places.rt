@@ -1,4 +1,6 @@
-//! The steps of each user.
+//! The steps of a scenario, by their places and user by user.
+use json::Writer;
+use open_sessions::push_step;
 use pid_blocks::Uid;
 use scenario_runs::{BareStep, Scenario, USERS};
 use std::alloc::{AllocError, Global};
@@ -8,16 +10,22 @@ use stop_handlers::Policy;
 /// The index of no step. A scenario has fewer steps.
 const NO_STEP: u32 = u32::MAX;
 
+/// The steps of a scenario, with the policies that they install.
+#[derive(Drop)]
+pub struct ScenarioSteps<'a> {
+    scenario: &'a Scenario,
+    /// The indices of the installs, rising. Each has the policy in its place.
+    installs: Vec<u32>,
+}
+
 /// The steps of a scenario, which are taken user by user.
 #[derive(Drop)]
 pub(crate) struct Places<'a> {
-    scenario: &'a Scenario,
+    steps: ScenarioSteps<'a>,
     /// The index of each user's next step.
     next: [u32; USERS],
     /// For each step the index of the same user's step after it.
     after: Vec<u32>,
-    /// The indices of the installs, rising. Each has the policy in its place.
-    installs: Vec<u32>,
 }
 
 /// A step with its place.
@@ -58,25 +66,19 @@ fn installs_of(alloc: Global, steps: &[(Uid, BareStep)]) -> Result<Vec<u32>, All
     Ok(installs)
 }
 
-impl<'a> Places<'a> {
+impl<'a> ScenarioSteps<'a> {
     /// The steps of the scenario. An error means out of memory.
-    pub(crate) fn new(alloc: Global, scenario: &'a Scenario) -> Result<Places<'a>, AllocError> {
-        let (next, after) = links_of(alloc, scenario.bare_steps())?;
-        Ok(Places {
+    pub fn new(alloc: Global, scenario: &'a Scenario) -> Result<ScenarioSteps<'a>, AllocError> {
+        Ok(ScenarioSteps {
             scenario,
-            next,
-            after,
             installs: installs_of(alloc, scenario.bare_steps())?,
         })
     }
 
-    /// Takes the user's next step; none after the last one.
-    pub(crate) fn take(&mut self, user: Uid) -> Option<Place<'a>> {
+    /// The step with this index, counted from 0.
+    fn at(&self, index: u32) -> Option<Place<'a>> {
         let scenario = self.scenario;
-        let slot = user.slot();
-        let index = self.next[slot];
         let step = scenario.bare_steps().get(index as usize)?;
-        self.next[slot] = *self.after.get(index as usize)?;
         let policy = match self.installs.binary_search(&index) {
             Ok(place) => scenario.policies().get(place),
             Err(_) => None,
@@ -86,5 +88,38 @@ impl<'a> Places<'a> {
             step: &step.1,
             policy,
         })
+    }
+
+    /// Returns the step with this index, counted from 0, as a JSON object without its user; nothing if there is none. An
+    /// error means out of memory.
+    pub fn text(&self, alloc: Global, index: usize) -> Result<Vec<u8>, AllocError> {
+        let mut out = Writer::new(Vec::new(alloc));
+        if let Some(place) = self.at(u32::try_from(index).unwrap_or(NO_STEP)) {
+            out.begin_object()?;
+            push_step(&mut out, place.step, place.policy)?;
+            out.end_object()?;
+        }
+        Ok(out.into_inner())
+    }
+}
+
+impl<'a> Places<'a> {
+    /// The steps of the scenario. An error means out of memory.
+    pub(crate) fn new(alloc: Global, scenario: &'a Scenario) -> Result<Places<'a>, AllocError> {
+        let (next, after) = links_of(alloc, scenario.bare_steps())?;
+        Ok(Places {
+            steps: ScenarioSteps::new(alloc, scenario)?,
+            next,
+            after,
+        })
+    }
+
+    /// Takes the user's next step; none after the last one.
+    pub(crate) fn take(&mut self, user: Uid) -> Option<Place<'a>> {
+        let slot = user.slot();
+        let index = self.next[slot];
+        let place = self.steps.at(index)?;
+        self.next[slot] = *self.after.get(index as usize)?;
+        Some(place)
     }
 }

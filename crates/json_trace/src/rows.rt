@@ -5,7 +5,7 @@ use json::Writer;
 use lwp_table::{Due, LwpData, Mode};
 use open_sessions::members::{push_flags, push_name, push_nonzero, push_number};
 use proc_table::{ProcData, State};
-use signals::{Disposition, Dispositions, SigSet, Signal};
+use signals::{SigSet, Signal};
 use std::alloc::AllocError;
 
 /// A row of a user's view.
@@ -37,23 +37,6 @@ fn push_signals(out: &mut Writer, name: &str, set: SigSet) -> Result<(), AllocEr
         out.string(signal.name())?;
     }
     out.end_array()
-}
-
-/// Writes the signals that have this disposition, if there are any.
-fn push_disposed(
-    out: &mut Writer,
-    dispositions: &Dispositions,
-    disposition: Disposition,
-) -> Result<(), AllocError> {
-    let mut set = SigSet::empty();
-    for number in 1..32 {
-        if let Ok(signal) = Signal::new(number) {
-            if dispositions.get(signal) == disposition {
-                set = set.with(signal);
-            }
-        }
-    }
-    push_signals(out, disposition.name(), set)
 }
 
 /// Writes the stop of a process.
@@ -99,8 +82,9 @@ impl Row for ProcData {
         push_if(out, "continued", self.continued)?;
         push_set(out, "events", self.mask)?;
         push_signals(out, "pending", self.pending)?;
-        push_disposed(out, &self.dispositions, Disposition::Ignore)?;
-        push_disposed(out, &self.dispositions, Disposition::Catch)?;
+        let (ignored, caught) = self.dispositions.sets();
+        push_signals(out, "ignore", ignored)?;
+        push_signals(out, "catch", caught)?;
         out.end_object()
     }
 }

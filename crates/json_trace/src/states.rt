@@ -77,6 +77,7 @@ impl States {
         let Some(place) = self.seen.get_mut(user.slot()) else {
             return Ok(out.into_inner());
         };
+        out.key("rows")?;
         push_changes(alloc, &mut out, place.as_ref(), &after)?;
         *place = Some(after);
         let mut text = out.into_inner();

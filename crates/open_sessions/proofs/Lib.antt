@@ -5,3 +5,4 @@ pub mod Crossing
 pub mod LineAnswers
 pub mod ScenarioLemmas
 pub mod TalkLemmas
+pub mod ViewWordLemmas

@@ -1,8 +1,8 @@
 -- What an open session is, and what its calls do.
 use Rattle.std.specs.Prelude.{◌≡◌, ℕ, ◌-◌, ◌+◌, ◌^◌, List, Option, Some, None, Ok, Err, slice_index}
-use Rattle.{pid_blocks.specs.Users.IsUser, requests.specs.{Hosts.Steps as HostSteps, Machine.Machine}, scenario_runs.specs.declared.style.Style.Style}
+use Rattle.{pid_blocks.specs.Users.IsUser, requests.specs.{Hosts.Steps as HostSteps, Machine.Machine, View.view}, scenario_runs.specs.declared.style.Style.Style}
 use Rattle.step_types.specs.{Plain.UserStep, Plain.PlainStep, declared.Reply.Reply}
-use Rattle.{scenario_text.specs.{declared.fault.Fault.Fault, OneStep.IsStep}, open_sessions.specs.{Answers.{LineReply, AnswersLine, answer_text, reply_text, made_after}}}
+use Rattle.{scenario_text.specs.{declared.fault.Fault.Fault, OneStep.IsStep}, open_sessions.specs.{Answers.{LineReply, AnswersLine, answer_text, reply_text, made_after}, ViewWords.view_words}}
 
 -- a host, how many answers each of the 64 users has had, the last answer, and its step: none if it refused a line
 pub record OpenSession : Type 0 where
@@ -51,3 +51,7 @@ FullFor line s = (a : UserStep) × IsStep line (Ok a) × IsFull a.uid s
 abbrev pub LineOf : Option UserStep → List ℕ → Type 0
 LineOf None line = ⊥
 LineOf (Some a) line = IsStep line (Ok a)
+
+-- all that a user sees of a session's host, as numbers
+abbrev pub state_of : ℕ → OpenSession → List ℕ
+state_of u s = view_words (view u s.host)

@@ -1,8 +1,8 @@
 -- The calls of a session, one after another: what each is answered, and what a user can tell of it.
-use Rattle.std.specs.{Prelude.{◌≡◌, ℕ, List, [], ◌∷◌, map, filter_map, option_map, Ok, Err}, Result.result_ok}
-use Rattle.{requests.specs.Isolation.{Apart, Private}, step_types.specs.{Plain.UserStep, declared.Reply.Reply}}
+use Rattle.std.specs.{Prelude.{◌≡◌, ◌≢◌, ℕ, false, List, [], ◌∷◌, map, filter_map, option_map, Ok, Err}, Result.result_ok}
+use Rattle.{pid_blocks.specs.Users.IsUser, requests.specs.Isolation.{Apart, Private}, step_types.specs.{Plain.{PlainStep, UserStep}, Replies.is_memory, declared.Reply.Reply}}
 use Rattle.{visibility.specs.Runs.reply_given, scenario_text.specs.{declared.fault.Fault.Fault, OneStep.IsStep}}
-use Rattle.open_sessions.specs.{Answers.LineReply, Calls.{OpenSession, Steps, Answers}}
+use Rattle.open_sessions.specs.{Answers.LineReply, Calls.{OpenSession, Steps, Answers, state_of}}
 
 -- a call that makes a step of a user, or answers a line
 pub data Call : Type 0 where
@@ -41,3 +41,14 @@ PrivateCalls calls rs s t =
 -- so it is for all calls from a session on whose host keeps users apart
 abbrev pub CallsArePrivate : Type 0
 CallsArePrivate = (calls : List Call) (s t : OpenSession) (rs : List LineReply) → Apart s.host → AnswersCalls calls s rs t → PrivateCalls calls rs s t
+
+-- two sessions whose states are the same for a user answer the user's next step alike, and their states are the same again,
+-- if neither runs out of memory
+abbrev pub AnswersAlike : Type 0
+AnswersAlike = (u : ℕ) (step : PlainStep) (s k t l : OpenSession) → Apart s.host → Apart k.host → state_of u s ≡ state_of u k
+    → (first : Steps u step s t) (second : Steps u step k l) → is_memory first.reply ≡ false → is_memory second.reply ≡ false
+    → (first.reply ≡ second.reply) × (state_of u t ≡ state_of u l)
+
+-- a step of another user leaves a user's state
+abbrev pub LeavesStates : Type 0
+LeavesStates = (u w : ℕ) (step : PlainStep) (s t : OpenSession) → Apart s.host → IsUser u → u ≢ w → Steps w step s t → state_of u t ≡ state_of u s

@@ -4,3 +4,5 @@ pub mod Laws
 pub mod Turns
 pub mod Sessions
 pub mod LineLaws
+pub mod Flat
+pub mod ViewWords

@@ -1,6 +1,7 @@
 //! Laws of sessions.
-ghost use Rattle.open_sessions.specs.Laws.{CallsArePrivate};
+ghost use Rattle.open_sessions.specs.Laws.{AnswersAlike, CallsArePrivate, LeavesStates};
 ghost use Rattle.open_sessions.specs.LineLaws.{AsScenario, SessionsArePrivate};
+ghost use Rattle.open_sessions.specs.ViewWords.{WordsTell};
 
 /// In a session each user gets the replies to the user's own steps without any other user, and sees what they leave.
 /// The calls of all users may alternate in any order, typed ones and lines. A line that is not a step is refused.
@@ -16,4 +17,16 @@ pub fn as_scenario()
 /// In a session each user gets the replies to the user's own steps without any other user.
 pub fn sessions_are_private()
     ensures { SessionsArePrivate }
+{}
+
+/// Two views that are the same numbers are the same view, so a state is all that a user sees.
+pub fn states_tell()
+    ensures { WordsTell }
+{}
+
+/// Two sessions that have the same state for a user answer the user's next step alike, and have the same state again.
+/// So a search may join them. Memory that runs out isn't part of a state.
+pub fn same_states_answer_alike()
+    ensures alike { AnswersAlike }
+    ensures others { LeavesStates }
 {}

@@ -16,6 +16,8 @@
 mod answering;
 mod answers;
 mod fault;
+pub mod flat;
+mod front;
 pub mod laws;
 pub mod members;
 mod same_steps;
@@ -24,8 +26,10 @@ mod serving;
 mod session;
 mod step_members;
 mod texts;
+mod view_words;
 
 pub use fault::SessionFault;
+pub use front::copy_front;
 pub use serve_fault::ServeError;
 pub use serving::serve;
 pub use session::Session;

@@ -5,16 +5,18 @@ ghost use Rattle.requests.specs.Hosts.{Steps as HostSteps};
 ghost use Rattle.requests.specs.Machine.{empty};
 ghost use Rattle.requests.specs.View.{view};
 ghost use Rattle.open_sessions.specs.Answers.{last_numbers, last_reply, shown};
-ghost use Rattle.open_sessions.specs.Calls.{last_text, Steps, Answers, IsFull, FullFor, LineOf};
+ghost use Rattle.open_sessions.specs.Calls.{last_text, state_of, Steps, Answers, IsFull, FullFor, LineOf};
 ghost use Rattle.scenario_text.specs.Plan.{asked};
 ghost use Rattle.open_sessions.specs.declared.fault.SessionFault.TheVariants as session_fault;
 ghost use Rattle.scenario_text.specs.declared.fault.Fault.TheVariants.{Memory as NoMemory};
 
 use crate::answers::{LineAnswer, copy_of, numbers_of, reply_of};
 use crate::fault::SessionFault;
+use crate::front::copy_front;
 use crate::same_steps::is_same_step;
 use crate::step_members::step_line;
 use crate::texts::push_last;
+use crate::view_words::words_of;
 use pid_blocks::Uid;
 use requests::{Host, PlainStep, Reply};
 use scenario_runs::{Fault, StepReader, Style, USERS};
@@ -210,6 +212,22 @@ impl Session {
         }
     }
 
+    /// Writes all that the user sees of the host as numbers over the front of `out`, as far as they have room, and
+    /// returns how many there are. Two hosts show the user the same exactly if these numbers are the same.
+    ///
+    /// # Errors
+    ///
+    /// Out of memory. `out` is as it was.
+    pub fn show_state(&self, alloc: Global, user: Uid, out: &mut [u32]) -> Result<usize, AllocError>
+        ensures length { IfOk result (λ n. n ≡ length (state_of user self.now)) }
+        ensures shown { OnOk result (out.new ≡ shown (state_of user self.now) out.old) }
+        ensures unchanged { OnErr result (out.new ≡ out.old) }
+    {
+        let seen = self.view(alloc, user)?;
+        let words = words_of(alloc, &seen)?;
+        Ok(copy_front(words.as_slice(), out))
+    }
+
     /// Returns what the user sees of the host. An error means out of memory.
     pub fn view(&self, alloc: Global, user: Uid) -> Result<View, AllocError>
         ensures { IfOk result (λ v. v ≡ view user self.now.host) }
@@ -233,14 +251,4 @@ fn make_step(alloc: Global, host: &mut Host<ByPolicy>, user: Uid, step: &PlainSt
         Some(reply) => reply,
         None => host.step(alloc, user, step.by_policy()),
     }
-}
-
-/// Writes the text over the front of the bytes, as far as they have room, and returns its length.
-fn copy_front(text: &[u8], out: &mut [u8]) -> usize
-    ensures length { result ≡ length text.now }
-    ensures shown { out.new ≡ shown text.now out.old }
-{
-    let n = text.len().min(out.len());
-    out[..n].copy_from_slice(&text[..n]);
-    text.len()
 }

@@ -1,6 +1,6 @@
 -- What the options and the operand of a command line ask for.
 use Rattle.std.specs.{Prelude.{ℕ, ◌==◌, Bool, true, false, not, List, Option, Some, None, is_some, bytes_eq, codes, if◌then◌else◌}, Borrow.Bor}
-use Rattle.{pid_blocks.specs.Users.IsUser, tracehost.specs.declared.asking.{Arguments.Arguments, RunRequest.RunRequest, Mode.{Mode, TheVariants.{Scenario, Lines}}, Selection.Selection, Terminals.Terminals}}
+use Rattle.{pid_blocks.specs.Users.IsUser, tracehost.specs.declared.asking.{Arguments.Arguments, Expectation.Expectation, RunRequest.RunRequest, Mode.{Mode, TheVariants.{Scenario, Lines}}, Selection.Selection, Terminals.Terminals}}
 use Rattle.scenario_runs.specs.declared.style.Style.{Style, TheVariants.{Text, Json}}
 
 -- whether a word is given, and is this one
@@ -42,11 +42,16 @@ shown_by arguments user =
       rows = has_value arguments.json (codes "trace+rows");
     }
 
+-- the file of --expect, which gets the lines with --bless
+abbrev pub expectation_by : Option (Bor (List ℕ)) → Bool → Option Expectation
+expectation_by None bless = None
+expectation_by (Some path) bless = Some (record { path = path; blesses = bless })
+
 -- with --lines a session line by line, and else a scenario
 abbrev pub mode_by : Arguments → Option ℕ → Mode
 mode_by arguments user = if arguments.lines
     then Lines (kills_by arguments.kill_on_debugger_exit) (style_by arguments.json)
-    else Scenario (shown_by arguments user) arguments.expect
+    else Scenario (shown_by arguments user) (expectation_by arguments.expect arguments.bless)
 
 abbrev pub asked_by : Arguments → Terminals → RunRequest
 asked_by arguments terminals = record {

@@ -19,3 +19,4 @@ pub record IsIn (found : Found) (arguments : Arguments) : Type 0 where
   pub user : IsNumber (one_text found (codes "UID")) arguments.user
   pub threads : one_text found (codes "threads") ≡ Some (codes "true") → arguments.threads ≡ true
   pub lines : one_text found (codes "lines") ≡ Some (codes "true") → arguments.lines ≡ true
+  pub bless : one_text found (codes "bless") ≡ Some (codes "true") → arguments.bless ≡ true

@@ -2,7 +2,7 @@
 ghost use Rattle.std.specs.Prelude.{◌≡◌};
 ghost use Rattle.std.specs.Result.{OkIff};
 ghost use Rattle.tracehost.specs.Asking as spec;
-ghost use Rattle.tracehost.specs.Asking.{IsUserOrNone, asked_by, explains_by, input_by, mode_by, style_by};
+ghost use Rattle.tracehost.specs.Asking.{IsUserOrNone, asked_by, expectation_by, explains_by, input_by, mode_by, style_by};
 
 use pid_blocks::{BadUser, Uid};
 use scenario_runs::Style;
@@ -20,6 +20,8 @@ pub(crate) struct Arguments<'a> {
     pub(crate) threads: bool,
     /// The file of `--expect`.
     pub(crate) expect: Option<&'a str>,
+    /// Whether `--bless` is there.
+    pub(crate) bless: bool,
     /// The word of `--json`: `replies`, `trace` or `trace+rows`.
     pub(crate) json: Option<&'a str>,
     /// Whether `--lines` is there.
@@ -42,13 +44,22 @@ pub(crate) struct Selection {
     pub(crate) rows: bool,
 }
 
+/// The lines that a run should print.
+#[derive(Clone, Copy, Drop)]
+pub(crate) struct Expectation<'a> {
+    /// The file of the lines.
+    pub(crate) path: &'a str,
+    /// The file gets the run's lines.
+    pub(crate) blesses: bool,
+}
+
 /// How the input is read.
 #[derive(Clone, Copy, Drop)]
 pub(crate) enum Mode<'a> {
     /// As a scenario, which is run. The lines are printed, or compared with those of the expected file.
     Scenario {
         shown: Selection,
-        expected: Option<&'a str>,
+        expected: Option<Expectation<'a>>,
     },
     /// As lines with a step each, which a host answers one by one.
     Lines {
@@ -126,6 +137,14 @@ fn shown_user(number: Option<u32>) -> Result<Option<Uid>, BadUser>
     }
 }
 
+/// Returns the lines that a run should print.
+fn expectation_of<'a>(expect: Option<&'a str>, blesses: bool) -> Option<Expectation<'a>>
+    ensures { result ≡ expectation_by expect.entry blesses }
+{
+    let path = expect?;
+    Some(Expectation { path, blesses })
+}
+
 /// Returns how the input is read, if only this user's lines are printed.
 fn mode_of<'a>(arguments: Arguments<'a>, user: Option<Uid>) -> Mode<'a>
     ensures { result ≡ mode_by arguments.entry user }
@@ -145,7 +164,7 @@ fn mode_of<'a>(arguments: Arguments<'a>, user: Option<Uid>) -> Mode<'a>
             trace: has_value(arguments.json, "trace"),
             rows: has_value(arguments.json, "trace+rows"),
         },
-        expected: arguments.expect,
+        expected: expectation_of(arguments.expect, arguments.bless),
     }
 }
 

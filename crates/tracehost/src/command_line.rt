@@ -62,6 +62,9 @@ Examples:
 const SETTING_ADVICE: &str =
     "  --kill-on-debugger-exit: a scenario has a key for it, {\"kill_on_debugger_exit\":0,\"steps\":[..]}\n";
 
+/// What helps if `--bless` is given without a file.
+const BLESS_ADVICE: &str = "  --bless: name the file that gets the lines, --expect FILE\n";
+
 /// The refusal of `--json=trace` for a session line by line.
 const TRACE_OF_LINES: &str = "the argument '--lines' cannot be used with '--json=trace'";
 
@@ -80,7 +83,8 @@ const ROWS_ADVICE: &str =
     "  --json=trace+rows: the steps are made one after another; leave --threads out\n";
 
 /// The long options by their first letters, each with a value if it needs one.
-const LONG_OPTIONS: [(&str, &str); 6] = [
+const LONG_OPTIONS: [(&str, &str); 7] = [
+    ("-b", "--bless"),
     ("-u", "--user UID"),
     ("-t", "--threads"),
     ("-e", "--expect FILE or --explain"),
@@ -109,8 +113,14 @@ fn with_scenario_options<'a>(
         .long("expect")
         .value_name("FILE")
         .action(ArgAction::Set)
-        .help("Compare the lines with this file, and print only the first difference");
+        .help("Compare the lines with this file, and print only what is different");
     let command = command.arg(expect)?;
+    let bless = Arg::new(alloc, "bless")
+        .long("bless")
+        .action(ArgAction::SetTrue)
+        .requires_arg("expect")?
+        .help("With --expect: write the lines to its file if they are different");
+    let command = command.arg(bless)?;
     let json = Arg::new(alloc, "json")
         .long("json")
         .value_name("WHAT")
@@ -133,6 +143,7 @@ fn with_line_options<'a>(alloc: Global, command: Command<'a>) -> Result<Command<
         .conflicts_with("UID")?
         .conflicts_with("threads")?
         .conflicts_with("expect")?
+        .conflicts_with("bless")?
         .help("Read one step a line, and answer each before the next one is read");
     let command = command.arg(lines)?;
     let kill = Arg::new(alloc, "0|1")
@@ -239,10 +250,19 @@ fn conflict_advice(alloc: Global, words: &[String]) -> Result<String, AllocError
     }
 }
 
+/// What helps against an option without the one that it needs.
+fn missing_advice(words: &[String]) -> &'static str {
+    if words.iter().any(|word| word.as_str() == "--bless") {
+        BLESS_ADVICE
+    } else {
+        SETTING_ADVICE
+    }
+}
+
 /// What helps against a command line that `clap` refuses; empty if that says enough.
 fn advice(alloc: Global, kind: ErrorKind, words: &[String]) -> Result<String, AllocError> {
     match kind {
-        ErrorKind::MissingRequiredArgument => String::from_str(alloc, SETTING_ADVICE),
+        ErrorKind::MissingRequiredArgument => String::from_str(alloc, missing_advice(words)),
         ErrorKind::UnknownArgument => option_advice(alloc, words),
         ErrorKind::ArgumentConflict => conflict_advice(alloc, words),
         _ => Ok(String::new(alloc)),
@@ -286,6 +306,7 @@ fn arguments_of<'a>(matches: &ArgMatches<'a>) -> Result<Arguments<'a>, Refusal>
         user: user_number(matches)?,
         threads: matches.get_flag("threads"),
         expect: matches.get_str("expect"),
+        bless: matches.get_flag("bless"),
         json: matches.get_str("json"),
         lines: matches.get_flag("lines"),
         kill_on_debugger_exit: matches.get_one("0|1"),

@@ -1,52 +1,164 @@
-//! The comparison of a run's lines with those of a file.
+//! The comparison of a run's lines with those of a file, and a file that gets the run's lines.
 use crate::CommandError;
+use crate::answered::Answered;
 use crate::asking::Selection;
-use crate::explaining::{FileName, unread};
-use byte_lines::Difference;
-use pid_blocks::Uid;
-use scenario_runs::{BareStep, Fault, Scenario};
+use crate::differing::{Hunk, Row, head_of, hunks_of, rows_of};
+use crate::explaining::{FileName, unread, unwritten};
+use byte_lines::{Difference, first_difference};
+use json_trace::ScenarioSteps;
+use scenario_runs::{Fault, RunFault, Scenario};
 use std::alloc::{AllocError, Global};
+use std::io::{BufWriter, Write};
 use std::rt::Files;
 use std::{fmt, fs, io};
 
-/// The bytes of the expected file.
-pub(crate) fn read_expected<R: Files + AllocGlobal>(
+/// What a run's lines are compared with.
+#[derive(Drop)]
+pub(crate) struct Expected<'a> {
+    pub(crate) path: &'a str,
+    /// The bytes of the file; none if there is no such file, and it is to be written.
+    pub(crate) bytes: Option<Vec<u8>>,
+    /// The file gets the run's lines.
+    pub(crate) blesses: bool,
+}
+
+/// A run, and its lines.
+#[derive(Clone, Copy, Drop)]
+pub(crate) struct RunLines<'a> {
+    pub(crate) scenario: &'a Scenario,
+    pub(crate) shown: &'a Selection,
+    pub(crate) text: &'a [u8],
+}
+
+/// Reads the expected file.
+pub(crate) fn read_expected<'a, R: Files + AllocGlobal>(
+    rt: &R,
+    path: &'a str,
+    blesses: bool,
+    explains: bool,
+) -> Result<Expected<'a>, CommandError> {
+    let bytes = match fs::read(rt, path) {
+        Ok(bytes) => Some(bytes),
+        Err(error) if blesses && error.kind() == io::ErrorKind::NotFound => None,
+        Err(error) if explains || error.kind() == io::ErrorKind::OutOfMemory => {
+            return Err(unread(rt.alloc(), path, &error));
+        }
+        Err(_) => return Err(CommandError::Fault(Fault::Read)),
+    };
+    Ok(Expected {
+        path,
+        bytes,
+        blesses,
+    })
+}
+
+/// Compares the run's lines with the expected ones. What is different is written as a unified diff. Then the file gets
+/// the lines if it is to, and else the first difference is a trouble.
+pub(crate) fn compare<R: Files + Print + AllocGlobal>(
+    rt: &R,
+    expected: &Expected<'_>,
+    run: RunLines<'_>,
+    explains: bool,
+) -> Result<(), CommandError> {
+    let Some(wanted) = &expected.bytes else {
+        return bless(rt, expected.path, run.text, explains);
+    };
+    let Some(difference) = first_difference(wanted.as_slice(), run.text) else {
+        return Ok(());
+    };
+    let answered = Answered::new(rt.alloc(), run.scenario, run.shown)?;
+    let rows = rows_of(rt.alloc(), wanted.as_slice(), run.text)?;
+    if write_diff(rt, expected.path, run.scenario, &answered, rows.as_slice()).is_err() {
+        return Err(CommandError::Run(RunFault::Write));
+    }
+    if expected.blesses {
+        return bless(rt, expected.path, run.text, explains);
+    }
+    let line = line_of_difference(rt.alloc(), expected.path, &answered, difference)?;
+    Err(CommandError::Different(line))
+}
+
+/// Writes the rows as a unified diff.
+fn write_diff<R: Print + AllocGlobal>(
     rt: &R,
     path: &str,
-    explains: bool,
-) -> Result<Vec<u8>, CommandError> {
-    match fs::read(rt, path) {
-        Ok(bytes) => Ok(bytes),
-        Err(error) if explains || error.kind() == io::ErrorKind::OutOfMemory => {
-            Err(unread(rt.alloc(), path, &error))
+    scenario: &Scenario,
+    answered: &Answered<'_>,
+    rows: &[Row<'_>],
+) -> io::Result<()> {
+    let alloc = rt.alloc();
+    let mut out = BufWriter::new(alloc, io::writer(rt))?;
+    let name = FileName { name: path };
+    let head = format!(in alloc; "--- {name}\texpected\n+++ {name}\tgot\n")?;
+    out.write_all(head.as_bytes())?;
+    let steps = ScenarioSteps::new(alloc, scenario)?;
+    let hunks = hunks_of(alloc, rows)?;
+    for hunk in &hunks {
+        let head = hunk_head(alloc, &steps, answered, rows, hunk)?;
+        out.write_all(head.as_slice())?;
+        for row in hunk.rows(rows) {
+            out.write_all(row.sign())?;
+            out.write_all(row.line)?;
+            out.write_all(row.end())?;
         }
-        Err(_) => Err(CommandError::Fault(Fault::Read)),
+    }
+    out.flush()
+}
+
+/// Returns the line before a hunk: its places in both texts, and the step at its first change.
+fn hunk_head(
+    alloc: Global,
+    steps: &ScenarioSteps<'_>,
+    answered: &Answered<'_>,
+    rows: &[Row<'_>],
+    hunk: &Hunk,
+) -> Result<Vec<u8>, AllocError> {
+    let mut head = Vec::new(alloc);
+    head.extend_from_slice(head_of(alloc, hunk.rows(rows))?.as_bytes())?;
+    if let Some(place) = hunk.line(rows).and_then(|line| answered.step(line)) {
+        head.extend_from_slice(format!(in alloc; " {place}: ")?.as_bytes())?;
+        head.extend_from_slice(steps.text(alloc, place.index)?.as_slice())?;
+    }
+    head.push(b'\n')?;
+    Ok(head)
+}
+
+/// Writes the lines as the file's, whole or not at all.
+fn bless<R: Files + AllocGlobal>(
+    rt: &R,
+    path: &str,
+    text: &[u8],
+    explains: bool,
+) -> Result<(), CommandError> {
+    match replace(rt, path, text) {
+        Ok(()) => Ok(()),
+        Err(error) if explains => Err(unwritten(rt.alloc(), path, &error)),
+        Err(_) => Err(CommandError::Run(RunFault::Write)),
     }
 }
 
-/// A difference as a trouble.
-pub(crate) fn none_differs(
-    alloc: Global,
-    scenario: &Scenario,
-    shown: &Selection,
-    path: &str,
-    difference: Option<Difference<'_>>,
-) -> Result<(), CommandError> {
-    match difference {
-        Some(difference) => {
-            let line = line_of_difference(alloc, scenario, shown, path, difference)?;
-            Err(CommandError::Different(line))
-        }
-        None => Ok(()),
+/// Writes a file beside the one with this path, and gives it the path. What isn't a file is written to as it is.
+fn replace<R: Files + AllocGlobal>(rt: &R, path: &str, text: &[u8]) -> io::Result<()> {
+    match fs::symlink_metadata(rt, path) {
+        Ok(found) if !found.is_file() => return fs::write(rt, path, text),
+        Ok(_) => {}
+        Err(error) if error.kind() == io::ErrorKind::NotFound => {}
+        Err(error) => return Err(error),
     }
+    let beside = format!(in rt.alloc(); "{path}.new")?;
+    let mut file = fs::File::create_new(rt, beside.as_str())?;
+    let written = file.write_all(text).and_then(|()| fs::rename(rt, beside.as_str(), path));
+    if written.is_err() {
+        let _ = fs::remove_file(rt, beside.as_str());
+    }
+    written
 }
 
 /// The line about a difference, and one about the step that the differing line answers.
 fn line_of_difference(
     alloc: Global,
-    scenario: &Scenario,
-    shown: &Selection,
     path: &str,
+    answered: &Answered<'_>,
     difference: Difference<'_>,
 ) -> Result<String, AllocError> {
     let Difference {
@@ -66,11 +178,18 @@ fn line_of_difference(
     };
     let name = FileName { name: path };
     let mut text = format!(in alloc; "{name}:{line}: expected {wanted}, got {had}")?;
-    if let Some(step) = step_of_line(scenario.bare_steps(), shown, line) {
+    if let Some(step) = answered.step(line.saturating_sub(1)) {
         write!(text, "\n  it answers {step}")?;
+    }
+    if expected.is_some_and(|line| line.iter().any(|byte| b"*?$<%\\".contains(byte))) {
+        text.push_str(NO_PATTERNS)?;
     }
     Ok(text)
 }
+
+/// What is said of an expected line with a character that no line of a run has.
+const NO_PATTERNS: &str =
+    "\n  lines are compared byte by byte, without patterns: a scenario's numbers are the same in each run";
 
 /// A line in quotes, or the words for a text's end. Its line feed is printed only if the other line has none.
 #[derive(Clone, Copy, Drop)]
@@ -103,79 +222,4 @@ fn without_line_feed<'a>(line: &'a [u8], other: Option<&[u8]>) -> &'a [u8] {
     } else {
         line.strip_suffix(b"\n").unwrap_or(line)
     }
-}
-
-/// A step of a scenario.
-#[derive(Clone, Copy, Drop)]
-struct StepPlace {
-    /// Its index in the scenario's steps.
-    index: usize,
-    user: Uid,
-    /// Its number among the user's own, from 1.
-    number: usize,
-}
-
-impl fmt::Display for StepPlace {
-    fn fmt<W: fmt::Write>(&self, f: &mut fmt::Formatter<W>) -> fmt::Result {
-        let (index, number) = (self.index, self.number);
-        let user = self.user.get();
-        write!(f, "steps[{index}], step {number} of user {user}")
-    }
-}
-
-/// The step that the run's line with this number answers; none after the last line.
-fn step_of_line(steps: &[(Uid, BareStep)], shown: &Selection, line: usize) -> Option<StepPlace> {
-    match shown.user {
-        Some(user) => step_of_user(steps, user, line),
-        None if shown.threads => step_by_users(steps, line),
-        None => step_at(steps, line),
-    }
-}
-
-/// The user's own step with this number.
-fn step_of_user(steps: &[(Uid, BareStep)], user: Uid, number: usize) -> Option<StepPlace> {
-    let mut left = number;
-    for (index, step) in steps.iter().enumerate() {
-        if step.0 == user {
-            if left <= 1 {
-                return Some(StepPlace {
-                    index,
-                    user,
-                    number,
-                });
-            }
-            left -= 1;
-        }
-    }
-    None
-}
-
-/// How many steps the user has.
-pub(crate) fn count_of(steps: &[(Uid, BareStep)], user: Uid) -> usize {
-    steps.iter().filter(|step| step.0 == user).count()
-}
-
-/// The step with this number, if the steps are sorted by user.
-fn step_by_users(steps: &[(Uid, BareStep)], line: usize) -> Option<StepPlace> {
-    let mut left = line;
-    for number in 1001..1065 {
-        let user = Uid::new(number).ok()?;
-        let count = count_of(steps, user);
-        if left <= count {
-            return step_of_user(steps, user, left);
-        }
-        left -= count;
-    }
-    None
-}
-
-/// The step with this number among all.
-fn step_at(steps: &[(Uid, BareStep)], line: usize) -> Option<StepPlace> {
-    let before = steps.get(..line)?;
-    let user = before.last()?.0;
-    Some(StepPlace {
-        index: line.checked_sub(1)?,
-        user,
-        number: count_of(before, user),
-    })
 }

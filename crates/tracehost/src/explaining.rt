@@ -1,9 +1,9 @@
 //! Explanations of refused input: where the first mistakes are, and what was likely meant.
 use crate::CommandError;
 use crate::asking::{Mode, Selection};
-use crate::expecting::count_of;
+use crate::answered::count_of;
 use diagnostics::{Source, explain};
-use scenario_runs::{Fault, MAX_STEP_BYTES, Scenario, parse};
+use scenario_runs::{Fault, MAX_STEP_BYTES, RunFault, Scenario, parse};
 use std::alloc::{AllocError, Global};
 use std::io::Read;
 use std::rt::Files;
@@ -38,7 +38,15 @@ pub(crate) fn unread(alloc: Global, name: &str, error: &io::Error) -> CommandErr
     }
 }
 
-/// The name of an input that can't be read, and the system's reason.
+/// The trouble of a file that can't be written: only the fault if no memory is left for more.
+pub(crate) fn unwritten(alloc: Global, name: &str, error: &io::Error) -> CommandError {
+    match reason_of(alloc, name, error) {
+        Ok(reason) => CommandError::Unwritten(reason),
+        Err(_) => CommandError::Run(RunFault::Write),
+    }
+}
+
+/// The name of a file that can't be read or written, and the system's reason.
 fn reason_of(alloc: Global, name: &str, error: &io::Error) -> Result<String, AllocError> {
     let words = words_of(alloc, error)?;
     let name = FileName { name };

@@ -1,6 +1,6 @@
 //! `tracehost [FILE] [--user UID] [--threads]` runs a scenario, and prints its lines, or only those of one user. With `--threads` each
 //! user's steps are made by a thread of their own, and the lines come user by user. With `--expect FILE` the lines are compared with the
-//! file's, and only the first difference is printed.
+//! file's, and only what is different is printed. With `--bless` the file then gets the lines.
 //!
 //! `tracehost --lines [FILE] [--kill-on-debugger-exit 0|1]` makes the step of each line, and prints its reply before it reads the next
 //! one.
@@ -13,16 +13,17 @@
 ghost use Rattle.std.specs.Prelude.{◌≡◌};
 ghost use Rattle.tracehost.specs.Options.{line_options};
 
+mod answered;
 mod asking;
 mod command_line;
+mod differing;
 mod expecting;
 mod explaining;
 
-use crate::asking::{Mode, RunRequest, Selection, Terminals};
+use crate::asking::{Expectation, Mode, RunRequest, Selection, Terminals};
 use crate::command_line::{Message, Refusal, asked_of};
-use crate::expecting::{none_differs, read_expected};
+use crate::expecting::{RunLines, compare, read_expected};
 use crate::explaining::{Explained, explain_empty_run, explained_scenario, prompt, unread};
-use byte_lines::first_difference;
 use json_trace::{TraceWriter, write_states};
 use open_sessions::{ServeError, serve};
 use scenario::run_threads_with;
@@ -59,6 +60,8 @@ enum CommandError {
     Run(RunFault),
     /// The session ended before its input.
     Serve(ServeError),
+    /// A file can't be written; and a line with the reason.
+    Unwritten(String),
     /// The run's lines aren't the expected ones; and a line about the first difference.
     Different(String),
 }
@@ -280,16 +283,20 @@ fn run_scenario<R: Files + Print + AllocGlobal + Threads + Wait + Sync>(
     rt: &R,
     scenario: &Scenario,
     shown: &Selection,
-    expected: Option<&str>,
+    expected: Option<Expectation<'_>>,
     explains: bool,
 ) -> Result<(), CommandError> {
     let handlers = policy_handlers(rt.alloc(), scenario.policies())?;
     match expected {
-        Some(path) => {
-            let wanted = read_expected(rt, path, explains)?;
+        Some(Expectation { path, blesses }) => {
+            let wanted = read_expected(rt, path, blesses, explains)?;
             let text = text_of_run(rt, scenario, handlers, shown)?;
-            let difference = first_difference(wanted.as_slice(), text.as_slice());
-            none_differs(rt.alloc(), scenario, shown, path, difference)
+            let run = RunLines {
+                scenario,
+                shown,
+                text: text.as_slice(),
+            };
+            compare(rt, &wanted, run, explains)
         }
         None => {
             write_run(rt, scenario, handlers, shown, &mut io::writer(rt))?;
@@ -304,7 +311,7 @@ fn read_and_run<R: Files + Input + Print + Eprint + AllocGlobal + Threads + Wait
     file: Option<&str>,
     explains: bool,
     shown: &Selection,
-    expected: Option<&str>,
+    expected: Option<Expectation<'_>>,
 ) -> Result<(), CommandError> {
     if !explains {
         let scenario = scenario_of(rt, file)?;
@@ -380,6 +387,10 @@ fn report<R: Print + Eprint>(rt: &R, trouble: &CommandError) -> u8 {
         CommandError::Serve(fault) => {
             let _ = eprintln!(rt; "{fault}");
             fault.status()
+        }
+        CommandError::Unwritten(reason) => {
+            let _ = eprint!(rt; "{}\n{reason}", RunFault::Write);
+            RunFault::Write.status()
         }
         CommandError::Different(line) => {
             let _ = eprintln!(rt; "{line}");

@@ -1,8 +1,8 @@
 -- What the calls from C do, by the code that they return.
-use Rattle.std.specs.Prelude.{◌≡◌, ◌⊎◌, ℕ, Bool, if◌then◌else◌, List, Option, Some, None, IsSome, IsSomeAnd, length, map}
-use Rattle.{pid_blocks.specs.Users.IsUser, requests.specs.View.view, step_types.specs.Plain.PlainStep, scenario_runs.specs.declared.style.Style.{Style, TheVariants.{Text, Json}}}
+use Rattle.std.specs.Prelude.{◌≡◌, ◌≢◌, ◌⊎◌, ℕ, Bool, if◌then◌else◌, List, [], Option, Some, None, Ok, Err, IsSome, IsSomeAnd, length, map}
+use Rattle.{pid_blocks.specs.Users.IsUser, requests.specs.View.view, step_types.specs.Plain.{PlainStep, UserStep}, scenario_text.specs.{declared.fault.Fault.Fault, OneStep.IsStep}, scenario_runs.specs.declared.style.Style.{Style, TheVariants.{Text, Json}}}
 use Rattle.tracehost_c.specs.{declared.{replies.FlatReply.FlatReply, rows.{FlatProcess.FlatProcess, FlatLwp.FlatLwp}}, Replies.flat, FlatRows.{flat_process, flat_lwp}}
-use Rattle.open_sessions.specs.{Answers.{last_numbers, shown}, Calls.{OpenSession, last_text, LineOf, Steps, Answers, IsFull, FullFor}}
+use Rattle.open_sessions.specs.{Answers.{last_numbers, shown}, Calls.{OpenSession, last_text, state_of, LineOf, Steps, Answers, IsFull, FullFor}}
 
 abbrev pub style_of : Bool → Style
 style_of json = if json then Json else Text
@@ -29,11 +29,24 @@ ShowsLast style session room filled n = IsSomeAnd session (λ s. Shows (last_tex
 abbrev pub ShowsStep : Option OpenSession → (room filled : List ℕ) → ℕ → Type 0
 ShowsStep session room filled n = IsSomeAnd session (λ s. (line : List ℕ) × LineOf s.asked line × Shows line room filled n)
 
+-- a step has no explanation; another line has one
+pub data Explains (line room filled : List ℕ) (n : ℕ) : Type 0 where
+  of_step : (a : UserStep) → IsStep line (Ok a) → filled ≡ room → n ≡ 0 → Explains line room filled n
+  of_fault : (f : Fault) (text : List ℕ) → IsStep line (Err f) → text ≢ [] → Shows text room filled n → Explains line room filled n
+
 -- the numbers of the last answer of an open session
 abbrev pub ShowsNumbers : Option OpenSession → (room filled : List ℕ) → ℕ → Type 0
 ShowsNumbers session room filled n = IsSomeAnd session (λ s. Shows (last_numbers s.last) room filled n)
 
 -- ---- views
+
+-- all that a user sees of an open session, as numbers
+abbrev pub ShowsState : ℕ → Option OpenSession → (room filled : List ℕ) → ℕ → Type 0
+ShowsState u session room filled n = IsSomeAnd session (λ s. IsUser u × Shows (state_of u s) room filled n)
+
+-- some text; what it says is tested
+abbrev pub ShowsText : (room filled : List ℕ) → ℕ → Type 0
+ShowsText room filled n = (text : List ℕ) × Shows text room filled n
 
 -- a user's view of an open session: the rows of processes and of LWPs
 abbrev pub ShowsView : ℕ → Option OpenSession → (processes filled : List FlatProcess) → ℕ → (lwps filled_lwps : List FlatLwp) → ℕ → Type 0

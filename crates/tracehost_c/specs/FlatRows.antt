@@ -1,20 +1,7 @@
 -- Rows of processes and LWPs as numbers.
-use Rattle.std.specs.Prelude.{ℕ, Bool, Option, unwrap_or, if◌then◌else◌}
-use Rattle.{event_masks.specs.declared.Call.Call, lwp_table.specs.declared.{Due.Due, LwpData.LwpData, Mode.Mode}, proc_table.specs.declared.{ProcData.ProcData, State.State}}
-use Rattle.tracehost_c.specs.declared.rows.{FlatProcess.FlatProcess, FlatLwp.FlatLwp, FlatState.FlatState, FlatMode.FlatMode}
-
-abbrev pub flag : Bool → ℕ
-flag is_set = if is_set then 1 else 0
-
--- the number, if there is one, and else 0
-abbrev pub number_or_0 : Option ℕ → ℕ
-number_or_0 number = unwrap_or number 0
-
-abbrev pub flat_state : State → FlatState
-flat_state State.Run = record { state = 0; lwp = 0; signal = 0; reported = 0; status = 0 }
-flat_state (State.Trace tid sig reported) = record { state = 1; lwp = tid; signal = sig; reported = flag reported; status = 0 }
-flat_state (State.Job sig reported) = record { state = 2; lwp = 0; signal = sig; reported = flag reported; status = 0 }
-flat_state (State.Zombie status) = record { state = 3; lwp = 0; signal = 0; reported = 0; status = status }
+use Rattle.{lwp_table.specs.declared.LwpData.LwpData, proc_table.specs.declared.ProcData.ProcData}
+use Rattle.open_sessions.specs.Flat.{flag, number_or_0, flat_state, flat_mode, due_number}
+use Rattle.tracehost_c.specs.declared.rows.{FlatProcess.FlatProcess, FlatLwp.FlatLwp}
 
 abbrev pub flat_process : ProcData → FlatProcess
 flat_process p = let s = flat_state p.state in record {
@@ -30,27 +17,6 @@ flat_process p = let s = flat_state p.state in record {
   events = p.mask.0;
   pending = p.pending;
 }
-
--- the number of a system call, and its argument
-abbrev pub flat_call : Call → ℕ × ℕ
-flat_call Call.Fork = (0, 0)
-flat_call Call.Vfork = (1, 0)
-flat_call Call.Exec = (2, 0)
-flat_call Call.ThrNew = (3, 0)
-flat_call Call.ThrExit = (4, 0)
-flat_call (Call.Exit status) = (5, status)
-flat_call (Call.Other number) = (6, number)
-
-abbrev pub flat_mode : Mode → FlatMode
-flat_mode Mode.User = record { mode = 0; call = 0; argument = 0; child = 0 }
-flat_mode (Mode.InCall c) = record { mode = 1; call = (flat_call c).0; argument = (flat_call c).1; child = 0 }
-flat_mode (Mode.VforkWait child) = record { mode = 2; call = 0; argument = 0; child = child }
-
-abbrev pub due_number : Due → ℕ
-due_number Due.Nothing = 0
-due_number Due.Born = 1
-due_number Due.Begun = 2
-due_number Due.VforkDone = 3
 
 abbrev pub flat_lwp : LwpData → FlatLwp
 flat_lwp l = let m = flat_mode l.mode in record {

@@ -2,7 +2,7 @@
 use Rattle.std.specs.Prelude.{⊤, ◌≡◌, ℕ, false, ◌%◌, ◌^◌, List, length, Option, is_some}
 use Rattle.step_types.specs.{Replies.is_listing, Status.{IsStatus, word}, declared.{Event.Event, LwpInfo.LwpInfo, Reply.Reply, StatusKind.StatusKind}}
 use Rattle.{pid_blocks.specs.Blocks.errno_number, stop_handlers.specs.{Decisions.{decision_number, kind_of_decision}, declared.{Decision.Decision, StopView.StopView}}, tracehost_c.specs.declared.replies.FlatReply.FlatReply}
-use Rattle.tracehost_c.specs.FlatRows.{flag, number_or_0}
+use Rattle.open_sessions.specs.Flat.{flag, number_or_0, passed}
 
 -- a reply of this kind with all its numbers 0
 abbrev pub blank : ℕ → FlatReply
@@ -35,12 +35,6 @@ event_number Event.Signal = 1
 abbrev pub flat_info : LwpInfo → FlatReply
 flat_info i =
     record (blank 5) { lwp = i.tid; event = event_number i.event; flags = i.flags.0; mask = i.sigmask; pending = i.siglist; child = i.child; code = i.code }
-
--- the signal that a decision passes on, or 0
-abbrev pub passed : Decision → ℕ
-passed (Decision.Continue s) = s
-passed (Decision.Detach s) = s
-passed d = 0
 
 -- whether there is an index, as 1 or 0
 abbrev pub has_index : Option ℕ → ℕ

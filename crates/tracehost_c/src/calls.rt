@@ -1,17 +1,20 @@
 //! What the calls have in common.
-ghost use Rattle.std.specs.Prelude.{ℕ, List, ◌≡◌, ◌≢◌, ◌≤◌, None, Some};
+ghost use Rattle.std.specs.Prelude.{ℕ, List, [], ◌≡◌, ◌≢◌, ◌≤◌, None, Some, IfOk, string_bytes};
 ghost use Rattle.open_sessions.specs.Answers.{last_numbers};
-ghost use Rattle.open_sessions.specs.Calls.{last_text, LineOf};
+ghost use Rattle.open_sessions.specs.Calls.{last_text, state_of, LineOf};
 ghost use Rattle.tracehost_c.specs.declared.replies.FlatReply.{FlatReply as Flat};
-ghost use Rattle.tracehost_c.specs.Calls.{style_of, LineCall, Shows, StepOf, TypedCall};
+ghost use Rattle.tracehost_c.specs.Calls.{style_of, Explains, LineCall, Shows, ShowsText, StepOf, TypedCall};
 
 use crate::handle::Tracehost;
 use crate::replies::FlatReply;
-use open_sessions::{Session, SessionFault};
+use diagnostics::{Source, explain};
+use json_trace::rows_text;
+use open_sessions::{Session, SessionFault, copy_front};
 use pid_blocks::Uid;
 use requests::PlainStep;
 use scenario_runs::Style;
-use std::alloc::Global;
+use scenario_text::{Fault, parse_step};
+use std::alloc::{AllocError, Global};
 
 /// The call was answered.
 pub(crate) const ANSWERED: u32 = 0;
@@ -106,14 +109,112 @@ pub(crate) fn put_step(
     }
 }
 
+/// Writes all that the user sees, as numbers.
+pub(crate) fn put_state(
+    alloc: Global,
+    session: &Session,
+    user: Uid,
+    out: &mut [u32],
+    whole: &mut usize,
+) -> u32
+    ensures shown { result ≡ 0 → Shows (state_of user session.now) out.old out.new whole.new }
+    ensures refused { result ≢ 0 → (result ≡ 2) × (out.new ≡ out.old) × (whole.new ≡ whole.old) }
+{
+    match session.show_state(alloc, user, out) {
+        Ok(count) => {
+            *whole = count;
+            ANSWERED
+        }
+        Err(_) => NO_MEMORY,
+    }
+}
+
+/// Returns the text of the rows that the user sees. An error means out of memory.
+fn text_of_rows(alloc: Global, session: &Session, user: Uid) -> Result<Vec<u8>, AllocError> {
+    let seen = session.view(alloc, user)?;
+    rows_text(alloc, &seen)
+}
+
+/// Writes the rows that the user sees, as text.
+pub(crate) fn put_rows(
+    alloc: Global,
+    session: &Session,
+    user: Uid,
+    out: &mut [u8],
+    whole: &mut usize,
+) -> u32
+    ensures shown { result ≡ 0 → ShowsText out.old out.new whole.new }
+    ensures refused { result ≢ 0 → (result ≡ 2) × (out.new ≡ out.old) × (whole.new ≡ whole.old) }
+{
+    match text_of_rows(alloc, session, user) {
+        Ok(text) => {
+            *whole = copy_front(text.as_slice(), out);
+            ANSWERED
+        }
+        Err(_) => NO_MEMORY,
+    }
+}
+
+/// What is said of a line for which nothing better is found.
+const NO_STEP: &str = "  this isn't a step\n";
+
+/// Returns why a line isn't a step.
+fn explanation_of(alloc: Global, number: usize, line: &[u8]) -> Result<String, AllocError>
+    ensures { IfOk result (λ text. string_bytes text ≢ []) }
+{
+    let text = explain(alloc, Source::Line(number), line)?;
+    if text.is_empty() {
+        return String::from_str(alloc, NO_STEP);
+    }
+    Ok(text)
+}
+
+/// Writes why a line isn't a step.
+fn put_reasons(
+    alloc: Global,
+    number: usize,
+    line: &[u8],
+    out: &mut [u8],
+    whole: &mut usize,
+) -> u32
+    ensures shown { result ≡ 0 → (text : List ℕ) × (text ≢ []) × Shows text out.old out.new whole.new }
+    ensures refused { result ≢ 0 → (result ≡ 2) × (out.new ≡ out.old) × (whole.new ≡ whole.old) }
+{
+    match explanation_of(alloc, number, line) {
+        Ok(text) => {
+            *whole = copy_front(text.as_bytes(), out);
+            ANSWERED
+        }
+        Err(_) => NO_MEMORY,
+    }
+}
+
+/// Writes why a line isn't a step; nothing if it is one.
+pub(crate) fn put_explanation(
+    alloc: Global,
+    number: usize,
+    line: &[u8],
+    out: &mut [u8],
+    whole: &mut usize,
+) -> u32
+    ensures explained { result ≡ 0 → Explains line.now out.old out.new whole.new }
+    ensures refused { result ≢ 0 → (result ≡ 2) × (out.new ≡ out.old) × (whole.new ≡ whole.old) }
+{
+    match parse_step(alloc, line) {
+        Ok(_) => {
+            *whole = 0;
+            ANSWERED
+        }
+        Err(Fault::Memory) => NO_MEMORY,
+        Err(_) => put_reasons(alloc, number, line, out, whole),
+    }
+}
+
 /// Writes the numbers of the last answer.
 pub(crate) fn put_numbers(session: &Session, out: &mut [u32], whole: &mut usize)
     ensures { Shows (last_numbers session.now.last) out.old out.new whole.new }
 {
-    let numbers = session.numbers();
-    let n = numbers.len().min(out.len());
-    out[..n].copy_from_slice(&numbers[..n]);
-    *whole = numbers.len();
+    *whole = copy_front(session.numbers(), out);
 }
 
 /// Makes a step of a user in a session.

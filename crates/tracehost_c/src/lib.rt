@@ -9,7 +9,7 @@
 //! handle, each user's answers are those of the user's own calls.
 #![tactic(auto)]
 
-ghost use Rattle.std.specs.Prelude.{◌≡◌, ◌≢◌, ◌≤◌, ◌↔◌, None, Some, IsSome, IsNone, replicate, option_map};
+ghost use Rattle.std.specs.Prelude.{◌≡◌, ◌≢◌, ◌≤◌, ◌⊎◌, ◌↔◌, None, Some, IsSome, IsNone, replicate, option_map};
 ghost use Rattle.pid_blocks.specs.Users.{IsUser};
 ghost use Rattle.requests.specs.Machine.{empty};
 ghost use Rattle.step_types.specs.declared.step.Step.TheVariants as op;
@@ -17,7 +17,7 @@ ghost use Rattle.signals.specs.Dispositions.{disposition_numbered};
 ghost use Rattle.step_types.specs.Names.{request_numbered};
 ghost use Rattle.tracehost_c.specs.Numbers.{act_of as numbered_act, options_numbered};
 ghost use Rattle.tracehost_c.specs.Rules.{policy_numbered};
-ghost use Rattle.tracehost_c.specs.Calls.{style_of, LineCall, ShowsLast, ShowsNumbers, ShowsStep, ShowsView, TypedCall};
+ghost use Rattle.tracehost_c.specs.Calls.{style_of, Explains, LineCall, ShowsLast, ShowsNumbers, ShowsState, ShowsStep, ShowsText, ShowsView, TypedCall};
 
 mod acts;
 mod calls;
@@ -31,8 +31,8 @@ mod views;
 
 use acts::act_of;
 use calls::{
-    ANSWERED, INVALID, NO_MEMORY, NOT_OPEN, make, put_line, put_numbers, put_step, put_text,
-    refused,
+    ANSWERED, INVALID, NO_MEMORY, NOT_OPEN, make, put_explanation, put_line, put_numbers, put_rows,
+    put_state, put_step, put_text, refused,
 };
 use handle::Tracehost;
 use open_sessions::Session;
@@ -126,6 +126,26 @@ pub extern "C" fn tracehost_copy(alloc: Global, from: &mut Tracehost, to: &mut T
     ANSWERED
 }
 
+/// Copies an open session over another one, whose memory is freed. From then on both go their own ways.
+#[unsafe(no_mangle)]
+pub extern "C" fn tracehost_copy_over(alloc: Global, from: &mut Tracehost, to: &mut Tracehost) -> u32
+    ensures source { from.new.held.session ≡ from.old.held.session }
+    ensures copied { result ≡ 0 → to.new.held.session ≡ from.old.held.session }
+    ensures unchanged { result ≢ 0 → to.new ≡ to.old }
+    ensures not_open { (result ≡ 1) ↔ (IsNone from.old.held.session ⊎ IsNone to.old.held.session) }
+    ensures code { result ≤ 2 }
+{
+    if !to.is_open() {
+        return NOT_OPEN;
+    }
+    let mut copy = Tracehost::closed(alloc);
+    let code = tracehost_copy(alloc, from, &mut copy);
+    if code == ANSWERED {
+        *to = copy;
+    }
+    code
+}
+
 /// Answers a line, and writes the line of its answer over the front of `out`, as far as it has room, and the line's
 /// whole length.
 #[unsafe(no_mangle)]
@@ -199,6 +219,22 @@ pub extern "C" fn tracehost_last_step(
     let code = put_step(alloc, &mut session, out, whole);
     *handle = Tracehost::of(session);
     code
+}
+
+/// Writes why a line isn't a step over the front of `out`, as far as it has room, and the length of the whole text. It
+/// calls the line by this number. A step has no explanation.
+#[unsafe(no_mangle)]
+pub extern "C" fn tracehost_explain(
+    alloc: Global,
+    line: &[u8],
+    number: usize,
+    out: &mut [u8],
+    whole: &mut usize,
+) -> u32
+    ensures explained { result ≡ 0 → Explains line.now out.old out.new whole.new }
+    ensures refused { result ≢ 0 → (result ≡ 2) × (out.new ≡ out.old) × (whole.new ≡ whole.old) }
+{
+    put_explanation(alloc, number, line, out, whole)
 }
 
 /// Writes the numbers of the last answer, if it is a list, over the front of `out`, as far as it has room, and how many
@@ -447,6 +483,68 @@ pub extern "C" fn tracehost_view(
         process_count,
         lwp_count,
     );
+    *handle = Tracehost::of(session);
+    code
+}
+
+/// Writes all that the user sees as numbers over the front of `out`, as far as it has room, and how many there are. Two
+/// hosts show the user the same exactly if these numbers are the same.
+#[unsafe(no_mangle)]
+pub extern "C" fn tracehost_state(
+    alloc: Global,
+    handle: &mut Tracehost,
+    user: u32,
+    out: &mut [u32],
+    whole: &mut usize,
+) -> u32
+    ensures session { handle.new.held.session ≡ handle.old.held.session }
+    ensures closed { (result ≡ 1) ↔ IsNone handle.old.held.session }
+    ensures code { result ≤ 3 }
+    ensures shown { result ≡ 0 → ShowsState user handle.old.held.session out.old out.new whole.new }
+    ensures no_user { result ≡ 3 → ¬ IsUser user }
+    ensures refused { result ≡ 2 → IsUser user }
+    ensures kept { result ≢ 0 → (out.new ≡ out.old) × (whole.new ≡ whole.old) }
+{
+    if !handle.is_open() {
+        return NOT_OPEN;
+    }
+    let Ok(user) = Uid::new(user) else {
+        return INVALID;
+    };
+    let taken = std::mem::replace(handle, Tracehost::closed(alloc));
+    let session = taken.session();
+    let code = put_state(alloc, &session, user, out, whole);
+    *handle = Tracehost::of(session);
+    code
+}
+
+/// Writes the rows that the user sees as text over the front of `out`, as far as it has room, and the length of the whole
+/// text.
+#[unsafe(no_mangle)]
+pub extern "C" fn tracehost_rows(
+    alloc: Global,
+    handle: &mut Tracehost,
+    user: u32,
+    out: &mut [u8],
+    whole: &mut usize,
+) -> u32
+    ensures session { handle.new.held.session ≡ handle.old.held.session }
+    ensures closed { (result ≡ 1) ↔ IsNone handle.old.held.session }
+    ensures code { result ≤ 3 }
+    ensures shown { result ≡ 0 → ShowsText out.old out.new whole.new }
+    ensures no_user { result ≡ 3 → ¬ IsUser user }
+    ensures refused { result ≡ 2 → IsUser user }
+    ensures kept { result ≢ 0 → (out.new ≡ out.old) × (whole.new ≡ whole.old) }
+{
+    if !handle.is_open() {
+        return NOT_OPEN;
+    }
+    let Ok(user) = Uid::new(user) else {
+        return INVALID;
+    };
+    let taken = std::mem::replace(handle, Tracehost::closed(alloc));
+    let session = taken.session();
+    let code = put_rows(alloc, &session, user, out, whole);
     *handle = Tracehost::of(session);
     code
 }

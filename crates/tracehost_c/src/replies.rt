@@ -1,8 +1,9 @@
 //! A reply as numbers.
 ghost use Rattle.std.specs.Prelude.{◌≡◌, ◌%◌, ◌^◌, length};
-ghost use Rattle.tracehost_c.specs.Replies.{blank, flat, flat_info, flat_handled, has_index, event_number, passed};
-ghost use Rattle.tracehost_c.specs.FlatRows.{number_or_0};
+ghost use Rattle.tracehost_c.specs.Replies.{blank, flat, flat_info, flat_handled, has_index, event_number};
+ghost use Rattle.open_sessions.specs.Flat.{number_or_0};
 
+use open_sessions::flat::{flag, passed};
 use pid_blocks::Pid;
 use step_types::{Event, LwpInfo, NumList, Reply, Status};
 use stop_handlers::{Decision, StopView};
@@ -53,24 +54,11 @@ fn event_number(event: Event) -> u32
     }
 }
 
-/// Returns the signal that a decision passes on, or 0.
-fn passed(decision: &Decision) -> u32
-    ensures { result ≡ passed decision.now }
-{
-    match decision {
-        Decision::Continue(pass) | Decision::Detach(pass) => pass.number(),
-        Decision::Decline | Decision::Leave | Decision::Kill => 0,
-    }
-}
-
 /// Returns 1 if there is an index, else 0.
 fn has_index(index: Option<u32>) -> u32
     ensures { result ≡ has_index index }
 {
-    match index {
-        Some(_) => 1,
-        None => 0,
-    }
+    flag(index.is_some())
 }
 
 fn index_number(index: Option<u32>) -> u32

@@ -1,11 +1,10 @@
 //! Rows of processes and LWPs as numbers.
 ghost use Rattle.std.specs.Prelude.{◌≡◌};
-ghost use Rattle.tracehost_c.specs.FlatRows.{flag, number_or_0, flat_state, flat_process, flat_call, flat_mode, due_number, flat_lwp};
+ghost use Rattle.tracehost_c.specs.FlatRows.{flat_process, flat_lwp};
 
-use event_masks::Call;
-use lwp_table::{Due, LwpData, Mode};
-use pid_blocks::Pid;
-use proc_table::{ProcData, State};
+use lwp_table::LwpData;
+use open_sessions::flat::{FlatMode, FlatState, due_number, flag, process_or_0};
+use proc_table::ProcData;
 
 /// The row of a process. What its state doesn't have is 0.
 #[repr(C)]
@@ -53,139 +52,16 @@ pub struct FlatLwp {
     pub code: u32,
 }
 
-/// What a process's state is, as numbers.
-#[derive(Clone, Copy, Drop)]
-struct FlatState {
-    state: u32,
-    lwp: u32,
-    signal: u32,
-    reported: u32,
-    status: u32,
-}
-
-/// What an LWP's mode is, as numbers.
-#[derive(Clone, Copy, Drop)]
-struct FlatMode {
-    mode: u32,
-    call: u32,
-    argument: u32,
-    child: u32,
-}
-
-fn flag(is_set: bool) -> u32
-    ensures { result ≡ flag is_set }
-{
-    if is_set { 1 } else { 0 }
-}
-
-fn tracer_number(tracer: Option<Pid>) -> u32
-    ensures { result ≡ number_or_0 tracer }
-{
-    match tracer {
-        Some(pid) => pid.get(),
-        None => 0,
-    }
-}
-
-fn state_of(state: &State) -> FlatState
-    ensures { result ≡ flat_state state.now }
-{
-    match state {
-        State::Run => FlatState {
-            state: 0,
-            lwp: 0,
-            signal: 0,
-            reported: 0,
-            status: 0,
-        },
-        State::Trace { tid, sig, seen } => FlatState {
-            state: 1,
-            lwp: tid.get(),
-            signal: sig.number(),
-            reported: flag(*seen),
-            status: 0,
-        },
-        State::Job { sig, seen } => FlatState {
-            state: 2,
-            lwp: 0,
-            signal: sig.number(),
-            reported: flag(*seen),
-            status: 0,
-        },
-        State::Zombie { status } => FlatState {
-            state: 3,
-            lwp: 0,
-            signal: 0,
-            reported: 0,
-            status: *status,
-        },
-    }
-}
-
-/// Returns the number of a system call, and its argument.
-fn call_numbers(call: &Call) -> (u32, u32)
-    ensures { result ≡ flat_call call.now }
-{
-    match call {
-        Call::Fork => (0, 0),
-        Call::Vfork => (1, 0),
-        Call::Exec => (2, 0),
-        Call::ThrNew => (3, 0),
-        Call::ThrExit => (4, 0),
-        Call::Exit(status) => (5, *status as u32),
-        Call::Other(number) => (6, *number),
-    }
-}
-
-fn mode_of(mode: &Mode) -> FlatMode
-    ensures { result ≡ flat_mode mode.now }
-{
-    match mode {
-        Mode::User => FlatMode {
-            mode: 0,
-            call: 0,
-            argument: 0,
-            child: 0,
-        },
-        Mode::InCall(call) => {
-            let (call, argument) = call_numbers(call);
-            FlatMode {
-                mode: 1,
-                call,
-                argument,
-                child: 0,
-            }
-        }
-        Mode::VforkWait(child) => FlatMode {
-            mode: 2,
-            call: 0,
-            argument: 0,
-            child: child.get(),
-        },
-    }
-}
-
-fn due_number(due: &Due) -> u32
-    ensures { result ≡ due_number due.now }
-{
-    match due {
-        Due::Nothing => 0,
-        Due::Born => 1,
-        Due::Begun => 2,
-        Due::VforkDone => 3,
-    }
-}
-
 impl FlatProcess {
     /// Returns the row as numbers.
     pub fn of(row: &ProcData) -> FlatProcess
         ensures { result ≡ flat_process row.now }
     {
-        let state = state_of(&row.state);
+        let state = FlatState::of(&row.state);
         FlatProcess {
             pid: row.pid.get(),
             parent: row.parent,
-            tracer: tracer_number(row.tracer),
+            tracer: process_or_0(row.tracer),
             state: state.state,
             lwp: state.lwp,
             signal: state.signal,
@@ -203,7 +79,7 @@ impl FlatLwp {
     pub fn of(row: &LwpData) -> FlatLwp
         ensures { result ≡ flat_lwp row.now }
     {
-        let mode = mode_of(&row.mode);
+        let mode = FlatMode::of(&row.mode);
         FlatLwp {
             lwp: row.tid.get(),
             pid: row.pid.get(),
