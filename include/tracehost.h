@@ -136,10 +136,14 @@ const char *tracehost_version(void);
 /* What a code that a call returned says, in English. For any other number it says that no call returns it. */
 const char *tracehost_strerror(uint32_t code);
 
-/* Opens a session with an unused host. Closes one, and frees it. Copies one at its present state into a closed handle. */
+/*
+ * Opens a session with an unused host. Closes one, and frees it. Copies one at its present state into a closed handle, or over
+ * an open one, whose session is freed.
+ */
 uint32_t tracehost_open(bool kill_on_debugger_exit, tracehost *out);
 uint32_t tracehost_close(tracehost *h);
 uint32_t tracehost_copy(tracehost *from, tracehost *to);
+uint32_t tracehost_copy_over(tracehost *from, tracehost *to);
 
 /*
  * Makes the step that the line is (docs/FORMAT.md, section 11), and stores the line of its answer, in words or as a JSON object:
@@ -158,6 +162,13 @@ uint32_t tracehost_last_line(tracehost *h, bool json, uint8_t *out, size_t out_s
  * is: a PT_TRACE_ME that names a target or data, and a PT_SET_EVENT_MASK with bits that no event has.
  */
 uint32_t tracehost_last_step(tracehost *h, uint8_t *out, size_t out_size, size_t *length);
+
+/*
+ * Stores why a line isn't a step, as `tracehost --lines --explain` prints it: lines that name the first mistakes, and what
+ * was likely meant. They call the line by `number`. Its length is 0 if the line is a step. Makes no step, and needs no handle.
+ */
+uint32_t tracehost_explain(const uint8_t *line, size_t line_length, size_t number, uint8_t *out, size_t out_size,
+                           size_t *length);
 
 /* Steps. `caller`, `target`, `lwp`, `which` and `signal` may be any number: the reply has the error that they cause. */
 uint32_t tracehost_spawn(tracehost *h, uint32_t user, tracehost_reply *reply);
@@ -203,6 +214,18 @@ typedef struct tracehost_lwp {
 } tracehost_lwp;
 uint32_t tracehost_view(tracehost *h, uint32_t user, tracehost_process *processes, size_t processes_size,
                         tracehost_lwp *lwps, size_t lwps_size, size_t *processes_length, size_t *lwps_length);
+
+/*
+ * Stores all rows of a user as a JSON object, as the member `rows` of `tracehost --json=trace+rows` has those that changed.
+ */
+uint32_t tracehost_rows(tracehost *h, uint32_t user, uint8_t *out, size_t out_size, size_t *length);
+
+/*
+ * Stores all that a user sees as numbers: the setting, both cursors, the rows with their dispositions, and the handlers.
+ * Two sessions show the user the same if and only if these numbers are the same, and then they answer the user's next
+ * steps alike. So a search needs to go on from one of them only.
+ */
+uint32_t tracehost_state(tracehost *h, uint32_t user, uint32_t *out, size_t size, size_t *length);
 
 #ifdef __cplusplus
 }

@@ -1,12 +1,11 @@
 -- The calls of a session, as a run of the machine.
 use Rattle.std.proofs.Common.{◌≡◌, ℕ, List, [], ◌∷◌, map, Option, Some, None, refl}
-use Rattle.std.specs.Prelude.{Ok, Err}
+use Rattle.std.specs.Prelude.{Ok}
 use Rattle.requests.specs.{Isolation.{Ran, Users}, Machine.Machine}
 use Rattle.step_types.specs.{Plain.UserStep, declared.Reply.Reply}
 use Rattle.visibility.{specs.Runs.{reply_given, MakesStep}, proofs.Steps.did}
-use Rattle.scenario_text.specs.{declared.fault.Fault.Fault, OneStep.IsStep}
-use Rattle.open_sessions.specs.{Answers.{LineReply, AnswersLine, step, refused}, Calls.{OpenSession, Steps, Answers}}
-use Rattle.open_sessions.specs.Laws.{Call, typed, by_line, AnswersCall, AnswersCalls, StepsIn, none, typed_step, line_step, no_step, replies_in}
+use Rattle.open_sessions.specs.{Answers.{LineReply, AnswersLine, step, refused}, Calls.{OpenSession, Steps}}
+use Rattle.open_sessions.specs.Laws.{Call, typed, by_line, AnswersCalls, StepsIn, none, typed_step, line_step, no_step, replies_in}
 
 -- one more step
 ran_more : (a : UserStep) (steps : List UserStep) (o : Option Reply) (os : List (Option Reply)) (m n k : Machine) → MakesStep o a.uid a.step m n → Ran steps os n k → Ran (a ∷ steps) (o ∷ os) m k

@@ -1,6 +1,6 @@
 use Rattle.std.proofs.Common.{◌≡◌, ◌≢◌, ℕ, Option, Some, None, ap, sym, ◌∙◌}
 use Rattle.{pid_blocks.specs.Users.IsUser, step_types.specs.{Plain.PlainStep, declared.Reply.Reply}}
-use Rattle.requests.{specs.{Isolation.{Apart, host_after}, Machine.Machine, View.view}, proofs.IsolationLaws.{one_step, other_step}}
+use Rattle.requests.{specs.{Isolation.{Apart}, Machine.Machine, View.view}, proofs.IsolationLaws.{one_step, other_step}}
 use Rattle.visibility.{specs.Runs.{MakesStep, reply_given}, proofs.Steps.did}
 use Rattle.open_sessions.{specs.{Laws.{AnswersAlike, LeavesStates}, ViewWords.view_words}, proofs.ViewWordLemmas.words_tell}
 use Rattle.open_sessions.proofs.laws.same_states_answer_alike.Goals as goal
