@@ -2,6 +2,7 @@
 ghost use Rattle.std.specs.Prelude.{ℕ, List, [], ◌≡◌, ◌≢◌, ◌≤◌, None, Some, IfOk, string_bytes};
 ghost use Rattle.open_sessions.specs.Answers.{last_numbers};
 ghost use Rattle.open_sessions.specs.Calls.{last_text, state_of, LineOf};
+ghost use Rattle.scenario_text.specs.declared.fault.Fault.TheVariants.{Memory as NoMemory};
 ghost use Rattle.tracehost_c.specs.declared.replies.FlatReply.{FlatReply as Flat};
 ghost use Rattle.tracehost_c.specs.Calls.{style_of, Explains, LineCall, Shows, ShowsText, StepOf, TypedCall};
 
@@ -169,17 +170,21 @@ fn explanation_of(alloc: Global, number: usize, line: &[u8]) -> Result<String, A
     Ok(text)
 }
 
-/// Writes why a line isn't a step.
+/// Writes why a line isn't a step, unless memory ran out while it was read.
 fn put_reasons(
     alloc: Global,
+    fault: Fault,
     number: usize,
     line: &[u8],
     out: &mut [u8],
     whole: &mut usize,
 ) -> u32
-    ensures shown { result ≡ 0 → (text : List ℕ) × (text ≢ []) × Shows text out.old out.new whole.new }
+    ensures shown { result ≡ 0 → (fault ≢ NoMemory) × (text : List ℕ) × (text ≢ []) × Shows text out.old out.new whole.new }
     ensures refused { result ≢ 0 → (result ≡ 2) × (out.new ≡ out.old) × (whole.new ≡ whole.old) }
 {
+    if let Fault::Memory = fault {
+        return NO_MEMORY;
+    }
     match explanation_of(alloc, number, line) {
         Ok(text) => {
             *whole = copy_front(text.as_bytes(), out);
@@ -205,8 +210,7 @@ pub(crate) fn put_explanation(
             *whole = 0;
             ANSWERED
         }
-        Err(Fault::Memory) => NO_MEMORY,
-        Err(_) => put_reasons(alloc, number, line, out, whole),
+        Err(fault) => put_reasons(alloc, fault, number, line, out, whole),
     }
 }
 

@@ -128,7 +128,11 @@ pub extern "C" fn tracehost_copy(alloc: Global, from: &mut Tracehost, to: &mut T
 
 /// Copies an open session over another one, whose memory is freed. From then on both go their own ways.
 #[unsafe(no_mangle)]
-pub extern "C" fn tracehost_copy_over(alloc: Global, from: &mut Tracehost, to: &mut Tracehost) -> u32
+pub extern "C" fn tracehost_copy_over(
+    alloc: Global,
+    from: &mut Tracehost,
+    to: &mut Tracehost,
+) -> u32
     ensures source { from.new.held.session ≡ from.old.held.session }
     ensures copied { result ≡ 0 → to.new.held.session ≡ from.old.held.session }
     ensures unchanged { result ≢ 0 → to.new ≡ to.old }

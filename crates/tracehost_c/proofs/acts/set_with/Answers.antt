@@ -1,4 +1,4 @@
-use Rattle.std.proofs.{Common.{◌≡◌, ◌≢◌, ◌<◌, ◌^◌, ℕ, ◌+◌, ◌-◌, ◌*◌, ◌/◌, ◌%◌, bit_or, arith, ap, sym, ◌∙◌}, lemmas.Nat.{mod-pow-add, or_comm, or_shifted, pow_pos}}
+use Rattle.std.proofs.{Common.{◌≡◌, ◌≢◌, ◌<◌, ◌^◌, ℕ, ◌+◌, ◌-◌, ◌*◌, ◌/◌, ◌%◌, bit_or, arith, ap, ◌∙◌}, lemmas.Nat.{mod-pow-add, or_comm, or_shifted, pow_pos}}
 use Rattle.tracehost_c.proofs.acts.set_with.Goals.{then-bits-place-eq1, else-bits-place-eq1}
 use Rattle.tracehost_c.proofs.acts.set_with.Goals as goal
 

@@ -1,6 +1,6 @@
 use Rattle.{std.{proofs.Common.{◌≡◌, refl, ap, subst, arith}, specs.Prelude.false}}
 use Rattle.step_types.specs.{Replies.is_listing, Status.WordsDiffer, declared.Reply.Reply}
-use Rattle.tracehost_c.specs.{Replies.{Alike, same, lwps, pids, status, handled, FlatFormsDiffer, HasStatus, OneReply}}
+use Rattle.tracehost_c.specs.{Replies.{Alike, same, lwps, pids, status, handled, FlatFormsDiffer, HasStatus}}
 use Rattle.tracehost_c.proofs.laws.flat_forms_differ.Goals as goal
 
 same_flat : FlatFormsDiffer
