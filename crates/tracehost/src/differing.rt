@@ -33,47 +33,66 @@ pub(crate) struct Hunk {
     last: usize,
 }
 
-/// Returns the lines of a text, each with its line feed.
-fn lines_of<'a>(alloc: Global, text: &'a [u8]) -> Result<Vec<&'a [u8]>, AllocError> {
-    let mut lines = Vec::new(alloc);
-    let mut from = 0;
-    for (place, byte) in text.iter().enumerate() {
-        if *byte == b'\n' {
-            let end = place.saturating_add(1);
-            lines.push(text.get(from..end).unwrap_or(&[]))?;
-            from = end;
+/// A text line by line, each with its line feed.
+#[derive(Drop)]
+struct Lines<'a> {
+    text: &'a [u8],
+    /// The place behind each line.
+    ends: Vec<usize>,
+}
+
+impl<'a> Lines<'a> {
+    /// The lines of the text. An error means out of memory.
+    fn new(alloc: Global, text: &'a [u8]) -> Result<Lines<'a>, AllocError> {
+        let mut ends = Vec::new(alloc);
+        for (place, byte) in text.iter().enumerate() {
+            if *byte == b'\n' {
+                ends.push(place.saturating_add(1))?;
+            }
         }
+        if !text.is_empty() && !text.ends_with(b"\n") {
+            ends.push(text.len())?;
+        }
+        Ok(Lines { text, ends })
     }
-    if from < text.len() {
-        lines.push(text.get(from..).unwrap_or(&[]))?;
+
+    /// Returns the line with this index; none after the last one.
+    fn line(&self, index: usize) -> Option<&'a [u8]> {
+        let end = *self.ends.get(index)?;
+        let from = match index.checked_sub(1) {
+            Some(before) => *self.ends.get(before)?,
+            None => 0,
+        };
+        self.text.get(from..end)
     }
-    Ok(lines)
 }
 
-/// Tests whether two lists of lines go on with the same two lines after these many, or end there.
-fn meet(expected: &[&[u8]], got: &[&[u8]], skipped: usize, added: usize) -> bool {
-    let behind = skipped.saturating_add(1);
-    expected.get(skipped) == got.get(added)
-        && expected.get(behind) == got.get(added.saturating_add(1))
+/// Tests whether two texts have the same two lines from these places on, or end there.
+fn meet(expected: &Lines<'_>, got: &Lines<'_>, left: usize, right: usize) -> bool {
+    expected.line(left) == got.line(right)
+        && expected.line(left.saturating_add(1)) == got.line(right.saturating_add(1))
 }
 
-/// Returns how many lines of each list come before those that are the same again. Mostly one line is another.
-fn change_of(expected: &[&[u8]], got: &[&[u8]]) -> (usize, usize) {
-    if expected.get(1) == got.get(1) {
+/// Returns how many lines of each text come from these places on before those that are the same again. Mostly it is one
+/// line of each.
+fn change_of(expected: &Lines<'_>, got: &Lines<'_>, left: usize, right: usize) -> (usize, usize) {
+    if expected.line(left.saturating_add(1)) == got.line(right.saturating_add(1)) {
         return (1, 1);
     }
     for lines in 1..REACH {
         for skipped in 0..=lines {
             let added = lines - skipped;
-            if skipped <= expected.len()
-                && added <= got.len()
-                && meet(expected, got, skipped, added)
-            {
+            if meet(
+                expected,
+                got,
+                left.saturating_add(skipped),
+                right.saturating_add(added),
+            ) {
                 return (skipped, added);
             }
         }
     }
-    (expected.len().min(1), got.len().min(1))
+    (1, 1)
 }
 
 /// The rows so far.
@@ -102,10 +121,22 @@ impl<'a> Rows<'a> {
         Ok(())
     }
 
-    /// Adds lines.
-    fn push_all(&mut self, side: Side, lines: &[&'a [u8]]) -> Result<(), AllocError> {
-        for line in lines {
-            self.push(side, *line)?;
+    /// Adds the next lines of each text, as many as are there.
+    fn push_change(
+        &mut self,
+        expected: &Lines<'a>,
+        got: &Lines<'a>,
+        change: (usize, usize),
+    ) -> Result<(), AllocError> {
+        for _ in 0..change.0 {
+            if let Some(line) = expected.line(self.expected) {
+                self.push(Side::Expected, line)?;
+            }
+        }
+        for _ in 0..change.1 {
+            if let Some(line) = got.line(self.got) {
+                self.push(Side::Got, line)?;
+            }
         }
         Ok(())
     }
@@ -117,34 +148,25 @@ pub(crate) fn rows_of<'a>(
     expected: &'a [u8],
     got: &'a [u8],
 ) -> Result<Vec<Row<'a>>, AllocError> {
-    let expected_lines = lines_of(alloc, expected)?;
-    let got_lines = lines_of(alloc, got)?;
-    let mut left = expected_lines.as_slice();
-    let mut right = got_lines.as_slice();
+    let expected = Lines::new(alloc, expected)?;
+    let got = Lines::new(alloc, got)?;
     let mut rows = Rows {
         rows: Vec::new(alloc),
         expected: 0,
         got: 0,
     };
-    for _ in 0..left.len().saturating_add(right.len()) {
-        match (left.first(), right.first()) {
-            (Some(line), Some(same)) if line == same => {
-                rows.push(Side::Both, *line)?;
-                left = left.get(1..).unwrap_or(&[]);
-                right = right.get(1..).unwrap_or(&[]);
-            }
+    for _ in 0..expected.ends.len().saturating_add(got.ends.len()) {
+        match (expected.line(rows.expected), got.line(rows.got)) {
+            (Some(line), Some(same)) if line == same => rows.push(Side::Both, line)?,
             (Some(_), Some(_)) => {
-                let (skipped, added) = change_of(left, right);
-                rows.push_all(Side::Expected, left.get(..skipped).unwrap_or(&[]))?;
-                rows.push_all(Side::Got, right.get(..added).unwrap_or(&[]))?;
-                left = left.get(skipped..).unwrap_or(&[]);
-                right = right.get(added..).unwrap_or(&[]);
+                let change = change_of(&expected, &got, rows.expected, rows.got);
+                rows.push_change(&expected, &got, change)?;
             }
-            _ => break,
+            (Some(line), None) => rows.push(Side::Expected, line)?,
+            (None, Some(line)) => rows.push(Side::Got, line)?,
+            (None, None) => break,
         }
     }
-    rows.push_all(Side::Expected, left)?;
-    rows.push_all(Side::Got, right)?;
     Ok(rows.rows)
 }
 
@@ -177,7 +199,7 @@ fn push_range(out: &mut String, before: usize, count: usize) -> Result<(), Alloc
 
 impl Hunk {
     /// Returns its rows, with the lines around them.
-    pub(crate) fn rows<'b, 'a>(&self, rows: &'b [Row<'a>]) -> &'b [Row<'a>] {
+    pub(crate) fn rows<'a>(&self, rows: &'a [Row<'a>]) -> &'a [Row<'a>] {
         let from = self.first.saturating_sub(CONTEXT);
         let to = self
             .last

@@ -87,7 +87,7 @@ fn write_diff<R: Print + AllocGlobal>(
     rows: &[Row<'_>],
 ) -> io::Result<()> {
     let alloc = rt.alloc();
-    let mut out = BufWriter::new(alloc, io::writer(rt))?;
+    let mut out = BufWriter::new(alloc, io::writer(&*rt))?;
     let name = FileName { name: path };
     let head = format!(in alloc; "--- {name}\texpected\n+++ {name}\tgot\n")?;
     out.write_all(head.as_bytes())?;
@@ -147,7 +147,9 @@ fn replace<R: Files + AllocGlobal>(rt: &R, path: &str, text: &[u8]) -> io::Resul
     }
     let beside = format!(in rt.alloc(); "{path}.new")?;
     let mut file = fs::File::create_new(rt, beside.as_str())?;
-    let written = file.write_all(text).and_then(|()| fs::rename(rt, beside.as_str(), path));
+    let written = file
+        .write_all(text)
+        .and_then(|()| fs::rename(rt, beside.as_str(), path));
     if written.is_err() {
         let _ = fs::remove_file(rt, beside.as_str());
     }

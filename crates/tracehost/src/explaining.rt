@@ -1,7 +1,7 @@
 //! Explanations of refused input: where the first mistakes are, and what was likely meant.
 use crate::CommandError;
-use crate::asking::{Mode, Selection};
 use crate::answered::count_of;
+use crate::asking::{Mode, Selection};
 use diagnostics::{Source, explain};
 use scenario_runs::{Fault, MAX_STEP_BYTES, RunFault, Scenario, parse};
 use std::alloc::{AllocError, Global};
