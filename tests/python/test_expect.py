@@ -1,13 +1,18 @@
-"""A run's lines against those of a file, by --expect: the status, and what it says of the first line that differs."""
+"""A run's lines against those of a file, by --expect: the status, what it says of the first line that differs, and the diff,
+which patch(1) applies. --bless: the file gets the lines, whole or not at all."""
 
 from __future__ import annotations
 
+import difflib
+import random
 import re
+import resource
+import subprocess
 from pathlib import Path
 
 import pytest
 
-from checking import answers, run
+from checking import Ended, answers, needs, run
 
 SCENARIO = """{"steps":[
 {"user":1002,"op":"spawn"},
@@ -93,10 +98,198 @@ DIFFERENT: list[Case] = [
 ]  # fmt: skip
 
 
+def patched(folder: Path, name: str, diff: str) -> bytes:
+    """What patch(1) makes of a file by a diff of it."""
+    words = ["patch", "--silent", "--output=-", name]
+    return subprocess.run(words, input=diff.encode(errors="surrogateescape"), cwd=folder, check=True, capture_output=True).stdout
+
+
+@needs("patch")
 @pytest.mark.parametrize(("text", "words", "said"), [case[1:] for case in DIFFERENT], ids=[case[0] for case in DIFFERENT])
 def test_a_line_that_differs(program: Path, folder: Path, text: str, words: str, said: str) -> None:
     (folder / "changed").write_bytes(text.encode(errors="surrogateescape"))
-    answers(program, *words.split(), "--expect", "changed", status=4, err=f"changed:{said}", cwd=folder)
+    ended = run(program, *words.split(), "--expect", "changed", cwd=folder)
+    assert (ended.status, ended.err) == (4, f"changed:{said}")
+    assert ended.out.startswith("--- changed\texpected\n+++ changed\tgot\n@@ ")
+    lines = run(program, *words.split(), cwd=folder).out
+    assert patched(folder, "changed", ended.out).decode() == lines
+
+
+def many_steps(count: int) -> str:
+    """A scenario of this many steps, of two users by turns."""
+    steps = (f'{{"user":{1001 + index % 2},"op":"list","caller":{1000 * (1 + index % 2)}}}' for index in range(count))
+    spawns = '{"user":1001,"op":"spawn"},{"user":1002,"op":"spawn"},'
+    return f'{{"steps":[{spawns}{",".join(steps)}]}}'
+
+
+@needs("patch")
+@pytest.mark.parametrize("seed", range(40))
+def test_the_diff_of_changes_by_chance(program: Path, tmp_path: Path, seed: int) -> None:
+    chance = random.Random(seed)
+    (tmp_path / "run").write_text(many_steps(chance.randrange(60)))
+    lines = run(program, "run", cwd=tmp_path).out.splitlines(keepends=True)
+    expected = list(lines)
+    for _ in range(chance.randrange(1, 8)):
+        place = chance.randrange(len(expected) + 1)
+        count = chance.randrange(4)
+        expected[place : place + chance.randrange(4)] = [f"other {chance.random()}\n"] * count
+    text = "".join(expected)[: -1 if chance.random() < 0.3 else None]
+    (tmp_path / "wanted").write_text(text)
+    ended = run(program, "run", "--expect", "wanted", cwd=tmp_path)
+    assert (ended.status == 0) == (text == "".join(lines))
+    if ended.status:
+        assert patched(tmp_path, "wanted", ended.out).decode() == "".join(lines)
+
+
+def test_a_diff_shows_three_lines_around_a_change_and_its_step(program: Path, tmp_path: Path) -> None:
+    (tmp_path / "run").write_text(many_steps(30))
+    lines = run(program, "run", cwd=tmp_path).out.splitlines(keepends=True)
+    expected = [*lines[:10], "1001 6 pids 7\n", *lines[11:28], *lines[29:]]
+    (tmp_path / "wanted").write_text("".join(expected))
+    diff = run(program, "run", "--expect", "wanted", cwd=tmp_path).out
+    wanted = "".join(difflib.unified_diff(expected, lines, "wanted", "wanted", "expected", "got"))
+    first, second = (
+        ' steps[10], step 6 of user 1001: {"op":"list","caller":1000}',
+        ' steps[28], step 15 of user 1001: {"op":"list","caller":1000}',
+    )
+    assert diff == wanted.replace("+8,7 @@", f"+8,7 @@{first}").replace("+26,7 @@", f"+26,7 @@{second}")
+
+
+def test_a_step_that_installs_a_handler_is_whole(program: Path, tmp_path: Path) -> None:
+    rules = '[{"signal":5,"decision":"continue","pass":9}]'
+    steps = f'{{"user":1001,"op":"spawn"}},{{"user":1001,"op":"install","caller":1000,"rules":[]}},{{"user":1001,"op":"install","caller":1000,"rules":{rules}}}'
+    (tmp_path / "run").write_text(f'{{"steps":[{steps}]}}')
+    lines = run(program, "run", cwd=tmp_path).out.splitlines(keepends=True)
+    (tmp_path / "wanted").write_text("".join(lines[:2]))
+    diff = run(program, "run", "--expect", "wanted", cwd=tmp_path).out
+    assert f'@@ steps[2], step 3 of user 1001: {{"op":"install","caller":1000,"rules":{rules}}}\n' in diff
+
+
+@pytest.mark.parametrize(
+    "pattern", ["1001 1 new * *", "1001 1 new <pid> 100000", "1001 1 new \\d+ 100000", "1001 1 new $P 100000", "1001 ? new"]
+)
+def test_patterns_are_refused_with_the_reason(program: Path, folder: Path, pattern: str) -> None:
+    (folder / "wanted").write_text(LINES.replace("1001 1 new 1000 100000", pattern))
+    ended = run(program, "scenario.json", "--expect", "wanted", cwd=folder)
+    assert ended.status == 4
+    assert ended.err.endswith(
+        "\n  lines are compared byte by byte, without patterns: a scenario's numbers are the same in each run\n"
+    )
+
+
+def test_a_diff_of_many_lines_takes_little_time(program: Path, tmp_path: Path) -> None:
+    """Each line differs, and each change is a replaced line: a diff that compared all lines with all would take minutes."""
+    (tmp_path / "run").write_text(many_steps(40_000))
+    lines = run(program, "run", cwd=tmp_path).out
+    (tmp_path / "wanted").write_text(lines.replace(" pids ", " pid "))
+    before = resource.getrusage(resource.RUSAGE_CHILDREN).ru_utime
+    ended = run(program, "run", "--expect", "wanted", cwd=tmp_path)
+    assert ended.status == 4 and ended.out.count("\n+") == 40_000
+    assert resource.getrusage(resource.RUSAGE_CHILDREN).ru_utime - before < 5
+
+
+@pytest.mark.skipif(not Path("/dev/full").exists(), reason="needs /dev/full")
+def test_a_diff_that_cannot_be_written(program: Path, folder: Path) -> None:
+    (folder / "wanted").write_text(LINES.replace("pids", "pid"))
+    with open("/dev/full", "wb") as full:
+        ended = subprocess.run(
+            [program, "scenario.json", "--expect", "wanted"], cwd=folder, stdout=full, stderr=subprocess.PIPE, check=False
+        )
+    assert (ended.returncode, ended.stderr) == (3, b"tracehost: cannot write\n")
+
+
+# ---- --bless
+
+
+def bless(program: Path, folder: Path, name: str, *words: str) -> Ended:
+    return run(program, "scenario.json", "--expect", name, "--bless", *words, cwd=folder)
+
+
+def left(folder: Path) -> set[str]:
+    return {path.name for path in folder.iterdir()} - {"scenario.json", "no_steps.json", "folder"}
+
+
+@pytest.mark.parametrize(("words", "text"), [("", LINES), ("--user 1002", OF_1002), ("--threads", BY_USER)])
+def test_a_file_gets_the_lines(program: Path, folder: Path, words: str, text: str) -> None:
+    (folder / "wanted").write_text(text.replace("pids", "pid"))
+    ended = bless(program, folder, "wanted", *words.split())
+    assert (ended.status, ended.err) == (0, "")
+    assert ended.out.startswith("--- wanted\texpected\n")
+    assert (folder / "wanted").read_text() == text
+    answers(program, "scenario.json", *words.split(), "--expect", "wanted", cwd=folder)
+    assert left(folder) == {"wanted"}
+
+
+def test_a_file_that_is_not_there_is_made(program: Path, folder: Path) -> None:
+    assert bless(program, folder, "new") == Ended(0, "", "")
+    assert (folder / "new").read_text() == LINES
+
+
+def test_a_file_with_the_lines_stays(program: Path, folder: Path) -> None:
+    (folder / "wanted").write_text(LINES)
+    before = (folder / "wanted").stat()
+    assert bless(program, folder, "wanted") == Ended(0, "", "")
+    after = (folder / "wanted").stat()
+    assert (after.st_ino, after.st_mtime_ns) == (before.st_ino, before.st_mtime_ns)
+
+
+def test_a_link_stays_a_link(program: Path, folder: Path) -> None:
+    (folder / "target").write_text("old\n")
+    (folder / "link").symlink_to("target")
+    assert bless(program, folder, "link").status == 0
+    assert (folder / "link").is_symlink() and (folder / "target").read_text() == LINES
+
+
+def test_a_file_beside_it_is_left(program: Path, folder: Path) -> None:
+    (folder / "wanted").write_text("old\n")
+    (folder / "wanted.new").write_text("mine\n")
+    ended = bless(program, folder, "wanted", "--explain")
+    assert (ended.status, ended.err) == (3, "tracehost: cannot write\n  wanted.new: File exists\n")
+    assert ((folder / "wanted").read_text(), (folder / "wanted.new").read_text()) == ("old\n", "mine\n")
+
+
+def test_a_full_disk_leaves_the_file(program: Path, folder: Path) -> None:
+    (folder / "wanted").write_text("old\n")
+
+    def little_room() -> None:
+        resource.setrlimit(resource.RLIMIT_FSIZE, (20, 20))
+
+    ended = subprocess.run(
+        [program, "scenario.json", "--expect", "wanted", "--bless"],
+        cwd=folder,
+        preexec_fn=little_room,
+        capture_output=True,
+        check=False,
+    )
+    assert ended.returncode not in (0, 4)
+    assert (folder / "wanted").read_text() == "old\n"
+
+
+@pytest.mark.skipif(not Path("/dev/full").exists(), reason="needs /dev/full")
+def test_a_device_is_written_to_and_stays(program: Path, folder: Path) -> None:
+    ended = bless(program, folder, "/dev/full")
+    assert (ended.status, ended.err) == (3, "tracehost: cannot write\n")
+    assert not Path("/dev/full").is_file()
+
+
+@pytest.mark.parametrize("name", ["folder", "nowhere/wanted"])
+def test_what_cannot_be_blessed(program: Path, folder: Path, name: str) -> None:
+    assert bless(program, folder, name) == Ended(3, "", "tracehost: cannot write\n")
+
+
+def test_bless_needs_a_file(program: Path, folder: Path) -> None:
+    ended = run(program, "scenario.json", "--bless", "--explain", cwd=folder)
+    assert (ended.status, ended.out) == (2, "")
+    assert ended.err.endswith("  --bless: name the file that gets the lines, --expect FILE\n")
+
+
+def test_bless_after_a_refused_scenario_leaves_the_file(program: Path, folder: Path) -> None:
+    (folder / "list.json").write_text("[]\n")
+    (folder / "wanted").write_text("old\n")
+    answers(
+        program, "list.json", "--expect", "wanted", "--bless", status=1, err="tracehost: refused: BadShape at step 0\n", cwd=folder
+    )
+    assert (folder / "wanted").read_text() == "old\n"
 
 
 @pytest.mark.parametrize("name", ["nothing", "folder"])
@@ -118,15 +311,9 @@ def test_control_characters_of_a_name_are_escaped(program: Path, folder: Path, n
     assert (said.status, said.out) == (3, "")
     assert said.err == f"{CANNOT_READ}  {shown}: No such file or directory\n"
     (folder / name).write_text(LINES + "1002 4 ok\n")
-    answers(
-        program,
-        "scenario.json",
-        "--expect",
-        name,
-        status=4,
-        cwd=folder,
-        err=f'{shown}:6: expected "1002 4 ok", got no more lines\n',
-    )
+    ended = run(program, "scenario.json", "--expect", name, cwd=folder)
+    assert (ended.status, ended.err) == (4, f'{shown}:6: expected "1002 4 ok", got no more lines\n')
+    assert ended.out.startswith(f"--- {shown}\texpected\n+++ {shown}\tgot\n")
 
 
 def test_a_refused_scenario_before_the_file_is_read(program: Path, folder: Path) -> None:

@@ -115,10 +115,14 @@ _TYPES: dict[str, list[Any]] = {
     "open": [c_bool, _HANDLE],
     "close": [_HANDLE],
     "copy": [_HANDLE, _HANDLE],
+    "copy_over": [_HANDLE, _HANDLE],
+    "explain": [c_char_p, c_size_t, c_size_t, c_char_p, c_size_t, _LENGTH],
     "line": [_HANDLE, c_bool, c_char_p, c_size_t, c_char_p, c_size_t, _LENGTH],
     "last_line": [_HANDLE, c_bool, c_char_p, c_size_t, _LENGTH],
     "last_step": [_HANDLE, c_char_p, c_size_t, _LENGTH],
     "numbers": [_HANDLE, POINTER(c_uint32), c_size_t, _LENGTH],
+    "rows": [_HANDLE, c_uint32, c_char_p, c_size_t, _LENGTH],
+    "state": [_HANDLE, c_uint32, POINTER(c_uint32), c_size_t, _LENGTH],
     "view": [_HANDLE, c_uint32, POINTER(CProcess), c_size_t, POINTER(CLwp), c_size_t, _LENGTH, _LENGTH],
 }
 # The steps take words, which ctypes passes as they are. To check declared types would take three times as long as such
@@ -224,18 +228,37 @@ class Session:
         self.check(code)
         return ctypes.string_at(self._room, self._length.value - 1).decode("utf-8", "replace")
 
-    def last_step(self) -> Optional[str]:
-        """The line of the step that was answered last; None before any answer, after a refused line, and for a step that
-        no line is: a mask with bits that no event has, PT_TRACE_ME with a target."""
-        length = byref(self._length)
+    def copy_over(self, other: Session) -> None:
+        """Makes the other session one at the present state of this one. Raises MemoryError, and leaves it then."""
+        self.check(self.library["copy_over"](self.handle, other.handle))
+
+    def _text(self, name: str, *words: object) -> Optional[str]:
+        """The text that the call stores; None if it returns INVALID."""
         while True:
-            code = self.library["last_step"](self.handle, self._room, len(self._room), length)
+            code = self.library[name](*words, self._room, len(self._room), byref(self._length))
             if code == INVALID:
                 return None
             self.check(code)
             if self._length.value <= len(self._room):
                 return ctypes.string_at(self._room, self._length.value).decode()
             self._room = ctypes.create_string_buffer(self._length.value)
+
+    def last_step(self) -> Optional[str]:
+        """The line of the step that was answered last; None before any answer, after a refused line, and for a step that
+        no line is: a mask with bits that no event has, PT_TRACE_ME with a target."""
+        return self._text("last_step", self.handle)
+
+    def explain(self, line: str, number: int = 1) -> Optional[str]:
+        """Why the line isn't a step, as ``tracehost --lines --explain`` prints it; empty if it is one."""
+        text = line.encode("utf-8", "surrogateescape")
+        return self._text("explain", text, len(text), number)
+
+    def rows_text(self, uid: int) -> str:
+        """The user's rows as a JSON object, as ``--json=trace+rows`` has them. Raises ValueError if this is no user."""
+        text = self._text("rows", self.handle, uid)
+        if text is None:
+            raise ValueError(f"{uid} is no user")
+        return text
 
     def new_errors(self) -> str:
         return ""
@@ -244,14 +267,25 @@ class Session:
         self.library["close"](self.handle)  # closed already: it returns NOT_OPEN
         return 0
 
-    def numbers(self) -> tuple[int, ...]:
-        """The list of the last answer."""
+    def _array(self, name: str, *words: object) -> tuple[int, ...]:
+        """The numbers that the call stores."""
         array = (c_uint32 * 0)()
         while True:
-            self.check(self.library["numbers"](self.handle, array, len(array), byref(self._length)))
+            self.check(self.library[name](self.handle, *words, array, len(array), byref(self._length)))
             if self._length.value <= len(array):
                 return tuple(array[: self._length.value])
             array = (c_uint32 * self._length.value)()
+
+    def numbers(self) -> tuple[int, ...]:
+        """The list of the last answer."""
+        return self._array("numbers")
+
+    def state(self, uid: int) -> tuple[int, ...]:
+        """All that the user sees, as numbers: two sessions show the user the same if and only if these are the same.
+
+        Raises ValueError if this is no user.
+        """
+        return self._array("state", uid)
 
     def rows(self, uid: int) -> RawRows:
         """The user's processes and LWPs, until the next call of this function. Raises ValueError if this is no user."""

@@ -16,7 +16,7 @@ use std::{fmt, fs, io};
 #[derive(Drop)]
 pub(crate) struct Expected<'a> {
     pub(crate) path: &'a str,
-    /// The bytes of the file; none if there is no such file, and it is to be written.
+    /// The bytes of the file; none if it is to be written, and there is no such file.
     pub(crate) bytes: Option<Vec<u8>>,
     /// The file gets the run's lines.
     pub(crate) blesses: bool,
@@ -30,6 +30,14 @@ pub(crate) struct RunLines<'a> {
     pub(crate) text: &'a [u8],
 }
 
+/// Tests whether the path names a device, a pipe or a folder: what has no end, or no lines.
+fn is_no_file<R: Files>(rt: &R, path: &str) -> bool {
+    match fs::metadata(rt, path) {
+        Ok(found) => !found.is_file(),
+        Err(_) => false,
+    }
+}
+
 /// Reads the expected file.
 pub(crate) fn read_expected<'a, R: Files + AllocGlobal>(
     rt: &R,
@@ -37,6 +45,13 @@ pub(crate) fn read_expected<'a, R: Files + AllocGlobal>(
     blesses: bool,
     explains: bool,
 ) -> Result<Expected<'a>, CommandError> {
+    if blesses && is_no_file(rt, path) {
+        return Ok(Expected {
+            path,
+            bytes: None,
+            blesses,
+        });
+    }
     let bytes = match fs::read(rt, path) {
         Ok(bytes) => Some(bytes),
         Err(error) if blesses && error.kind() == io::ErrorKind::NotFound => None,
