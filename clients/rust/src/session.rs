@@ -71,7 +71,7 @@ impl Session {
     ///
     /// The scenario is whole after each step: `tracehost scenario --expect lines` passes. A line that is refused, a step
     /// that is answered ENOMEM and the steps of a forked child aren't recorded. If a step can't be written, its call
-    /// returns [`Error::RecordingFailed`] though it was made, both files are as before, and recording ends.
+    /// returns [`Error::RecordingFailed`] though it was made, both files are as before, and the session has ended.
     ///
     /// # Errors
     ///
@@ -99,7 +99,7 @@ impl Session {
         Ok(())
     }
 
-    /// Why recording ended, if a call returned [`Error::RecordingFailed`].
+    /// Why a step couldn't be recorded, if a call returned [`Error::RecordingFailed`].
     pub fn record_error(&self) -> Option<&io::Error> {
         self.record_error.as_ref()
     }
@@ -120,6 +120,7 @@ impl Session {
             }
             Err(error) => {
                 self.record_error = Some(error);
+                self.handle.close();
                 Err(Error::RecordingFailed)
             }
         }
