@@ -36,7 +36,7 @@ PAGES = tracehost.1 tracehost-view.1 tracehost-perfetto.1
 DATA = schema/scenario.schema.json viewer/src/* viewer/*.py
 DOCUMENTS = LICENSE README.md CHANGELOG.md SECURITY.md docs/*.* docs/internals/* examples/*
 # the client in C: tracehost_client.c includes the others
-CLIENT = tracehost_client.c internal.h calls.c in_process.c names.c pipe.c record.c session.c steps.c threads.c
+CLIENT = tracehost_client.c internal.h calls.c in_process.c names.c pipe.c record.c refusals.c rows.c session.c steps.c threads.c
 # C programs on the model: its Makefile, and where it installs. Relative names are those of this folder.
 staged = $(if $(filter /%,$(firstword $(DESTDIR)$(bindir))),$(DESTDIR),$(CURDIR)/$(DESTDIR))
 POSIX = -C clients/posix --no-print-directory DESTDIR='$(staged)' bindir='$(bindir)' libdir='$(libdir)' \

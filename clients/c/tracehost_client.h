@@ -227,6 +227,18 @@ const char *th_fault(const th_host *h);
 const char *th_reason(const th_host *h);
 
 /*
+ * Why the calling thread's last call was refused, in words: by an errno of the model or TH_EHELD the call, the errno and the
+ * condition that held,
+ *
+ *     ptrace(PT_CONTINUE, 1001) by 1000: EBUSY, no wait has reported the stop of 1001
+ *
+ * and by TH_EREFUSED th_reason. "" if the call was answered, or if what refused it isn't the model. The rows that decide are looked
+ * at now: after another thread's step that may have changed them, and over a pipe, each condition that is possible is named. The text
+ * stays until the thread's next call.
+ */
+const char *th_explain(th_host *h);
+
+/*
  * Records the session from its beginning: all steps that were answered as a scenario, and their lines in a second file, unless
  * `lines` is NULL. Both are whole after each step, also if the test ends by abort(3). `tracehost SCENARIO --expect LINES`
  * then makes the session again. EBUSY after the first step.
