@@ -13,7 +13,10 @@
 #define TRACEHOST_LIBRARY_HPP
 
 #include "tracehost.h"
+#include "tracehost_explain.hpp"
 
+#include <cstdint>
+#include <string>
 #include <system_error>
 #include <type_traits>
 #include <utility>
@@ -79,7 +82,34 @@ public:
     };
     static verdict passing(uint32_t decision, uint32_t signal) { return verdict(decision, signal); }
 
-    // for tracehost_line, tracehost_numbers and tracehost_view
+    // makes the step of a line, and returns the line of its answer, without its line feed
+    std::string line(const std::string &step)
+    {
+        std::size_t length = 0;
+        const std::uint8_t *given = reinterpret_cast<const std::uint8_t *>(step.data());
+        std::uint8_t answer[1];
+        const uint32_t code = tracehost_line(&handle, false, given, step.size(), answer, 0, &length);
+        if (code != TRACEHOST_NO_TEXT)
+            check(code);
+        return last_line();
+    }
+
+    // the line of the last answer; empty before any
+    std::string last_line()
+    {
+        std::string line = tracehost_refusals::line_of([this](std::uint8_t *room, std::size_t size, std::size_t *length) {
+            const uint32_t code = tracehost_last_line(&handle, false, room, size, length);
+            check(code);
+            return code;
+        });
+        return line.empty() ? line : line.substr(0, line.size() - 1);
+    }
+
+    // Why the last step was answered by an errno, or held, in words: the call, the answer, and the condition that held. Empty
+    // after another answer, and only the errno after a step that no line is (tracehost_last_step).
+    std::string explain() { return tracehost_refusals::explanation(&handle); }
+
+    // for tracehost_numbers and tracehost_view
     tracehost *get() noexcept { return &handle; }
 
     static void check(uint32_t code)

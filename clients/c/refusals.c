@@ -95,6 +95,13 @@ static int is_possible(enum thp_condition condition, const struct thp_asked *a)
 /* clang-format on */
 /* end */
 
+/* tools/format sets */
+/* clang-format off */
+static int passes_signal(int64_t request) { return request == 7 || request == 9 || request == 20 || request == 21 || request == 22 || request == 11; }
+static int takes_data(int64_t request) { return request == 7 || request == 9 || request == 20 || request == 21 || request == 22 || request == 11 || request == 23 || request == 24 || request == 15; }
+/* clang-format on */
+/* end */
+
 /* tools/format calls */
 /* clang-format off */
 static const enum thp_condition ORDER_0[] = {THP_MOST_PROCESSES, THP_MOST_LWPS, THP_NO_MEMORY};
@@ -164,22 +171,14 @@ static void write_act(char *text, size_t size, const struct thp_step *step)
         snprintf(text + length, size - length, "%s", thp_name_of(&thp_calls, step->call));
 }
 
-/* whether a request passes its data on as a signal: the condition about it is possible for one that is none */
-static int passes_signal(const struct thp_asked *a)
-{
-    struct thp_asked other = *a;
-    other.data = LAST_SIGNAL + 1;
-    return is_possible(THP_NO_SIGNAL_TO_PASS, &other);
-}
-
-/* the data of a request, with a comma before it; nothing if it is 0, or an event mask */
+/* the data of a request, with a comma before it; nothing if it is 0, or has no use */
 static void write_data(char *text, size_t size, const struct thp_asked *a)
 {
     text[0] = '\0';
-    if (a->data == 0 || a->request == TH_PT_SET_EVENT_MASK)
+    if (a->data == 0 || !takes_data(a->request))
         return;
     snprintf(text, size, ", ");
-    if (passes_signal(a))
+    if (passes_signal(a->request))
         write_signal(text + 2, size - 2, a->signal);
     else
         snprintf(text + 2, size - 2, "%" PRId64, a->data);

@@ -44,6 +44,7 @@ class Refusals:
 
     calls: tuple[Call, ...]
     conditions: tuple[Condition, ...]
+    requests: dict[str, int]
     numbers: dict[str, int]
     sets: dict[str, tuple[int, ...]]
 
@@ -59,10 +60,14 @@ class Refusals:
         conditions = tuple(Condition(**row) for row in found["condition"])
         named = {condition.name for condition in conditions}
         asked = {name for call in calls for name in call.order}
+        requests = {request.name: request.bit for request in form.requests}
         assert named == asked, f"conditions and orders differ in {sorted(named ^ asked)}"
-        numbers = {**found["numbers"], **{request.name: request.bit for request in form.requests}}
-        passing = tuple(request.bit for request in form.requests if request.data == "signal")
-        return cls(tuple(calls), conditions, numbers, {"SIGNAL_REQUESTS": passing})
+        assert {call.only for call in calls} <= {"", *requests}, f"{path.name} names a request that isn't there"
+        sets = {
+            "SIGNAL_REQUESTS": tuple(request.bit for request in form.requests if request.data == "signal"),
+            "DATA_REQUESTS": tuple(request.bit for request in form.requests if request.data not in (None, "ignored")),
+        }
+        return cls(tuple(calls), conditions, requests, {**found["numbers"], **requests}, sets)
 
 
 @dataclasses.dataclass(frozen=True)
@@ -150,6 +155,11 @@ def python_calls(refusals: Refusals) -> str:
     return f"CALLS = (\n{calls})\n"
 
 
+def python_sets(refusals: Refusals) -> str:
+    """The requests that pass their data on as a signal, and those that have a use for it."""
+    return "".join(f"{name} = {numbers}\n" for name, numbers in refusals.sets.items())
+
+
 # ---- C
 
 
@@ -160,7 +170,7 @@ def as_it_is(text: str) -> str:
 def c_enumerators(refusals: Refusals) -> str:
     items = [f"THP_{condition.name.upper()}, " for condition in refusals.conditions]
     lines = wrapped([*items[:-1], items[-1].rstrip(", ")], 116, "    ", "    ")
-    return "enum thp_condition {\n" + "".join(line.rstrip() + "\n" for line in lines) + "};\n"
+    return as_it_is("enum thp_condition {\n" + "".join(line.rstrip() + "\n" for line in lines) + "};\n")
 
 
 def c_conditions(refusals: Refusals) -> str:
@@ -172,6 +182,19 @@ def c_conditions(refusals: Refusals) -> str:
         "static int is_possible(enum thp_condition condition, const struct thp_asked *a)\n"
         f"{{\n    switch (condition) {{\n{cases}    default: return 1;\n    }}\n}}\n"
     )
+
+
+def sets_as_functions(refusals: Refusals, function: str) -> str:
+    """Which requests pass their data on as a signal, and which have a use for it."""
+    bare = Language("{}", "{}({})")
+    return "".join(
+        function.format(name, bare.expression(f"request in {numbers}", refusals))
+        for name, numbers in {"passes_signal": "SIGNAL_REQUESTS", "takes_data": "DATA_REQUESTS"}.items()
+    )
+
+
+def c_sets(refusals: Refusals) -> str:
+    return as_it_is(sets_as_functions(refusals, "static int {}(int64_t request) {{ return {}; }}\n"))
 
 
 def c_calls(refusals: Refusals) -> str:
@@ -213,6 +236,28 @@ def cpp_tables(refusals: Refusals) -> str:
     return f"{conditions}    static const std::vector<call> made = {{\n{calls}    }};\n"
 
 
+def cpp_sets(refusals: Refusals) -> str:
+    return sets_as_functions(refusals, "inline bool {}(std::int64_t request) {{ return {}; }}\n")
+
+
+def cpp_requests(refusals: Refusals) -> str:
+    rows = wrapped([f'{{"{name}", {number}}}, ' for name, number in refusals.requests.items()], 116, "        ", "        ")
+    return (
+        "    static const std::vector<std::pair<std::string, std::int64_t>> requests = {\n"
+        + "".join(line.rstrip() + "\n" for line in rows)
+        + "    };\n"
+    )
+
+
+def rust_requests(refusals: Refusals) -> str:
+    return "".join(f'        "{name}" => {number},\n' for name, number in refusals.requests.items())
+
+
+def rust_sets(refusals: Refusals) -> str:
+    """The requests that pass their data on as a signal, and those that have a use for it."""
+    return "".join(f"pub const {name}: &[i64] = &{list(numbers)};\n" for name, numbers in refusals.sets.items())
+
+
 def rust_tables(refusals: Refusals) -> str:
     conditions = ""
     for condition in refusals.conditions:
@@ -221,7 +266,7 @@ def rust_tables(refusals: Refusals) -> str:
         asked = "a" if "a." in possible else "_"
         argument, rows = "a" if "a." in holds else "_", "r" if "r." in holds else "_"
         conditions += (
-            f"const {condition.name.upper()}: Condition = Condition {{\n"
+            f"static {condition.name.upper()}: Condition = Condition {{\n"
             f'    answer: "{condition.answer}", words: "{condition.words}",\n'
             f"    possible: |{asked}| {possible}, holds: |{argument}, {rows}| {holds},\n}};\n"
         )
@@ -229,4 +274,4 @@ def rust_tables(refusals: Refusals) -> str:
     for call in refusals.calls:
         order = ", ".join(f"&{name.upper()}" for name in call.order)
         calls += f'    Call {{ op: "{call.op}", request: {call.request(refusals)}, text: "{call.text}", order: &[{order}] }},\n'
-    return f"{conditions}\nconst CALLS: &[Call] = &[\n{calls}];\n"
+    return f"{conditions}\npub static CALLS: &[Call] = &[\n{calls}];\n"

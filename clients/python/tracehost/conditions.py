@@ -37,6 +37,11 @@ class Call(NamedTuple):
 
 
 # fmt: off
+# tools/format sets
+SIGNAL_REQUESTS = (7, 9, 20, 21, 22, 11)
+DATA_REQUESTS = (7, 9, 20, 21, 22, 11, 23, 24, 15)
+# end
+
 # tools/format conditions
 CONDITIONS = (
     Condition("caller_gone", "ESRCH", "{caller} isn't a live process of user {user}", lambda a: True, lambda a, r: not r.is_live(a.caller)),

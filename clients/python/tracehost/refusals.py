@@ -13,7 +13,7 @@ from bisect import bisect_left
 from collections.abc import Callable, Iterator, Mapping, Sequence
 from typing import Any, NamedTuple, Optional
 
-from .conditions import CALLS, CONDITIONS, Condition
+from .conditions import CALLS, CONDITIONS, DATA_REQUESTS, SIGNAL_REQUESTS, Condition
 from .conditions import Call as CallOfTable
 from .library import CLwp, CProcess, RawRows
 from .names import ALL_EVENTS, Action, Call, EventMask, Request, Signal
@@ -21,9 +21,6 @@ from .rows import LwpMode, ProcessState
 from .steps import Act, Block, Compute, Enter, Leave, Raise
 
 _LAST_SIGNAL, _LAST_PID = 31, 99_999
-_PASSING = (
-    Request.PT_CONTINUE, Request.PT_STEP, Request.PT_TO_SCE, Request.PT_TO_SCX, Request.PT_SYSCALL, Request.PT_DETACH,
-)  # fmt: skip
 _ACTS = (Compute, Raise, Block, Enter, Leave)
 _ACTIONS = (Action.SIG_DFL, Action.SIG_IGN, Action.CATCH)
 
@@ -98,9 +95,9 @@ class Asked(NamedTuple):
         return str(getattr(self, name))
 
     def _data(self) -> str:
-        if not self.data or self.request == Request.PT_SET_EVENT_MASK:
+        if not self.data or self.request not in DATA_REQUESTS:
             return ""
-        return f", {_signal(self.data) if self.request in _PASSING else self.data}"
+        return f", {_signal(self.data) if self.request in SIGNAL_REQUESTS else self.data}"
 
 
 class Rows:

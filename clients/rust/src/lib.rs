@@ -37,6 +37,7 @@ mod error;
 mod flags;
 mod numbers;
 mod record;
+mod refusals;
 mod replies;
 mod session;
 mod steps;

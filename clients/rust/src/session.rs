@@ -1,6 +1,7 @@
 //! A session, and its calls.
 
 use crate::record::{self, Recording};
+use crate::refusals::{self, Rows};
 use crate::replies::{checked, new, reply};
 use crate::view::{Lwp, Process, View};
 use crate::{
@@ -318,6 +319,34 @@ impl Session {
         }
     }
 
+    /// Why the last step was answered by an errno, or held: the call, the answer, and the condition that held. None after
+    /// another answer; only the errno after a step that no line is ([`last_step`](Session::last_step)).
+    ///
+    /// ```
+    /// # fn main() -> Result<(), tracehost::Error> {
+    /// # use tracehost::{Caller, Request, Session};
+    /// let mut session = Session::new()?;
+    /// let debugger = Caller { user: 1001, pid: session.spawn(1001)?.pid };
+    /// let target = session.spawn(1001)?.pid;
+    /// session.ptrace(debugger, Request::Attach, target)?;
+    /// assert!(session.ptrace(debugger, Request::Continue(None), target).is_err());
+    /// let why = "ptrace(PT_CONTINUE, 1001) by 1000: EBUSY, no wait has reported the stop of 1001";
+    /// assert_eq!(session.explain()?.as_deref(), Some(why));
+    /// # Ok(())
+    /// # }
+    /// ```
+    pub fn explain(&self) -> Result<Option<String>, Error> {
+        let line = self.last_line()?;
+        let Some(answer) = refusals::refusal(&line) else {
+            return Ok(None);
+        };
+        let Some(step) = self.last_step()? else {
+            return Ok(Some(answer.to_owned()));
+        };
+        let (processes, lwps) = self.rows(refusals::user(&step))?;
+        Ok(Some(refusals::explanation(&step, answer, &Rows { processes, lwps })))
+    }
+
     /// The user's processes and LWPs at this moment. It makes no step.
     ///
     /// ```no_run
@@ -333,6 +362,14 @@ impl Session {
     /// # }
     /// ```
     pub fn view(&self, user: u32) -> Result<View, Error> {
+        let (processes, lwps) = self.rows(user)?;
+        Ok(View {
+            processes: processes.iter().map(Process::from).collect(),
+            lwps: lwps.iter().map(Lwp::from).collect(),
+        })
+    }
+
+    fn rows(&self, user: u32) -> Result<(Vec<sys::Process>, Vec<sys::Lwp>), Error> {
         let (mut processes, mut lwps) = (Vec::new(), Vec::new());
         loop {
             let (code, [processes_length, lwps_length]) = self.handle.view(user, &mut processes, &mut lwps);
@@ -340,10 +377,7 @@ impl Session {
                 return Err(Error::of_code(code));
             }
             if processes.len() == processes_length && lwps.len() == lwps_length {
-                return Ok(View {
-                    processes: processes.iter().map(Process::from).collect(),
-                    lwps: lwps.iter().map(Lwp::from).collect(),
-                });
+                return Ok((processes, lwps));
             }
             processes.resize(processes_length, sys::Process::default());
             lwps.resize(lwps_length, sys::Lwp::default());
