@@ -180,6 +180,7 @@ struct th_host {
     off_t lines_end; /* bytes of the lines */
     int record_error; /* why a step can't be recorded; 0 while all are */
     struct thp_text entry; /* what is added to the scenario */
+    struct thp_test *test; /* NULL for none */
 };
 
 /* A session that is not connected yet, and its end; NULL with errno. */
@@ -206,6 +207,31 @@ int thp_ask(th_host *h, const struct thp_step *step, unsigned kinds, struct thp_
 /* Adds the step and its answer to the files of th_record; -1 with errno. */
 int thp_record(th_host *h, const struct thp_reply *reply);
 void thp_close_record(th_host *h);
+
+/* Begins a record in files that are empty; -1 with errno, and the session isn't recorded. */
+int thp_begin_record(th_host *h, int scenario, int lines);
+
+/* ---- tests: failing.c, and their files: artifacts.c */
+
+enum { THP_PATH = 4096, THP_PAGE_WORDS = 10 };
+
+struct thp_artifacts {
+    char folder[THP_PATH], scenario[THP_PATH], lines[THP_PATH], page[THP_PATH];
+    int is_own_folder; /* of this test only */
+};
+
+/* Makes the files of a test of this name, and opens two of them; -1 with errno. */
+int thp_open_artifacts(struct thp_artifacts *a, const char *test, int *scenario, int *lines);
+void thp_remove_artifacts(const struct thp_artifacts *a);
+/* The command that makes the page, which the other arguments are for. */
+void thp_page_command(
+    const char *argv[THP_PAGE_WORDS], const struct thp_artifacts *a, const char *test, const char *message, const char *step);
+/* Makes the page of a test that failed after so many steps; -1 if there is none, and standard error says why. */
+int thp_make_page(const struct thp_artifacts *a, const char *test, const char *message, size_t step);
+/* A step of a test can't be recorded, which is told. */
+void thp_tell_lost_record(const th_host *h, int error);
+/* The session of a test that hasn't ended is closed. */
+void thp_end_test(th_host *h);
 
 /* ---- several threads: threads.c */
 

@@ -110,6 +110,7 @@ int th_close(th_host *h)
 {
     if (h == NULL)
         return 0;
+    thp_end_test(h);
     int status = h->transport->end(h);
     thp_free(h);
     return status;

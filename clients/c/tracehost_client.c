@@ -3,6 +3,8 @@
 #include "threads.c"
 #include "steps.c"
 #include "record.c"
+#include "artifacts.c"
+#include "failing.c"
 #include "refusals.c"
 #include "session.c"
 #include "pipe.c"
