@@ -33,6 +33,7 @@
 #[doc = include_str!("../README.md")]
 struct Readme;
 
+mod artifacts;
 mod error;
 mod flags;
 mod numbers;
@@ -42,6 +43,7 @@ mod replies;
 mod session;
 mod steps;
 mod sys;
+pub mod test;
 mod view;
 
 pub use error::Error;

@@ -43,6 +43,10 @@ pub struct Session {
     settings: Settings,
     recording: Option<Recording>,
     record_error: Option<io::Error>,
+    /// Whether the session goes on if a step can't be recorded.
+    is_test: bool,
+    /// Steps in the recording, also once it has ended.
+    recorded: usize,
 }
 
 impl Session {
@@ -65,6 +69,8 @@ impl Session {
             settings,
             recording: None,
             record_error: None,
+            is_test: false,
+            recorded: 0,
         }
     }
 
@@ -100,6 +106,16 @@ impl Session {
         Ok(())
     }
 
+    /// Records a test. A step that can't be written is told, and the session goes on without a recording.
+    pub(crate) fn record_test(&mut self, recording: Recording) {
+        self.recording = Some(recording);
+        self.is_test = true;
+    }
+
+    pub(crate) fn recorded_steps(&self) -> usize {
+        self.recorded
+    }
+
     /// Why a step couldn't be recorded, if a call returned [`Error::RecordingFailed`].
     pub fn record_error(&self) -> Option<&io::Error> {
         self.record_error.as_ref()
@@ -116,7 +132,14 @@ impl Session {
         };
         match added {
             Ok(()) => {
+                self.recorded = recording.steps();
                 self.recording = Some(recording);
+                Ok(())
+            }
+            Err(error) if self.is_test => {
+                let (path, step) = (recording.path().display(), recording.steps() + 1);
+                eprintln!("tracehost: {path}: not recorded from step {step} on: {error}");
+                self.record_error = Some(error);
                 Ok(())
             }
             Err(error) => {

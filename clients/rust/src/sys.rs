@@ -4,6 +4,9 @@
 
 use std::cell::UnsafeCell;
 use std::ffi::{c_int, c_void};
+use std::fs::File;
+use std::io;
+use std::os::fd::AsRawFd;
 
 /// The code of a call that was answered.
 pub const ANSWERED: u32 = 0;
@@ -156,7 +159,25 @@ extern "C" {
 pub const EFBIG: i32 = 27;
 
 extern "C" {
+    fn flock(file: c_int, operation: c_int) -> c_int;
     fn getrlimit(resource: c_int, limit: *mut [u64; 2]) -> c_int;
+}
+
+/// The flag of open(2): a symbolic link isn't followed.
+pub const O_NOFOLLOW: c_int = 0o400_000;
+
+/// Locks a file while it is open; false if it is locked otherwise.
+pub fn lock(file: &File) -> io::Result<bool> {
+    const LOCK_EX: c_int = 2;
+    const LOCK_NB: c_int = 4;
+    // SAFETY: flock(2) takes two numbers, and the file is open.
+    if unsafe { flock(file.as_raw_fd(), LOCK_EX | LOCK_NB) } == 0 {
+        return Ok(true);
+    }
+    match io::Error::last_os_error() {
+        error if error.kind() == io::ErrorKind::WouldBlock => Ok(false),
+        error => Err(error),
+    }
 }
 
 /// The most bytes that a file may get, by RLIMIT_FSIZE of getrlimit(2).
