@@ -387,12 +387,18 @@ inline std::string last_refusal(tracehost *session)
     return error == std::string::npos ? "" : line.substr(error + 7, line.rfind(' ') - error - 7);
 }
 
+// the line of the last step; empty if it has none
+inline std::string last_step(tracehost *session)
+{
+    return line_of([=](std::uint8_t *room, std::size_t size, std::size_t *length) {
+        return tracehost_last_step(session, room, size, length);
+    });
+}
+
 inline std::string explanation(tracehost *session)
 {
     const std::string answer = last_refusal(session);
-    const asked a(line_of([=](std::uint8_t *room, std::size_t size, std::size_t *length) {
-        return tracehost_last_step(session, room, size, length);
-    }));
+    const asked a(last_step(session));
     if (answer.empty() || a.line.empty())
         return answer;
     const auto made = std::find_if(calls().begin(), calls().end(),
