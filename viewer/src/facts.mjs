@@ -1,6 +1,7 @@
 /** Rows of processes and LWPs in words, a fact each, and the facts in which two rows differ. */
 
 import { SIGNALS } from "./names.mjs";
+import { bare } from "./words.mjs";
 
 /** @typedef {import("./state.mjs").ProcessRow} ProcessRow */
 /** @typedef {import("./state.mjs").LwpRow} LwpRow */
@@ -13,10 +14,10 @@ import { SIGNALS } from "./names.mjs";
  */
 
 const WIDTH_OF_SIGNAL = 7; // bits of a wait status
-const bare = (names) => names.map((name) => name.replace(/^(PTRACE_|PL_FLAG_)/, "")).join(" ");
+const bareNames = (names) => names.map(bare).join(" ");
 
 /** What wait(2) means by the status of a process that has ended. */
-function endText(status) {
+export function endText(status) {
   const signal = status & ((1 << WIDTH_OF_SIGNAL) - 1);
   return signal === 0 ? `exited ${status >> 8}` : `ended by ${SIGNALS[signal]}`;
 }
@@ -37,7 +38,7 @@ function modeText({ mode, call, argument, vfork_child: child }) {
 
 /** What the last stop of an LWP showed. */
 function shownText({ flags = [], child, code }) {
-  return [bare(flags), child ? `child ${child}` : "", code ? `code ${code}` : ""].filter(Boolean).join(", ");
+  return [bareNames(flags), child ? `child ${child}` : "", code ? `code ${code}` : ""].filter(Boolean).join(", ");
 }
 
 /** A fact with its word, or "" if there is none. */
@@ -52,7 +53,7 @@ function processWords(row) {
     ["tracer", named("traced by", row.tracer)],
     ["parent", row.parent === 1 ? "" : `child of ${row.parent}`],
     ["continued", row.continued ? "continued, not reported yet" : ""],
-    ["events", named("events", bare(row.events ?? []))],
+    ["events", named("events", bareNames(row.events ?? []))],
     ["pending", named("pending", row.pending?.join(" "))],
     ["ignore", named("ignores", row.ignore?.join(" "))],
     ["catch", named("catches", row.catch?.join(" "))],

@@ -4,12 +4,12 @@ import { Card } from "./card.mjs";
 import { element, LETTER, tag } from "./dom.mjs";
 import { Failure } from "./failure.mjs";
 import { isError, isStop, matcher, nextMark } from "./find.mjs";
+import { sessionOf } from "./known.mjs";
 import { StepList } from "./list.mjs";
 import { StatePanel } from "./panel.mjs";
 import { Picture } from "./picture.mjs";
 import { Plan, RIGHT_ROOM } from "./plan.mjs";
 import { pair, readFile } from "./read.mjs";
-import { Session } from "./session.mjs";
 import { colourOf } from "./signs.mjs";
 import { histories } from "./state.mjs";
 
@@ -38,7 +38,7 @@ export class Page {
     this.failure = new Failure({ onStep: (index) => this.goToEntry(index) });
     this.histories = new Map(); // what each user sees, if the lines say it
     this.files = { replies: null, scenario: null };
-    /** @type {Session | null} */
+    /** @type {import("./session.mjs").Session | null} */
     this.session = null;
     this.step = 0; // the width of a step, 0 if none is chosen yet
     this.fits = false; // whether the whole session fits the window
@@ -64,7 +64,7 @@ export class Page {
   open(faults) {
     const { replies, scenario } = this.files;
     const entries = pair(replies.replies, scenario, faults);
-    this.session = new Session(entries, scenario?.killsTracees ?? true);
+    this.session = sessionOf(entries, scenario?.killsTracees ?? true);
     this.histories = histories(entries);
     this.panel.element.hidden = this.histories.size === 0;
     Object.assign(this, { step: 0, fits: false });
