@@ -3,6 +3,7 @@
 import { Hints } from "./lanes.mjs";
 import { LAST_PROCESS, RESUMES, SIGCONT, SIGKILL, signalName } from "./names.mjs";
 import { Session } from "./session.mjs";
+import { histories } from "./state.mjs";
 import { callText, statusText, stopText } from "./words.mjs";
 
 export class ConcludedSession extends Session {
@@ -15,6 +16,7 @@ export class ConcludedSession extends Session {
     this.killsTracees = killsTracees;
     this.forks = []; // followed forks without a reply that names the child
     this.hints = new Hints(entries);
+    this.histories = histories(entries);
     this.readAll();
     for (const lane of this.lanes) if (lane.kind === "lwp" && !lane.owner && lane.to === null) this.endUnowned(lane);
   }

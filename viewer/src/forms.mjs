@@ -6,7 +6,11 @@ export const isWhole = (value) => Number.isInteger(value);
 export const isWord = (value) => isWhole(value) && value >= 0 && value < 2 ** 32;
 export const isUser = (value) => isWhole(value) && value >= 1001 && value <= 1064;
 export const isSignal = (value) => SIGNALS.indexOf(value) > 0;
-export const isName = (value) => typeof value === "string" && /^[A-Za-z0-9_]{1,32}$/.test(value);
+/** @type {Set<unknown>} the names so far: there are few, in many lines */
+const names = new Set();
+const isNewName = (value) => typeof value === "string" && /^[A-Za-z0-9_]{1,32}$/.test(value)
+  && (names.size > 1000 || names.add(value).size > 0);
+export const isName = (value) => names.has(value) || isNewName(value);
 export const isObject = (value) => typeof value === "object" && value !== null && !Array.isArray(value);
 export const listOf = (check) => (value) => Array.isArray(value) && value.every(check);
 export const oneOf = (...values) => (value) => values.includes(value);
@@ -14,7 +18,10 @@ const maybe = (check) => (value) => value === undefined || check(value);
 
 /** The first member of the object that isn't of its form. */
 export function wrongMember(object, members) {
-  return Object.keys(members).find((name) => !members[name](Object.hasOwn(object, name) ? object[name] : undefined));
+  for (const name in members) {
+    if (!members[name](Object.hasOwn(object, name) ? object[name] : undefined)) return name;
+  }
+  return undefined;
 }
 
 const isSet = maybe(oneOf(true));

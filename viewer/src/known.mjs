@@ -3,7 +3,7 @@
 import { ConcludedSession } from "./concluded.mjs";
 import { endText } from "./facts.mjs";
 import { Session } from "./session.mjs";
-import { change, histories, noRows } from "./state.mjs";
+import { History } from "./state.mjs";
 import { bare, callText } from "./words.mjs";
 
 /** @typedef {import("./lanes.mjs").Entry} Entry */
@@ -19,16 +19,15 @@ export class KnownSession extends Session {
   /** @param {Entry[]} entries */
   constructor(entries) {
     super(entries);
-    /** @type {Map<number, import("./state.mjs").Rows>} what each user sees now */
-    this.rows = new Map();
     this.readAll();
     const last = entries.length - 1;
     for (const lane of this.lanes) if (lane.isZombie) lane.seenTo = last;
   }
 
+  /** What the user sees before this step. */
   rowsOf(user) {
-    if (!this.rows.has(user)) this.rows.set(user, noRows());
-    return this.rows.get(user);
+    if (!this.histories.has(user)) this.histories.set(user, new History(user));
+    return this.histories.get(user).last;
   }
 
   /** The lanes of new processes and LWPs. */
@@ -59,7 +58,7 @@ export class KnownSession extends Session {
     for (const row of lwps) this.lwpChanged(this.known("lwp", row.lwp), row);
     for (const row of processes) this.processChanged(this.known("process", row.pid), row, rows.processes.get(row.pid));
     for (const pid of gone) if (this.known("process", pid)) this.collected(this.known("process", pid));
-    change(rows, reply.rows);
+    this.histories.get(reply.user).add(this.entry);
   }
 
   processChanged(lane, row, before) {
@@ -112,15 +111,20 @@ export class KnownSession extends Session {
 /** The code of a call that has one; a row leaves out 0. */
 const codeOf = ({ call, argument }) => (call === "exit" || call === "other" ? argument ?? 0 : argument);
 
+/** Whether each line has rows, and none of a user's is missing. */
+function areKnown(entries) {
+  const counts = new Map();
+  return entries.length > 0 && entries.every(({ reply: { user, step, rows } }) => {
+    counts.set(user, (counts.get(user) ?? 0) + 1);
+    return rows !== undefined && step === counts.get(user);
+  });
+}
+
 /**
- * The session of these lines: by their rows if each line has some and none is missing.
+ * The session of these lines: by their rows, if they are known.
  *
  * @param {Entry[]} entries
  * @param {boolean} killsTracees  whether the end of a debugger kills what it traces, if the rows don't say
  */
-export function sessionOf(entries, killsTracees) {
-  const found = histories(entries);
-  const isKnown = found.size > 0 && [...found.values()].every(({ isBroken }) => !isBroken)
-    && entries.every(({ reply }) => !reply.refused);
-  return isKnown ? new KnownSession(entries) : new ConcludedSession(entries, killsTracees);
-}
+export const sessionOf = (entries, killsTracees) => (areKnown(entries) ? new KnownSession(entries)
+  : new ConcludedSession(entries, killsTracees));

@@ -11,7 +11,6 @@ import { Picture } from "./picture.mjs";
 import { Plan, RIGHT_ROOM } from "./plan.mjs";
 import { pair, readFile } from "./read.mjs";
 import { colourOf } from "./signs.mjs";
-import { histories } from "./state.mjs";
 
 const WIDEST = 160;
 const NARROWEST = 0.01;
@@ -36,7 +35,6 @@ export class Page {
     this.card = new Card(this.picture);
     this.panel = new StatePanel({ onProcess: (_user, pid, index) => this.goToProcess(pid, index) });
     this.failure = new Failure({ onStep: (index) => this.goToEntry(index) });
-    this.histories = new Map(); // what each user sees, if the lines say it
     this.files = { replies: null, scenario: null };
     /** @type {import("./session.mjs").Session | null} */
     this.session = null;
@@ -65,8 +63,7 @@ export class Page {
     const { replies, scenario } = this.files;
     const entries = pair(replies.replies, scenario, faults);
     this.session = sessionOf(entries, scenario?.killsTracees ?? true);
-    this.histories = histories(entries);
-    this.panel.element.hidden = this.histories.size === 0;
+    this.panel.element.hidden = this.session.histories.size === 0;
     Object.assign(this, { step: 0, fits: false });
     this.picture.current = null;
     this.list.current = null;
@@ -155,7 +152,7 @@ export class Page {
     if (!this.session || this.panel.element.hidden) return;
     const entry = this.picture.current?.entry ?? this.picture.plan.all.at(-1);
     const user = this.user ?? entry?.reply.user;
-    this.panel.show(this.histories.get(user), entry?.index ?? 0);
+    this.panel.show(this.session.histories.get(user), entry?.index ?? 0);
   }
 
   /** Divides the window between the picture and the list. */

@@ -68,9 +68,10 @@ function faultInTrace(reply) {
   if (reply.asked === undefined && reply.index === undefined && reply.rows === undefined) return undefined;
   if (!isWhole(reply.index) || reply.index < 1) return "no index of a step";
   if (!isObject(reply.asked)) return "no step";
-  const fault = faultOfStep(stepIn(reply));
+  const step = stepIn(reply);
+  const fault = faultOfStep(step);
   if (fault) return `in its step: ${fault}`;
-  if (!answers(stepIn(reply), reply)) return `its step can't be answered by "${reply.reply}"`;
+  if (!answers(step, reply)) return `its step can't be answered by "${reply.reply}"`;
   if (reply.rows === undefined) return undefined;
   const wrong = isObject(reply.rows) ? wrongMember(reply.rows, ROWS) : "rows";
   return wrong && `in its rows: "${wrong}" is of a wrong form`;
@@ -94,10 +95,13 @@ function faultOfReply(reply) {
 /** What is wrong with a step, or undefined. */
 function faultOfStep(step) {
   if (!isObject(step) || !isUser(step.user) || !ANSWERS.has(step.op)) return "no step";
-  const needed = [...NEEDED.get(step.op), ...(step.op === "turn" && NEEDED_BY_ACT.get(step.act) || [])];
-  const isWrong = (key) => (Object.hasOwn(step, key) ? !KEYS[key](step[key]) : needed.includes(key));
-  const wrong = Object.keys(KEYS).find(isWrong);
-  return wrong && `"${wrong}" is missing or of a wrong form`;
+  const needed = NEEDED.get(step.op);
+  const more = step.op === "turn" && NEEDED_BY_ACT.get(step.act) || [];
+  for (const key in KEYS) {
+    const isWrong = Object.hasOwn(step, key) ? !KEYS[key](step[key]) : needed.includes(key) || more.includes(key);
+    if (isWrong) return `"${key}" is missing or of a wrong form`;
+  }
+  return undefined;
 }
 
 export function parsed(text) {
@@ -112,7 +116,7 @@ const excerpt = (text) => (text.length > 160 ? text.slice(0, 160) + "…" : text
 
 /** The lines of a text, each as its number, text and value. */
 function linesOf(text) {
-  return text.replace(/\r?\n$/, "").split(/\r?\n/)
+  return text.replace(/\r?\n$/, "").split("\n").map((line) => (line.endsWith("\r") ? line.slice(0, -1) : line))
     .map((line, index) => ({ number: index + 1, text: line, value: parsed(line) }));
 }
 

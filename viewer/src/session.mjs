@@ -21,6 +21,8 @@ export class Session {
     this.current = { process: new Map(), lwp: new Map() }; // the lane of a number, as it is used now
     this.users = new Map();
     this.input = null;
+    /** @type {Map<number, import("./state.mjs").History>} what each user sees, if the lines say it */
+    this.histories = new Map();
   }
 
   /** Reads all steps. */
