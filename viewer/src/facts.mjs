@@ -14,6 +14,8 @@ import { bare } from "./words.mjs";
  */
 
 const WIDTH_OF_SIGNAL = 7; // bits of a wait status
+/** @type {{ignore?: string[], catch?: string[]}} of a process that has ended */
+const NO_DISPOSITIONS = {};
 const bareNames = (names) => names.map(bare).join(" ");
 
 /** What wait(2) means by the status of a process that has ended. */
@@ -47,6 +49,7 @@ const named = (word, text) => (text ? `${word} ${text}` : "");
 /** @returns {[string, string][]} keys with their words, which are "" for what isn't so */
 function processWords(row) {
   const isStop = row.state.endsWith("_stop");
+  const { ignore, catch: caught } = row.state === "zombie" ? NO_DISPOSITIONS : row;
   return [
     ["state", stateText(row)],
     ["reported", isStop ? row.reported ? "reported" : "not reported yet" : ""],
@@ -55,8 +58,8 @@ function processWords(row) {
     ["continued", row.continued ? "continued, not reported yet" : ""],
     ["events", named("events", bareNames(row.events ?? []))],
     ["pending", named("pending", row.pending?.join(" "))],
-    ["ignore", named("ignores", row.ignore?.join(" "))],
-    ["catch", named("catches", row.catch?.join(" "))],
+    ["ignore", named("ignores", ignore?.join(" "))],
+    ["catch", named("catches", caught?.join(" "))],
   ];
 }
 
