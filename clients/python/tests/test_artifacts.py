@@ -222,14 +222,17 @@ def test_two(tracehost):
     raise ValueError("<b>second</b>")
 """
     )
-    titles = []
+    shown = []
     for folder in folders(tmp_path):
         page = (folder / "session.html").read_text()
         data = page.split('id="embedded">', 1)[1].split("</script>", 1)[0]
-        titles.append(json.loads(html.unescape(data))["title"])
-    assert sorted(titles) == [
-        "test_suite.py::test_one: assert (1000,) == (1000, 1001)",
-        "test_suite.py::test_two: ValueError: <b>second</b>",
+        page_of = json.loads(html.unescape(data))
+        failure = page_of["failure"]
+        assert page_of["title"] == failure["test"]
+        shown.append((failure["test"], failure["message"].splitlines()[0], failure["step"]))
+    assert sorted(shown) == [
+        ("test_suite.py::test_one", "assert (1000,) == (1000, 1001)", 2),
+        ("test_suite.py::test_two", "ValueError: <b>second</b>", 1),
     ]
 
 

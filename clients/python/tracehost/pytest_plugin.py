@@ -35,7 +35,7 @@ _Hook = TypeVar("_Hook", bound=Callable[..., Generator[None, Any, None]])
 _wrapper: Callable[[_Hook], _Hook] = pytest.hookimpl(hookwrapper=True)  # untyped in some versions of pytest
 
 _MOST_OF_A_NAME = 80  # characters; the digest makes it the test's own
-_MOST_OF_A_TITLE = 300
+_MOST_OF_A_MESSAGE = 4000
 _artifacts = pytest.StashKey[Optional[Path]]()
 _sessions_of_item = pytest.StashKey["Sessions"]()
 _current: list[pytest.Item] = []
@@ -171,8 +171,8 @@ def pytest_runtest_makereport(item: pytest.Item, call: pytest.CallInfo[None]) ->
         if report.when == "call":
             sessions.clear(("html",))  # of an earlier attempt
         return
-    title = _title(item.nodeid, call)
-    kept = [_kept(scenario, title) for scenario in sessions.records()]
+    message = _message(call)
+    kept = [_kept(scenario, item.nodeid, message) for scenario in sessions.records()]
     if kept:
         report.sections.append(("tracehost", "\n".join(text for text, _ in kept)))
     for page in (page for _, page in kept if page is not None):
@@ -181,20 +181,20 @@ def pytest_runtest_makereport(item: pytest.Item, call: pytest.CallInfo[None]) ->
             report.user_properties.append(("tracehost_page", str(page)))
 
 
-def _title(nodeid: str, call: pytest.CallInfo[None]) -> str:
-    """The test, and the first line of its assertion or exception."""
-    said = str(call.excinfo.value).strip() if call.excinfo is not None else ""
-    kind = call.excinfo.typename if call.excinfo is not None else ""
-    first = said.splitlines()[0] if said else kind
-    title = f"{nodeid}: {first if kind == 'AssertionError' else f'{kind}: {first}'}"
-    return title if len(title) <= _MOST_OF_A_TITLE else title[:_MOST_OF_A_TITLE] + " .."
+def _message(call: pytest.CallInfo[None]) -> str:
+    """The assertion or the exception."""
+    if call.excinfo is None:
+        return ""
+    kind, said = call.excinfo.typename, str(call.excinfo.value).strip()
+    text = said if said and kind == "AssertionError" else f"{kind}: {said}".removesuffix(": ")
+    return text if len(text) <= _MOST_OF_A_MESSAGE else text[:_MOST_OF_A_MESSAGE] + " .."
 
 
-def _kept(scenario: Path, title: str) -> tuple[str, Optional[Path]]:
+def _kept(scenario: Path, test: str, message: str) -> tuple[str, Optional[Path]]:
     """Makes the page. Reports the files, and returns the page."""
     page: Optional[Path] = None
     try:
-        page = view(scenario, title=title)
+        page = view(scenario, title=test, failed=test, message=message)
         where = str(page)
     except (OSError, subprocess.CalledProcessError) as error:
         where = f"none ({error})"
