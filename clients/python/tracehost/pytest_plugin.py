@@ -6,8 +6,9 @@
   ``@given`` starts one for each example.
 - An assertion that compares replies shows statuses, signals and flags by name.
 - A test that fails, in a fixture too, leaves its scenario, its lines and its page in pytest's temporary folder, or in a
-  folder of its own below the one that ``--tracehost-artifacts`` names. The report says where, and JUnit's XML has the
-  page as the property ``tracehost_page``.
+  folder of its own below the one that ``--tracehost-artifacts``, or the environment's ``TRACEHOST_ARTIFACTS``, names.
+  The report says where, and JUnit's XML has the page as the property ``tracehost_page``. What can't be recorded, as on a
+  full disk, is told on standard error, and the test goes on.
 """
 
 from __future__ import annotations
@@ -62,8 +63,19 @@ class Sessions:
         if earlier is not None:
             earlier.stop_recording()
             self._earlier.add(earlier)
-        host = Host(record=self.folder / f"{name}.json", record_lines=self.folder / f"{name}.out", **settings)
+        host = self._recorded(name, settings)
         self._hosts[name] = weakref.ref(host)
+        return host
+
+    def _recorded(self, name: str, settings: dict[str, Any]) -> Host:
+        """A host that records; without a record if its files can't be made."""
+        try:
+            host = Host(record=self.folder / f"{name}.json", record_lines=self.folder / f"{name}.out", **settings)
+        except OSError as error:
+            host = Host(**settings)  # raises what isn't about the files
+            print(f"tracehost: not recorded: {error}", file=sys.stderr)
+        if host._recording is not None:
+            host._recording.ends_session = False
         return host
 
     def close(self) -> None:
@@ -84,12 +96,16 @@ class Sessions:
 
 def pytest_addoption(parser: pytest.Parser) -> None:
     group = parser.getgroup("tracehost")
-    group.addoption("--tracehost-artifacts", metavar="DIR", help="the folder for the sessions and pages of failed tests")
+    group.addoption(
+        "--tracehost-artifacts",
+        metavar="DIR",
+        help="the folder for the sessions and pages of failed tests; else $TRACEHOST_ARTIFACTS",
+    )
 
 
 def pytest_configure(config: pytest.Config) -> None:
     config.addinivalue_line("markers", "tracehost(**settings): settings of the Host that the fixture tracehost starts")
-    named: Optional[str] = config.getoption("--tracehost-artifacts")
+    named: Optional[str] = config.getoption("--tracehost-artifacts") or os.environ.get("TRACEHOST_ARTIFACTS") or None
     artifacts = None if named is None else Path(named).absolute()  # a test may change the folder that it runs in
     config.stash[_artifacts] = artifacts
     if artifacts is not None:  # so that a later job finds the same failing examples
