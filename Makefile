@@ -36,7 +36,8 @@ PAGES = tracehost.1 tracehost-view.1 tracehost-perfetto.1
 DATA = schema/scenario.schema.json viewer/src/* viewer/*.py
 DOCUMENTS = LICENSE README.md CHANGELOG.md SECURITY.md docs/*.* docs/internals/* examples/*
 # the client in C: tracehost_client.c includes the others
-CLIENT = tracehost_client.c internal.h calls.c in_process.c names.c pipe.c record.c session.c steps.c threads.c
+CLIENT = tracehost_client.c internal.h artifacts.c calls.c failing.c in_process.c names.c pipe.c record.c refusals.c rows.c \
+  session.c steps.c threads.c
 # C programs on the model: its Makefile, and where it installs. Relative names are those of this folder.
 staged = $(if $(filter /%,$(firstword $(DESTDIR)$(bindir))),$(DESTDIR),$(CURDIR)/$(DESTDIR))
 POSIX = -C clients/posix --no-print-directory DESTDIR='$(staged)' bindir='$(bindir)' libdir='$(libdir)' \
@@ -92,7 +93,7 @@ install-files:
 # the library of the present sources, from the folder that tools/library prints
 install-library:
 	$(INSTALL) -d "$(DESTDIR)$(includedir)" "$(DESTDIR)$(libpkgconfigdir)"
-	$(INSTALL_DATA) include/tracehost.h include/tracehost.hpp "$(DESTDIR)$(includedir)"
+	$(INSTALL_DATA) include/*.h include/*.hpp "$(DESTDIR)$(includedir)"
 	$(INSTALL_DATA) "$(library)/libtracehost.a" "$(DESTDIR)$(libdir)"
 	$(INSTALL_DATA) "$(library)/libtracehost.so" "$(DESTDIR)$(libdir)/$(SONAME)"
 	ln -sf $(SONAME) "$(DESTDIR)$(libdir)/libtracehost.so"

@@ -56,6 +56,14 @@ def wrong_member(value: Object, members: Mapping[str, Check]) -> Optional[str]:
     return next((name for name, check in members.items() if not check(value.get(name, _ABSENT))), None)
 
 
+def _maybe(check: Check) -> Check:
+    return lambda value: value is _ABSENT or check(value)
+
+
+def _rows_of(members: Mapping[str, Check]) -> Check:
+    return _maybe(list_of(lambda row: is_object(row) and wrong_member(row, members) is None))
+
+
 _FLAGS: dict[str, Check] = {"flags": list_of(is_name), "child": is_word, "code": is_word}
 _STATUS: dict[str, Check] = {"word": is_word}
 _SIGNAL: dict[str, Check] = {"signal": is_signal, "number": is_word}
@@ -91,6 +99,24 @@ REPLIES: dict[str, dict[str, Check]] = {
     "caught": _SIGNAL,
     "ended": _STATUS,
     "error": {"errno": is_name, "number": is_word},
+}  # fmt: skip
+_SET, _NUMBER = _maybe(one_of(True)), _maybe(is_word)
+_SIGNALS, _NAMES = _maybe(list_of(is_signal)), _maybe(list_of(is_name))
+_PROCESS: dict[str, Check] = {
+    "pid": is_word, "parent": is_word, "tracer": _NUMBER, "state": one_of("runs", "trace_stop", "job_stop", "zombie"),
+    "stop_signal": _maybe(is_signal), "reported": _SET, "stop_lwp": _NUMBER, "status": _NUMBER, "continued": _SET,
+    "events": _NAMES, "pending": _SIGNALS, "ignore": _SIGNALS, "catch": _SIGNALS,
+}  # fmt: skip
+_LWP: dict[str, Check] = {
+    "lwp": is_word, "pid": is_word, "mode": one_of("runs", "in_call", "waits_for_vfork"), "call": _maybe(is_name),
+    "argument": _NUMBER, "vfork_child": _NUMBER, "suspended": _SET, "stepping": _SET, "blocked": _SIGNALS,
+    "pending": _SIGNALS, "due": _maybe(one_of("born", "begun", "vfork_done")), "flags": _NAMES, "child": _NUMBER,
+    "code": _NUMBER,
+}  # fmt: skip
+# the members of what a step changed
+ROWS: dict[str, Check] = {
+    "processes": _rows_of(_PROCESS), "lwps": _rows_of(_LWP), "removed_processes": _maybe(list_of(is_word)),
+    "removed_lwps": _maybe(list_of(is_word)),
 }  # fmt: skip
 # the members of a status; one of them says what its word means
 _MEANINGS: dict[str, Check] = {"exited": is_word, "signaled": is_signal, "stopped": is_signal, "continued": one_of(True)}
@@ -159,7 +185,7 @@ def fault_of_reply(reply: Any) -> Optional[str]:
 
 
 def _fault_in_trace(reply: Object) -> Optional[str]:
-    if "asked" not in reply and "index" not in reply:
+    if not {"asked", "index", "rows"} & set(reply):
         return None
     if not is_whole(reply.get("index")) or reply["index"] < 1:
         return "no index of a step"
@@ -169,7 +195,12 @@ def _fault_in_trace(reply: Object) -> Optional[str]:
     fault = fault_of_step(step)
     if fault is not None:
         return f"in its step: {fault}"
-    return None if can_answer(step, reply) else f'its step can\'t be answered by "{reply["reply"]}"'
+    if not can_answer(step, reply):
+        return f'its step can\'t be answered by "{reply["reply"]}"'
+    if "rows" not in reply:
+        return None
+    wrong = wrong_member(reply["rows"], ROWS) if is_object(reply["rows"]) else "rows"
+    return f'in its rows: "{wrong}" is of a wrong form' if wrong else None
 
 
 def step_in(reply: Object) -> Object:

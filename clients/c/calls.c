@@ -20,9 +20,11 @@ static int call_done(th_host *h, const struct thp_step *step)
     return thp_call(h, step, KIND(DONE), &reply, NULL);
 }
 
-static int invalid(void)
+/* The client itself refuses an argument. */
+static int invalid(const th_host *h, int error)
 {
-    errno = EINVAL;
+    thp_note_refusal(h, NULL, 0);
+    errno = error;
     return -1;
 }
 
@@ -52,8 +54,14 @@ static int set_event_mask(th_host *h, struct thp_step *step, int mask)
 {
     if (mask & ~thp_all_of(&thp_events)) {
         /* bits without a name: the model is asked for what it refuses first, and EINVAL comes last */
+        struct thp_step asked = *step;
+        asked.data = (unsigned)mask;
         step->request = TH_PT_GET_EVENT_MASK;
-        return get_event_mask(h, step, &mask) == 0 ? invalid() : -1;
+        if (get_event_mask(h, step, &mask) != 0)
+            return -1;
+        thp_note_refusal(h, &asked, EINVAL);
+        errno = EINVAL;
+        return -1;
     }
     step->data = (unsigned)mask;
     return call_done(h, step);
@@ -91,10 +99,8 @@ int th_ptrace(th_host *h, th_caller caller, int request, th_pid pid, void *addr,
     struct thp_step step = step_of(THP_PTRACE, caller);
     struct thp_reply reply;
     int error = bad_arguments(request, addr, data);
-    if (error != 0) {
-        errno = error;
-        return -1;
-    }
+    if (error != 0)
+        return invalid(h, error);
     step.request = request;
     step.target = request == TH_PT_TRACE_ME ? 0 : pid;
     switch (request) {
@@ -116,7 +122,7 @@ static th_pid wait4_call(th_host *h, th_caller caller, th_pid wpid, int *status,
     struct thp_reply reply;
     unsigned kinds = KIND(NOTHING) | KIND(STATUS);
     if (options & ~thp_all_of(&thp_options))
-        return invalid();
+        return invalid(h, EINVAL);
     step.target = wpid;
     step.options = options;
     if (thp_call(h, &step, kinds, &reply, options & TH_WNOHANG ? NULL : timeout) != 0)
@@ -148,7 +154,7 @@ int th_sigaction(th_host *h, th_caller caller, int sig, enum th_action action)
 {
     struct thp_step step = step_of(THP_SIGACTION, caller);
     if (thp_name_of(&thp_actions, (int)action) == NULL)
-        return invalid();
+        return invalid(h, EINVAL);
     step.signal = sig;
     step.action = (int)action;
     return call_done(h, &step);
@@ -170,7 +176,7 @@ int th_install(th_host *h, th_caller caller, const struct th_rule *rules, size_t
     struct thp_step step = step_of(THP_INSTALL, caller);
     for (size_t i = 0; i < count; i++)
         if (thp_name_of(&thp_decisions, (int)rules[i].decision) == NULL || rules[i].flags & ~thp_all_of(&thp_stop_flags))
-            return invalid();
+            return invalid(h, EINVAL);
     step.rules = rules;
     step.rule_count = count;
     return call_done(h, &step);
@@ -257,7 +263,7 @@ int th_turn_enter(th_host *h, unsigned user, th_lwpid lwp, enum th_call call, un
 {
     struct thp_step step = {.op = THP_TURN, .user = user, .lwp = lwp, .act = THP_ENTER, .call = (int)call, .data = code};
     if (thp_name_of(&thp_calls, (int)call) == NULL)
-        return invalid();
+        return invalid(h, EINVAL);
     return turn(h, &step, turned);
 }
 

@@ -186,7 +186,8 @@ static int library_end(th_host *h)
 
 th_host *th_open(const struct th_settings *settings)
 {
-    static const struct thp_transport in_process = {library_make, library_exchange, NULL, NULL, library_end, 0};
+    static const struct thp_transport in_process = {
+        library_make, library_exchange, NULL, thp_first_that_holds, NULL, library_end, 0};
     static const tracehost closed = TRACEHOST_CLOSED;
     th_host *h = thp_new(&in_process, settings);
     if (h == NULL)

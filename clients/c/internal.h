@@ -9,6 +9,8 @@
 #include <stdint.h>
 #include <sys/types.h>
 
+#define COUNT(array) (sizeof(array) / sizeof((array)[0]))
+
 /* ---- names and numbers: names.c */
 
 struct thp_name {
@@ -27,11 +29,15 @@ extern const struct thp_table thp_requests, thp_events, thp_stop_flags, thp_opti
 const char *thp_name_of(const struct thp_table *table, int value);
 /* the value of the `length` bytes at `word`; -1 for none */
 int thp_value_of(const struct thp_table *table, const char *word, size_t length);
+/* Appends to a text with room for `size` bytes, and adds to its length; what doesn't fit is cut. */
+void thp_append(char *text, size_t size, size_t *length, const char *more);
 /* all values together */
 int thp_all_of(const struct thp_table *table);
 /* the host system's number of the model's errno with this name, or with FreeBSD's number; 0 for none */
 int thp_errno_of(const char *word, size_t length);
 int thp_errno_numbered(unsigned freebsd);
+/* the name of the model's errno; NULL for another one */
+const char *thp_error_name(int error);
 
 /* ---- a step and its reply */
 
@@ -86,6 +92,38 @@ struct thp_reply {
     size_t count; /* of a list */
 };
 
+/* ---- why a step was refused: refusals.c, and rows.c by the user's rows */
+
+/* tools/format conditions */
+/* clang-format off */
+enum thp_condition {
+    THP_CALLER_GONE, THP_CALLER_IN_TRACE_STOP, THP_CALLER_IN_JOB_STOP, THP_NO_NUMBER_OF_LWP, THP_LWP_GONE,
+    THP_LWP_IN_TRACE_STOP, THP_LWP_IN_JOB_STOP, THP_LWP_SUSPENDED, THP_LWP_WAITS, THP_NO_GROUPS, THP_NO_CHILD,
+    THP_NO_CHILD_OF_NUMBER, THP_NO_SIGNAL_TO_POST, THP_NO_OTHER_PROCESS, THP_PROCESS_GONE, THP_NO_SIGNAL,
+    THP_FIXED_SIGNAL, THP_MOST_HANDLERS, THP_IN_NO_CALL, THP_IN_A_CALL, THP_NO_SIGNAL_TO_RAISE, THP_MOST_PROCESSES,
+    THP_MOST_LWPS, THP_NO_MEMORY, THP_CALLER_TRACED, THP_PARENT_IS_1, THP_TRACES_ITS_PARENT, THP_TARGET_IS_0,
+    THP_TARGET_PROCESS_GONE, THP_TARGET_LWP_GONE, THP_TARGET_ENDED, THP_TRACES_ITSELF, THP_TRACED_ALREADY,
+    THP_TRACES_THE_CALLER, THP_NOT_TRACED, THP_TRACED_BY_ANOTHER, THP_IN_NO_STOP, THP_STOP_NOT_TOLD,
+    THP_NO_SIGNAL_TO_PASS, THP_NO_COUNT, THP_UNNAMED_EVENTS
+};
+/* clang-format on */
+/* end */
+
+/* What a step asks, as format/refusals.toml names it; the fields that its op doesn't have are 0, and `which` is -1. */
+struct thp_asked {
+    int64_t user, caller, target, which, lwp, signal, data, request, act, action, unnamed;
+};
+
+/*
+ * Stores in `text`, of at least one byte, why the step was answered so: by an errno of the host system, or TH_EHELD. Unless the
+ * rows are those of the refusal, each condition that is possible is named.
+ */
+void thp_explain(th_host *h, const struct thp_step *step, int error, int has_rows, char *text, size_t size);
+/* Keeps for th_explain that the calling thread's step was refused by an errno; 0 for a call that the model didn't refuse. */
+void thp_note_refusal(const th_host *h, const struct thp_step *step, int error);
+/* The place of the first of so many conditions that holds by the rows of a session in the process; -1 if none is known to. */
+int thp_first_that_holds(th_host *h, const struct thp_asked *asked, const enum thp_condition *conditions, size_t count);
+
 /* ---- the session: session.c */
 
 /* bytes that grow */
@@ -109,6 +147,8 @@ struct thp_transport {
     int (*exchange)(th_host *h);
     /* Stores why the last step was refused, at most size - 1 bytes and a NUL. NULL if that isn't known. */
     void (*read_reason)(th_host *h, char *reason, size_t size);
+    /* thp_first_that_holds; NULL if rows aren't known */
+    int (*first_that_holds)(th_host *h, const struct thp_asked *asked, const enum thp_condition *conditions, size_t count);
     /* Nothing more is exchanged. May be NULL. */
     void (*stop)(th_host *h);
     /* Ends the session, also one that has stopped; the program's status. */
@@ -133,12 +173,14 @@ struct th_host {
     struct thp_text answer; /* the line that was received, with a NUL in place of its line feed */
     int kills; /* the setting of kern.kill_on_debugger_exit */
     int answered; /* a step was answered */
+    unsigned long changes; /* steps that may have changed rows */
     int scenario, lines; /* the files of th_record; -1 for none */
     size_t steps; /* recorded in them */
     off_t recorded; /* bytes of the scenario before the brackets that close it */
     off_t lines_end; /* bytes of the lines */
     int record_error; /* why a step can't be recorded; 0 while all are */
     struct thp_text entry; /* what is added to the scenario */
+    struct thp_test *test; /* NULL for none */
 };
 
 /* A session that is not connected yet, and its end; NULL with errno. */
@@ -165,6 +207,31 @@ int thp_ask(th_host *h, const struct thp_step *step, unsigned kinds, struct thp_
 /* Adds the step and its answer to the files of th_record; -1 with errno. */
 int thp_record(th_host *h, const struct thp_reply *reply);
 void thp_close_record(th_host *h);
+
+/* Begins a record in files that are empty; -1 with errno, and the session isn't recorded. */
+int thp_begin_record(th_host *h, int scenario, int lines);
+
+/* ---- tests: failing.c, and their files: artifacts.c */
+
+enum { THP_PATH = 4096, THP_PAGE_WORDS = 10 };
+
+struct thp_artifacts {
+    char folder[THP_PATH], scenario[THP_PATH], lines[THP_PATH], page[THP_PATH];
+    int is_own_folder; /* of this test only */
+};
+
+/* Makes the files of a test of this name, and opens two of them; -1 with errno. */
+int thp_open_artifacts(struct thp_artifacts *a, const char *test, int *scenario, int *lines);
+void thp_remove_artifacts(const struct thp_artifacts *a);
+/* The command that makes the page, which the other arguments are for. */
+void thp_page_command(
+    const char *argv[THP_PAGE_WORDS], const struct thp_artifacts *a, const char *test, const char *message, const char *step);
+/* Makes the page of a test that failed after so many steps; -1 if there is none, and standard error says why. */
+int thp_make_page(const struct thp_artifacts *a, const char *test, const char *message, size_t step);
+/* A step of a test can't be recorded, which is told. */
+void thp_tell_lost_record(const th_host *h, int error);
+/* The session of a test that hasn't ended is closed. */
+void thp_end_test(th_host *h);
 
 /* ---- several threads: threads.c */
 

@@ -6,8 +6,6 @@
 #include <stdio.h>
 #include <string.h>
 
-#define COUNT(array) (sizeof(array) / sizeof((array)[0]))
-
 /* tools/format names */
 static const struct thp_name REQUESTS[] = {
     {"PT_TRACE_ME", TH_PT_TRACE_ME},
@@ -137,8 +135,7 @@ const char *th_strerror(int error)
     }
 }
 
-/* Appends to a text; `size` bytes of it are kept, the last one a NUL. */
-static void append(char *text, size_t size, size_t *length, const char *more)
+void thp_append(char *text, size_t size, size_t *length, const char *more)
 {
     size_t added = strlen(more);
     if (*length + 1 < size) {
@@ -158,16 +155,16 @@ static int join_names(const struct thp_table *table, int flags, char *text, size
         text[0] = '\0';
     for (size_t i = 0; i < table->count; i++)
         if (flags & table->names[i].value) {
-            append(text, size, &length, length > 0 ? "+" : "");
-            append(text, size, &length, table->names[i].name);
+            thp_append(text, size, &length, length > 0 ? "+" : "");
+            thp_append(text, size, &length, table->names[i].name);
         }
     if (unnamed != 0) {
         snprintf(digits, sizeof digits, "0x%x", (unsigned)unnamed);
-        append(text, size, &length, length > 0 ? "+" : "");
-        append(text, size, &length, digits);
+        thp_append(text, size, &length, length > 0 ? "+" : "");
+        thp_append(text, size, &length, digits);
     }
     if (flags == 0)
-        append(text, size, &length, "none");
+        thp_append(text, size, &length, "none");
     return (int)length;
 }
 
@@ -210,6 +207,14 @@ int thp_errno_numbered(unsigned freebsd)
         if ((unsigned)ERRORS[i].freebsd == freebsd)
             return ERRORS[i].host;
     return 0;
+}
+
+const char *thp_error_name(int error)
+{
+    for (size_t i = 0; i < COUNT(ERRORS); i++)
+        if (ERRORS[i].host == error)
+            return ERRORS[i].name;
+    return NULL;
 }
 
 int thp_errno_of(const char *word, size_t length)

@@ -200,7 +200,7 @@ static void pipe_reason(th_host *h, char *reason, size_t size)
 
 th_host *th_start(const char *program, const struct th_settings *settings)
 {
-    static const struct thp_transport over_pipe = {thp_make_by_line, pipe_exchange, pipe_reason, pipe_stop, pipe_end, 1};
+    static const struct thp_transport over_pipe = {thp_make_by_line, pipe_exchange, pipe_reason, NULL, pipe_stop, pipe_end, 1};
     th_host *h = thp_new(&over_pipe, settings);
     if (h == NULL)
         return NULL;

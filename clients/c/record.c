@@ -61,9 +61,14 @@ static int add_entry(th_host *h, const char *between, const char *bytes, size_t 
 
 static int open_new(const char *path) { return open(path, O_WRONLY | O_CREAT | O_TRUNC | O_CLOEXEC, 0666); }
 
-static int open_record(th_host *h, const char *scenario, const char *lines)
+static int add_head(th_host *h)
 {
     const char *head = h->kills ? "{\"kill_on_debugger_exit\":1,\"steps\":[" : "{\"kill_on_debugger_exit\":0,\"steps\":[";
+    return add_entry(h, "", head, strlen(head));
+}
+
+static int open_record(th_host *h, const char *scenario, const char *lines)
+{
     if (h->answered || h->scenario >= 0) {
         errno = EBUSY;
         return -1;
@@ -71,11 +76,21 @@ static int open_record(th_host *h, const char *scenario, const char *lines)
     h->scenario = open_new(scenario);
     if (h->scenario >= 0 && lines != NULL)
         h->lines = open_new(lines);
-    if (h->scenario >= 0 && (lines == NULL || h->lines >= 0) && add_entry(h, "", head, strlen(head)) == 0)
+    if (h->scenario >= 0 && (lines == NULL || h->lines >= 0) && add_head(h) == 0)
         return 0;
     int error = errno;
     thp_close_record(h);
     errno = error;
+    return -1;
+}
+
+int thp_begin_record(th_host *h, int scenario, int lines)
+{
+    h->scenario = scenario;
+    h->lines = lines;
+    if (add_head(h) == 0)
+        return 0;
+    h->scenario = -1;
     return -1;
 }
 
@@ -105,6 +120,20 @@ static int add_line(th_host *h)
     return result;
 }
 
+/* A step can't be written. A test goes on without a record; another session has ended. */
+static int lose_record(th_host *h, int error)
+{
+    h->record_error = error;
+    if (h->test != NULL) {
+        thp_tell_lost_record(h, error);
+        h->scenario = -1;
+        return 0;
+    }
+    thp_break_off(h);
+    errno = TH_ERECORD;
+    return -1;
+}
+
 /* The line comes first: a program that is killed between both has one line too many, and no step without a line. */
 int thp_record(th_host *h, const struct thp_reply *reply)
 {
@@ -119,12 +148,8 @@ int thp_record(th_host *h, const struct thp_reply *reply)
             errno = error;
         }
     }
-    if (result != 0) {
-        h->record_error = errno;
-        thp_break_off(h);
-        errno = TH_ERECORD;
-        return -1;
-    }
+    if (result != 0)
+        return lose_record(h, errno);
     h->steps++;
     if (h->lines >= 0)
         h->lines_end += (off_t)h->answer.length;

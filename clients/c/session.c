@@ -16,6 +16,10 @@ static __thread
     struct {
     unsigned long session;
     char fault[32], reason[1024];
+    struct thp_step step; /* what was answered by an errno, or held */
+    int error; /* which; 0 for none */
+    unsigned long changes; /* of the session, when it was refused */
+    char words[512];
 } refusal;
 
 const char *th_fault(const th_host *h) { return refusal.session == h->session ? refusal.fault : ""; }
@@ -106,6 +110,7 @@ int th_close(th_host *h)
 {
     if (h == NULL)
         return 0;
+    thp_end_test(h);
     int status = h->transport->end(h);
     thp_free(h);
     return status;
@@ -148,18 +153,49 @@ static int changes_nothing(enum thp_kind kind)
     return kind == THP_REFUSED || kind == THP_ERROR || kind == THP_HELD || kind == THP_NOTHING;
 }
 
-/* What an answer does beside its reply. */
-static int note_answer(th_host *h, const struct thp_reply *reply)
+void thp_note_refusal(const th_host *h, const struct thp_step *step, int error)
 {
-    h->answered = 1;
     refusal.session = h->session;
     refusal.fault[0] = refusal.reason[0] = '\0';
+    refusal.error = error;
+    refusal.changes = h->changes;
+    if (error != 0)
+        refusal.step = *step;
+}
+
+const char *th_explain(th_host *h)
+{
+    int error = errno;
+    if (refusal.session != h->session)
+        return "";
+    if (refusal.error == 0)
+        return refusal.reason[0] != '\0' ? refusal.reason : refusal.fault;
+    thp_enter(h);
+    thp_explain(h, &refusal.step, refusal.error, refusal.changes == h->changes, refusal.words, sizeof refusal.words);
+    thp_leave(h);
+    errno = error;
+    return refusal.words;
+}
+
+/* the errno that a reply of the model is; 0 for none */
+static int error_of(const struct thp_reply *reply)
+{
+    return reply->kind == THP_HELD ? TH_EHELD : reply->kind == THP_ERROR ? reply->error : 0;
+}
+
+/* What an answer does beside its reply. */
+static int note_answer(th_host *h, const struct thp_step *step, const struct thp_reply *reply)
+{
+    h->answered = 1;
+    thp_note_refusal(h, step, error_of(reply));
     if (reply->kind == THP_REFUSED)
         note_fault(h);
     if (reply->kind == THP_REFUSED && h->transport->read_reason != NULL)
         note_reason(h);
-    if (!changes_nothing(reply->kind))
+    if (!changes_nothing(reply->kind)) {
+        h->changes++;
         thp_wake(h);
+    }
     return thp_record(h, reply);
 }
 
@@ -177,14 +213,14 @@ int thp_ask(th_host *h, const struct thp_step *step, unsigned kinds, struct thp_
         errno = thp_is_foreign(h) ? TH_EFORKED : EPIPE;
         return -1;
     }
-    if (h->transport->make(h, step, reply) != 0 || note_answer(h, reply) != 0)
+    if (h->transport->make(h, step, reply) != 0 || note_answer(h, step, reply) != 0)
         return -1;
     if (kinds >> reply->kind & 1)
         return 0;
     switch (reply->kind) {
     case THP_REFUSED: errno = TH_EREFUSED; return -1;
-    case THP_HELD: errno = TH_EHELD; return -1;
-    case THP_ERROR: errno = reply->error; return -1;
+    case THP_HELD:
+    case THP_ERROR: errno = error_of(reply); return -1;
     default: return thp_no_reply(h);
     }
 }

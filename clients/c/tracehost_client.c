@@ -3,9 +3,13 @@
 #include "threads.c"
 #include "steps.c"
 #include "record.c"
+#include "artifacts.c"
+#include "failing.c"
+#include "refusals.c"
 #include "session.c"
 #include "pipe.c"
 #ifdef TRACEHOST_IN_PROCESS
+#include "rows.c"
 #include "in_process.c"
 #endif
 #include "calls.c"

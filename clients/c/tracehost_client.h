@@ -227,6 +227,18 @@ const char *th_fault(const th_host *h);
 const char *th_reason(const th_host *h);
 
 /*
+ * Why the calling thread's last call was refused, in words: by an errno of the model or TH_EHELD the call, the errno and the
+ * condition that held,
+ *
+ *     ptrace(PT_CONTINUE, 1001) by 1000: EBUSY, no wait has reported the stop of 1001
+ *
+ * and by TH_EREFUSED th_reason. "" if the call was answered, or if what refused it isn't the model. The rows that decide are looked
+ * at now: after another thread's step that may have changed them, and over a pipe, each condition that is possible is named. The text
+ * stays until the thread's next call.
+ */
+const char *th_explain(th_host *h);
+
+/*
  * Records the session from its beginning: all steps that were answered as a scenario, and their lines in a second file, unless
  * `lines` is NULL. Both are whole after each step, also if the test ends by abort(3). `tracehost SCENARIO --expect LINES`
  * then makes the session again. EBUSY after the first step.
@@ -238,6 +250,26 @@ int th_record(th_host *h, const char *scenario, const char *lines);
 
 /* The errno of the file after TH_ERECORD, ENOSPC as an example; 0 before. */
 int th_record_error(const th_host *h);
+
+/*
+ * A test, before the first step of its session, -1 with EBUSY after it. If the test fails it leaves NAME.json, a scenario with the
+ * steps, NAME.out, their lines, and NAME.html, a page ($TRACEHOST names the program that it is made by, else tracehost, and
+ * $TRACEHOST_VIEW the viewer, else tracehost-view). They are in the folder that $TRACEHOST_ARTIFACTS names, else in a new one below
+ * $TMPDIR, and standard error says where. A name that is in use gets a number. A test that passes leaves nothing, and so does a
+ * forked child. What can't be recorded is told on standard error, and changes neither a call nor the test.
+ *
+ * By abort(3) and assert(3) a test has failed too, unless the program handles SIGABRT itself.
+ */
+int th_test_begin(th_host *h, const char *name);
+
+/* The test has failed, with this message and th_explain: it is printed, and the first one and its step are on the page. */
+void th_test_fail(th_host *h, const char *file, int line, const char *message);
+
+/* 1 if the condition is true. Else 0, and the test has failed; it goes on. */
+#define TH_EXPECT(h, condition) ((condition) ? 1 : (th_test_fail((h), __FILE__, __LINE__, #condition), 0))
+
+/* Ends the test, before th_close. Returns 0 if it `passed`, and nothing else has failed; else 1. */
+int th_test_end(th_host *h, int passed);
 
 /*
  * Sends a line as it is (a step as in docs/FORMAT.md, without a line feed), and stores the line of its answer, without

@@ -5,7 +5,7 @@ import { existsSync, mkdtempSync, readdirSync, readFileSync, rmSync, writeFileSy
 import { tmpdir } from "node:os";
 import { basename, join } from "node:path";
 import { pair, readFile } from "../../viewer/src/read.mjs";
-import { Session } from "../../viewer/src/session.mjs";
+import { sessionOf } from "../../viewer/src/known.mjs";
 
 /** The program under test; the random scenarios are in the folder. */
 const { PROGRAM, RUNS } = process.env;
@@ -29,7 +29,7 @@ function read(path) {
   const entries = pair(files[0].replies, files[1], faults);
   const replies = lines.trimEnd().split("\n").map((line) => JSON.parse(line));
   return { steps: scenario.steps, replies, entries, faults: [...faults, ...files.flatMap((file) => file.faults)],
-    session: new Session(entries, files[1].killsTracees) };
+    session: sessionOf(entries, files[1].killsTracees) };
 }
 
 /** What the viewer reads from a trace alone: its entries, its session, and what it reports. */
@@ -37,7 +37,7 @@ function readTrace(path, ...options) {
   const faults = [];
   const file = readFile({ name: "trace", text: linesOf(path, "--json=trace", ...options) });
   const entries = pair(file.replies, null, faults);
-  return { entries, session: new Session(entries, jsonOf(path).kill_on_debugger_exit !== 0),
+  return { entries, session: sessionOf(entries, jsonOf(path).kill_on_debugger_exit !== 0),
     faults: [...faults, ...file.faults] };
 }
 

@@ -28,10 +28,12 @@ class Way(NamedTuple):
 
 
 WAYS = {
-    "pipe": Way([*FLAGS, *sanitized()], [], {"test": ["1"], "threads": ["100"]}),
-    "races": Way(["-std=c11", "-g", "-pthread", *RACES], [], {"test": ["10"], "threads": ["10"]}),
-    "valgrind": Way(["-std=c11", "-g", "-pthread", "-O1"], VALGRIND, {"test": ["100", "emulated"], "threads": ["10"]}),
-    "in process": Way([*FLAGS, *sanitized(), *IN_PROCESS], [], {"test": ["1"], "threads": ["100"]}, in_process=True),
+    "pipe": Way([*FLAGS, *sanitized()], [], {"test": ["1"], "threads": ["100"], "explain": []}),
+    "races": Way(["-std=c11", "-g", "-pthread", *RACES], [], {"test": ["10"], "threads": ["10"], "explain": []}),
+    "valgrind": Way(
+        ["-std=c11", "-g", "-pthread", "-O1"], VALGRIND, {"test": ["100", "emulated"], "threads": ["10"], "explain": []}
+    ),
+    "in process": Way([*FLAGS, *sanitized(), *IN_PROCESS], [], {"test": ["1"], "threads": ["100"], "explain": []}, in_process=True),
 }
 # the scenarios without options and without a fault
 FILES = [file for file in accepted_files() if not any((TOP / file).with_suffix(end).exists() for end in (".err", ".args"))]

@@ -30,7 +30,7 @@ def test_it_compiles_without_a_warning(programs: Programs, way: str, name: str) 
 @pytest.mark.parametrize("source", sorted(path.stem for path in CLIENT.glob("*.c")))
 def test_each_source_in_c99(source: str, tmp_path: Path) -> None:
     """Without a warning of conversions, too."""
-    inside = IN_PROCESS if source == "in_process" else []
+    inside = IN_PROCESS if source in ("in_process", "rows") else []
     compiled(tmp_path / "c99.o", "-std=c99", *STRICT, *inside, "-c", CLIENT / f"{source}.c")
 
 
@@ -39,7 +39,7 @@ def test_the_sanitizers_are_there() -> None:
         pytest.skip("cc has no sanitizers, so the client in C runs without them")
 
 
-@pytest.mark.parametrize("name", ["test", "threads"])
+@pytest.mark.parametrize("name", ["test", "threads", "explain"])
 @pytest.mark.parametrize("way", WAYS)
 def test_the_client_in_c(programs: Programs, program: Path, tmp_path: Path, way: str, name: str) -> None:
     how = WAYS[way]

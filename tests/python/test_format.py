@@ -1,4 +1,4 @@
-"""The tables of names and keys are those of format/scenario.toml: `tools/format check` finds no file that is older.
+"""The tables are those of format/scenario.toml and format/refusals.toml: `tools/format check` finds no file that is older.
 
 In a copy of the sources, each of its files is older once the tables that it has are changed, and none is after `tools/format
 write`.
@@ -18,6 +18,7 @@ import pytest
 
 from checking import TOP, run
 
+TABLES = ("format/scenario.toml", "format/refusals.toml")
 COPIED = (
     "format tools crates schema include clients/c clients/posix/tracehost_posix clients/python clients/rust/src viewer"
     " docs/FORMAT.md man"
@@ -25,6 +26,8 @@ COPIED = (
 CLIENTS = (
     "clients/c/names.c clients/c/tracehost_client.h clients/python/tracehost/names.py clients/rust/src/steps.rs include/tracehost.h"
 )
+NOT_IN_C = "clients/python/tracehost/conditions.py clients/rust/src/refusals.rs include/tracehost_explain.hpp"
+REFUSALS = f"clients/c/refusals.c {NOT_IN_C}"
 MANUAL = "clients/python/tracehost/manual.py"
 SCHEMA = "schema/scenario.schema.json"
 EXPLAINED = "crates/*/src/tables.rt"
@@ -54,7 +57,8 @@ CHANGES = [
         "another name of a request",
         "PT_ATTACH",
         "PT_SEIZE",
-        f"{EXPLAINED} {SCHEMA} {CLIENTS} {MANUAL} docs/FORMAT.md man/tracehost.1",
+        f"{EXPLAINED} {SCHEMA} {CLIENTS} {MANUAL} docs/FORMAT.md man/tracehost.1 clients/rust/src/refusals.rs"
+        " include/tracehost_explain.hpp",
     ),
     Change(
         "another name of an op",
@@ -66,7 +70,7 @@ CHANGES = [
         "another number of a request",
         "^number = 10$",
         "number = 12",
-        CLIENTS,
+        f"{CLIENTS} {REFUSALS}",
     ),
     Change(
         "another name of a call",
@@ -82,6 +86,8 @@ CHANGES = [
         f"{EXPLAINED} {SCHEMA} {VIEWER}",
     ),
     Change("another help", '^help = "Counts the LWPs', 'help = "Counts LWPs', f"{MANUAL} clients/rust/src/steps.rs"),
+    Change("other words of a refusal", "^words = .*traced already", 'words = "{target} is traced', REFUSALS),
+    Change("another condition", "^holds = .not is_live.caller..", 'holds = "is_live(caller)"', f"clients/c/rows.c {NOT_IN_C}"),
     Change("another effect", '^effect = "lists the user.s processes.*', 'effect = "lists them"', "docs/FORMAT.md"),
 ]
 
@@ -103,14 +109,17 @@ def sources(tmp_path_factory: pytest.TempPathFactory) -> Path:
 def copy(sources: Path) -> Iterator[Path]:
     """The copy, whose tables a test may change."""
     yield sources
-    shutil.copy2(TOP / "format/scenario.toml", sources / "format/scenario.toml")
+    for table in TABLES:
+        shutil.copy2(TOP / table, sources / table)
 
 
 def change(copy: Path, old: str, new: str) -> None:
-    tables = copy / "format/scenario.toml"
-    text, count = re.subn(old, new.replace("\\", r"\\"), tables.read_text(), flags=re.MULTILINE)
-    assert count
-    tables.write_text(text)
+    changed = 0
+    for table in TABLES:
+        text, count = re.subn(old, new.replace("\\", r"\\"), (copy / table).read_text(), flags=re.MULTILINE)
+        (copy / table).write_text(text)
+        changed += count
+    assert changed
 
 
 def defined(file: str, definition: str) -> dict[str, str]:

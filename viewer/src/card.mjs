@@ -66,7 +66,8 @@ export class Card {
     const { offsetWidth, offsetHeight } = card;
     const below = box.bottom + 16;
     const top = below + offsetHeight <= innerHeight - 6 ? below : box.top - offsetHeight - 16;
-    card.style.left = `${Math.max(4, Math.min(box.left + 16, innerWidth - offsetWidth - 8))}px`;
+    const { right } = element("run").getBoundingClientRect();
+    card.style.left = `${Math.max(4, Math.min(box.left + 16, right - offsetWidth - 8))}px`;
     card.style.top = `${Math.max(4, top)}px`;
   }
 }

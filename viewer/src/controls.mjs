@@ -45,7 +45,7 @@ export function listenToButtons(page) {
   const buttons = {
     wider: () => page.zoom(page.step * ZOOM), narrower: () => page.zoom(page.step / ZOOM), fit: () => page.fit(),
     others: () => page.toggleOthers(), held: () => page.toggleHidden("held"), errors: () => page.toggleHidden("error"),
-    listed: () => page.toggleList(), save: () => page.session && save(page),
+    listed: () => page.toggleList(), stated: () => page.toggleState(), save: () => page.session && save(page),
     "next-stop": ({ shiftKey }) => page.session && page.goToNext("stop", shiftKey ? -1 : 1),
     "next-error": ({ shiftKey }) => page.session && page.goToNext("error", shiftKey ? -1 : 1),
   };
@@ -164,7 +164,9 @@ export function listenToKeys(page) {
     "-": () => page.zoom(page.step / ZOOM), 0: () => page.fit(),
     s: () => page.goToNext("stop", 1), S: () => page.goToNext("stop", -1),
     e: () => page.goToNext("error", 1), E: () => page.goToNext("error", -1),
-    n: () => page.goToFound(1), N: () => page.goToFound(-1), l: () => page.toggleList(), v: () => page.toggleOthers(),
+    n: () => page.goToFound(1), N: () => page.goToFound(-1), l: () => page.toggleList(), t: () => page.toggleState(),
+    f: () => page.failure.at !== null && page.goToEntry(page.failure.at),
+    v: () => page.toggleOthers(),
     "/": () => element("find").select(), g: () => element("number").select(), Escape: () => page.card.close(),
   };
   addEventListener("keydown", (event) => {

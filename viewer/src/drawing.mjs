@@ -25,10 +25,12 @@ export class Drawing {
   /**
    * @param {import("./plan.mjs").Plan} plan
    * @param {Part} part
+   * @param {number | null} failedAt  the index of the entry that a test failed after
    */
-  constructor(plan, part) {
+  constructor(plan, part, failedAt = null) {
     this.plan = plan;
     this.part = part;
+    this.failedAt = failedAt;
     const [first, last] = columnsBetween(plan, part);
     this.first = Math.max(0, first - 1);
     this.last = Math.min(plan.columns - 1, last + 1);
@@ -65,7 +67,8 @@ export class Drawing {
     const { plan } = this;
     return [...this.columnsEvery(this.every(), true)].map((column) => {
       const number = String(plan.numberOf[plan.entries[column].index]);
-      const text = shape("text", { x: Math.max(plan.x(column), number.length * LETTER / 2 + 2), y: 16 });
+      const isFailed = plan.entries[column].index === this.failedAt;
+      const text = shape("text", { ...(isFailed ? { class: "failed" } : {}), x: Math.max(plan.x(column), number.length * LETTER / 2 + 2), y: 16 });
       text.textContent = number;
       return text;
     });
@@ -85,8 +88,17 @@ export class Drawing {
       const x = plan.x(column);
       shapes.push(shape("line", { class: "gridline", x1: x, x2: x, y1: part.top, y2: part.bottom }));
     }
+    if (this.failedAt !== null && this.failedAt < plan.columnOf.length) shapes.push(...this.failed());
     shapes.push(shape("rect", { class: "column", id: "column", x: 0, y: 0, width: 0, height: plan.height }));
     return shapes;
+  }
+
+  /** The column of the step that a test failed after. */
+  failed() {
+    const { plan, part } = this;
+    const width = Math.max(3, plan.step);
+    const x = plan.at(this.failedAt);
+    return [shape("rect", { class: "failed", x: x - width / 2, y: part.top, width, height: part.bottom - part.top })];
   }
 
   // ---- lanes

@@ -53,6 +53,7 @@ export class Lane {
     this.waiting = null; // the wait of an LWP for the child of its vfork
     this.maker = null; // the LWP whose fork or vfork made a process
     this.exiting = false;
+    this.isZombie = false;
     /** @type {Mark[]} by the plan */
     this.seen = [];
   }

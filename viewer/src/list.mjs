@@ -19,6 +19,7 @@ export class StepList {
     this.plan = null;
     /** @type {Mark | null} */
     this.current = null;
+    this.failedAt = null; // the index of the entry that a test failed after
     this.found = new Set(); // the marks that a search has found
     this.drawn = ""; // the rows that are made
     this.element.addEventListener("scroll", () => this.refresh());
@@ -57,7 +58,8 @@ export class StepList {
     const { entry } = mark;
     const { reply, asked } = entry;
     const cell = (className, text) => tag("span", { className, textContent: text, title: text });
-    const row = tag("div", { className: `row ${mark.kind}${this.found.has(mark) ? " found" : ""}` },
+    const more = `${this.found.has(mark) ? " found" : ""}${entry.index === this.failedAt ? " failed" : ""}`;
+    const row = tag("div", { className: `row ${mark.kind}${more}` },
       cell("number", this.plan.numberOf[entry.index]), cell("user", reply.user ? `${reply.user} ${reply.step}` : ""),
       this.who(whoText(mark)), cell("asked", asked ? action(asked) + objectText(asked) : ""),
       cell("reply", plainText(reply)), cell("meaning", meaning(reply)));

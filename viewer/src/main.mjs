@@ -19,6 +19,7 @@ const embedded = parsed(element("embedded").textContent);
 if (embedded) {
   document.title = `${embedded.title} - tracehost timeline`;
   document.querySelector("h1").textContent = embedded.title;
+  page.failure.show(embedded.failure);
   page.take(embedded.files);
 }
 document.body.dataset.milliseconds = String(Math.round(performance.now() - began));

@@ -2,12 +2,14 @@
 
 import { Card } from "./card.mjs";
 import { element, LETTER, tag } from "./dom.mjs";
+import { Failure } from "./failure.mjs";
 import { isError, isStop, matcher, nextMark } from "./find.mjs";
+import { sessionOf } from "./known.mjs";
 import { StepList } from "./list.mjs";
+import { StatePanel } from "./panel.mjs";
 import { Picture } from "./picture.mjs";
 import { Plan, RIGHT_ROOM } from "./plan.mjs";
 import { pair, readFile } from "./read.mjs";
-import { Session } from "./session.mjs";
 import { colourOf } from "./signs.mjs";
 
 const WIDEST = 160;
@@ -31,8 +33,10 @@ export class Page {
     this.picture = new Picture({ drawsAll, onUser: (user) => this.choose("user", user), onMark });
     this.list = new StepList({ onMark });
     this.card = new Card(this.picture);
+    this.panel = new StatePanel({ onProcess: (_user, pid, index) => this.goToProcess(pid, index) });
+    this.failure = new Failure({ onStep: (index) => this.goToEntry(index) });
     this.files = { replies: null, scenario: null };
-    /** @type {Session | null} */
+    /** @type {import("./session.mjs").Session | null} */
     this.session = null;
     this.step = 0; // the width of a step, 0 if none is chosen yet
     this.fits = false; // whether the whole session fits the window
@@ -57,7 +61,9 @@ export class Page {
 
   open(faults) {
     const { replies, scenario } = this.files;
-    this.session = new Session(pair(replies.replies, scenario, faults), scenario?.killsTracees ?? true);
+    const entries = pair(replies.replies, scenario, faults);
+    this.session = sessionOf(entries, scenario?.killsTracees ?? true);
+    this.panel.element.hidden = this.session.histories.size === 0;
     Object.assign(this, { step: 0, fits: false });
     this.picture.current = null;
     this.list.current = null;
@@ -99,10 +105,11 @@ export class Page {
     location.hash = wanted.toString().replaceAll("%2C", ",");
   }
 
-  /** Goes to the step that the address names. */
+  /** Goes to the step that the address names, else to that of the failure. */
   goToAddress() {
     const number = this.address().get("step");
     if (number !== null) this.goToStep(number);
+    else if (this.failure.at !== null) this.goToEntry(this.failure.at);
   }
 
   /** The address gets the current step once no other one has been chosen for a moment. */
@@ -129,19 +136,29 @@ export class Page {
     this.step = between(NARROWEST, this.step, Math.max(WIDEST, this.step));
     const plan = new Plan(session, { user, step: this.step, hidden, room: picture.room, letter: LETTER });
     this.divide(plan);
+    picture.failedAt = this.list.failedAt = this.failure.at;
     picture.show(plan);
     this.list.show(plan);
     this.find(this.query);
     this.showUsers(user);
     this.showChoices(hidden);
     this.showCounts();
+    this.showState();
     this.card.again(plan);
+  }
+
+  /** Shows what the chosen user, or that of the current step, sees after that step; without one, after the last. */
+  showState() {
+    if (!this.session || this.panel.element.hidden) return;
+    const entry = this.picture.current?.entry ?? this.picture.plan.all.at(-1);
+    const user = this.user ?? entry?.reply.user;
+    this.panel.show(this.session.histories.get(user), entry?.index ?? 0);
   }
 
   /** Divides the window between the picture and the list. */
   divide(plan) {
     const { scroller } = this.picture;
-    const room = innerHeight - element("header").offsetHeight - element("faults").offsetHeight;
+    const room = element("run").clientHeight;
     const wanted = plan.height + 60;
     const isListed = !this.list.element.hidden;
     scroller.style.flex = isListed ? `0 0 ${Math.min(wanted, room * MOST_OF_WINDOW)}px` : "1";
@@ -185,6 +202,11 @@ export class Page {
     this.list.select(this.list.current);
   }
 
+  toggleState() {
+    this.panel.element.hidden = !this.panel.element.hidden;
+    if (this.session) this.show();
+  }
+
   /** Shows the steps with these replies, or leaves them out. */
   toggleHidden(reply) {
     const { hidden } = this;
@@ -199,7 +221,23 @@ export class Page {
     this.picture.go(mark);
     this.list.select(mark);
     this.card.keep(mark);
+    this.showState();
     this.remember(mark);
+  }
+
+  /** Goes to the mark of a process, or of its LWPs, that is nearest to an entry, from there to the left. */
+  goToProcess(pid, index) {
+    const { plan } = this.picture;
+    const isOf = (mark) => mark.lane.number === pid && mark.lane.kind === "process" || mark.lane.owner?.number === pid;
+    const mark = plan.steps.findLast((one) => one.at <= index && isOf(one));
+    if (mark) this.go(mark);
+  }
+
+  /** Goes to the step of an entry, counted over all users' steps from 0. */
+  goToEntry(index) {
+    const mark = this.picture.plan?.steps.find(({ entry }) => entry.index === index);
+    if (mark) this.go(mark);
+    else this.say(`step ${index + 1} is left out`);
   }
 
   goToStep(text) {
@@ -281,6 +319,7 @@ export class Page {
     element("others").setAttribute("aria-pressed", this.picture.hidesOthers);
     element("fit").setAttribute("aria-pressed", this.fits);
     element("listed").setAttribute("aria-pressed", !this.list.element.hidden);
+    element("stated").setAttribute("aria-pressed", !this.panel.element.hidden);
   }
 
   showCounts() {

@@ -28,6 +28,7 @@ export class Picture {
     this.onMark = onMark;
     this.hidesOthers = false; // whether lanes without anything in the window are left out
     this.plan = null;
+    this.failedAt = null; // the index of the entry that a test failed after
     /** @type {Mark | null} */
     this.current = null;
     this.drawn = null; // the part that is drawn
@@ -107,7 +108,7 @@ export class Picture {
   }
 
   draw(part) {
-    this.drawing = new Drawing(this.plan, part);
+    this.drawing = new Drawing(this.plan, part, this.failedAt);
     this.extra = null;
     element("axis").replaceChildren(...this.drawing.ticks());
     element("names").replaceChildren(...this.drawing.lanes.map((lane) => this.laneName(lane)));

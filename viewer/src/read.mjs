@@ -1,15 +1,6 @@
 /** Reading of files: lines of `--json`, scenarios, and which step each line answers. */
 
-import { SIGNALS } from "./names.mjs";
-
-const isWhole = (value) => Number.isInteger(value);
-const isWord = (value) => isWhole(value) && value >= 0 && value < 2 ** 32;
-const isUser = (value) => isWhole(value) && value >= 1001 && value <= 1064;
-const isSignal = (value) => SIGNALS.indexOf(value) > 0;
-const isName = (value) => typeof value === "string" && /^[A-Za-z0-9_]{1,32}$/.test(value);
-const isObject = (value) => typeof value === "object" && value !== null && !Array.isArray(value);
-const listOf = (check) => (value) => Array.isArray(value) && value.every(check);
-const oneOf = (...values) => (value) => values.includes(value);
+import { isName, isObject, isSignal, isUser, isWhole, isWord, listOf, oneOf, ROWS, wrongMember } from "./forms.mjs";
 
 const FLAGS = { flags: listOf(isName), child: isWord, code: isWord };
 const STATUS = { word: isWord };
@@ -65,11 +56,6 @@ const KEYS = {
   set: listOf(isWord), rules: listOf(isObject),
 };
 
-/** The first member of the object that isn't of its form. */
-function wrongMember(object, members) {
-  return Object.keys(members).find((name) => !members[name](Object.hasOwn(object, name) ? object[name] : undefined));
-}
-
 /** The step in a line of a trace, as a scenario has it. */
 const stepIn = (reply) => ({ user: reply.user, ...reply.asked });
 
@@ -79,12 +65,16 @@ const answers = (step, reply) => step.user === reply.user
 
 /** What is wrong with the step in a line of a trace, or undefined; a line with only replies has none. */
 function faultInTrace(reply) {
-  if (reply.asked === undefined && reply.index === undefined) return undefined;
+  if (reply.asked === undefined && reply.index === undefined && reply.rows === undefined) return undefined;
   if (!isWhole(reply.index) || reply.index < 1) return "no index of a step";
   if (!isObject(reply.asked)) return "no step";
-  const fault = faultOfStep(stepIn(reply));
+  const step = stepIn(reply);
+  const fault = faultOfStep(step);
   if (fault) return `in its step: ${fault}`;
-  return answers(stepIn(reply), reply) ? undefined : `its step can't be answered by "${reply.reply}"`;
+  if (!answers(step, reply)) return `its step can't be answered by "${reply.reply}"`;
+  if (reply.rows === undefined) return undefined;
+  const wrong = isObject(reply.rows) ? wrongMember(reply.rows, ROWS) : "rows";
+  return wrong && `in its rows: "${wrong}" is of a wrong form`;
 }
 
 /** What is wrong with a reply, or undefined. */
@@ -105,10 +95,13 @@ function faultOfReply(reply) {
 /** What is wrong with a step, or undefined. */
 function faultOfStep(step) {
   if (!isObject(step) || !isUser(step.user) || !ANSWERS.has(step.op)) return "no step";
-  const needed = [...NEEDED.get(step.op), ...(step.op === "turn" && NEEDED_BY_ACT.get(step.act) || [])];
-  const isWrong = (key) => (Object.hasOwn(step, key) ? !KEYS[key](step[key]) : needed.includes(key));
-  const wrong = Object.keys(KEYS).find(isWrong);
-  return wrong && `"${wrong}" is missing or of a wrong form`;
+  const needed = NEEDED.get(step.op);
+  const more = step.op === "turn" && NEEDED_BY_ACT.get(step.act) || [];
+  for (const key in KEYS) {
+    const isWrong = Object.hasOwn(step, key) ? !KEYS[key](step[key]) : needed.includes(key) || more.includes(key);
+    if (isWrong) return `"${key}" is missing or of a wrong form`;
+  }
+  return undefined;
 }
 
 export function parsed(text) {
@@ -123,7 +116,7 @@ const excerpt = (text) => (text.length > 160 ? text.slice(0, 160) + "…" : text
 
 /** The lines of a text, each as its number, text and value. */
 function linesOf(text) {
-  return text.replace(/\r?\n$/, "").split(/\r?\n/)
+  return text.replace(/\r?\n$/, "").split("\n").map((line) => (line.endsWith("\r") ? line.slice(0, -1) : line))
     .map((line, index) => ({ number: index + 1, text: line, value: parsed(line) }));
 }
 

@@ -1,30 +1,66 @@
-/** The session: what the steps of a run do by their replies. */
+/** The session: what the steps of a run ask and their replies say, as marks on lanes, with links between them. */
 
-import { Hints, Lane } from "./lanes.mjs";
-import { LAST_PROCESS, RESUMES, SIGCONT, SIGKILL, signalName } from "./names.mjs";
+import { Lane } from "./lanes.mjs";
+import { LAST_PROCESS, RESUMES, signalName } from "./names.mjs";
 import { action, callText, decisionText, objectText, statusText, stopText } from "./words.mjs";
 
-/** Lanes, marks, links and spans of tracing: what the steps of a run ask and its replies say. */
+/** @typedef {import("./lanes.mjs").Entry} Entry */
+
+/**
+ * Lanes, marks, links and spans of tracing. How long processes, stops and calls last is for its subclasses to say: by
+ * what the lines tell of the rows (known.mjs), or by what follows from the replies (concluded.mjs).
+ */
 export class Session {
-  constructor(entries, killsTracees) {
+  /** @param {Entry[]} entries */
+  constructor(entries) {
     this.entries = entries;
-    this.killsTracees = killsTracees;
     this.lanes = [];
     this.marks = [];
     this.links = [];
     this.spans = [];
     this.current = { process: new Map(), lwp: new Map() }; // the lane of a number, as it is used now
     this.users = new Map();
-    this.forks = []; // followed forks without a reply that names the child
     this.input = null;
-    this.hints = new Hints(entries);
-    for (const entry of entries) {
+    /** @type {Map<number, import("./state.mjs").History>} what each user sees, if the lines say it */
+    this.histories = new Map();
+  }
+
+  /** Reads all steps. */
+  readAll() {
+    for (const entry of this.entries) {
       this.now = entry.index;
       this.entry = entry;
-      this.read(entry);
+      if (entry.reply.refused) this.mark("refused", this.inputLane(), entry.reply.refused);
+      else {
+        this.prepare(entry);
+        const home = this.home(entry);
+        this.place(home, entry);
+        this.follow(entry, home);
+      }
     }
     for (const lane of this.lanes) lane.marks.sort((one, other) => one.at - other.at);
-    for (const lane of this.lanes) if (lane.kind === "lwp" && !lane.owner && lane.to === null) this.endUnowned(lane);
+  }
+
+  /**
+   * What has to be there before the step's mark is made: lanes of what it has made.
+   *
+   * @param {Entry} _entry
+   */
+  prepare(_entry) {}
+
+  /**
+   * What begins and ends with the step.
+   *
+   * @param {Entry} _entry
+   * @param {Lane} _home
+   */
+  follow(_entry, _home) {}
+
+  /** The lane of the caller or the LWP that makes the step, or of the user if neither is known. */
+  home({ asked }) {
+    if (!asked || asked.op === "spawn") return this.user();
+    const lane = asked.op === "turn" ? this.known("lwp", asked.lwp) : this.known("process", asked.caller);
+    return lane ?? this.user();
   }
 
   // ---- marks, links, lanes
@@ -70,8 +106,6 @@ export class Session {
   }
 
   addProcess(pid, from) {
-    const before = this.current.process.get(pid);
-    if (before && before.to === null) this.end(before, from, true);
     const lane = this.add(new Lane("process", pid, this.entry.reply.user, from));
     this.current.process.set(pid, lane);
     this.user().live.add(lane);
@@ -88,29 +122,17 @@ export class Session {
     return lane;
   }
 
-  /** The lane of a process that a step or a reply names; a process without a `new` is first seen here. */
+  /** The lane of a process that a step or a reply names; one that nothing before it names is first seen here. */
   process(pid) {
     const lane = this.known("process", pid);
     if (lane) return lane;
-    const forks = this.forks.filter((fork) => fork.lane.user === this.entry.reply.user);
-    if (forks.length === 1) return this.followed(pid, forks[0]);
     const seen = this.addProcess(pid, this.now);
     this.echo("seen", seen, "first seen");
     return seen;
   }
 
-  /** The lane of an LWP. Its process is the one of later replies, else the only one without a known LWP. */
   lwp(number) {
-    const lane = this.known("lwp", number);
-    if (lane) return lane;
-    const pid = this.hints.owner(number, this.now);
-    const owner = pid === undefined ? this.onlyWithoutLwp() : this.process(pid);
-    return this.addLwp(number, owner, owner && owner.lwps.length === 0 ? owner.from : this.now);
-  }
-
-  onlyWithoutLwp() {
-    const lanes = [...this.user().live].filter((lane) => lane.lwps.length === 0);
-    return lanes.length === 1 ? lanes[0] : null;
+    return this.known("lwp", number) ?? this.addLwp(number, null, this.now);
   }
 
   /** The process that a request's target means. */
@@ -119,7 +141,12 @@ export class Session {
     return number <= LAST_PROCESS ? this.process(number) : this.lwp(number).owner;
   }
 
-  // ---- lives, stops, tracing
+  /** The processes that a kill(2) of a caller means. */
+  targets(caller, which) {
+    return which === -1 ? [...this.user().live].filter((lane) => lane !== caller) : [this.process(which)];
+  }
+
+  // ---- stretches: stops, tracing, calls, suspensions, waits after vfork
 
   openStop(process, lwp, label, at = this.now) {
     this.closeStop(process, at);
@@ -142,10 +169,15 @@ export class Session {
 
   untrace(tracee, at = this.now) {
     if (tracee.span) tracee.span.to = at;
-    for (const lwp of tracee.lwps) this.unsuspend(lwp, at);
     tracee.tracer?.tracees.delete(tracee);
     tracee.span = null;
     tracee.tracer = null;
+  }
+
+  suspend(lwp) {
+    if (lwp.suspended) return;
+    lwp.suspended = { kind: "suspended", from: this.now, to: null };
+    lwp.bands.push(lwp.suspended);
   }
 
   unsuspend(lwp, at = this.now) {
@@ -153,70 +185,10 @@ export class Session {
     lwp.suspended = null;
   }
 
-  /** The process goes on, with the signal or with 0. */
-  resume(process, signal) {
-    this.closeStop(process);
-    process.passed = signal ? { signal, at: this.now } : null;
-    for (const lwp of process.lwps) if (lwp.exiting && lwp.to === null) this.endLwp(lwp, this.now);
-  }
-
-  endLwp(lwp, at) {
-    lwp.to = at;
-    this.unsuspend(lwp, at);
-    this.endWaiting(lwp, at);
-    this.endCall(lwp, at);
-  }
-
-  /** An LWP whose process isn't known: nothing shows its end, so its lane ends with its last mark. */
-  endUnowned(lwp) {
-    if (lwp.marks.length) this.endLwp(lwp, lwp.marks.at(-1).at);
-  }
-
-  /** The end of a process, with what follows for those that it traces. */
-  end(process, at, concluded) {
-    Object.assign(process, { to: at, seenTo: at, concluded });
-    this.user(process.user).live.delete(process);
-    this.closeStop(process, at);
-    this.untrace(process, at);
-    this.release(process, at);
-    for (const lwp of process.lwps) if (lwp.to === null) this.endLwp(lwp, at);
-    for (const tracee of process.tracees) {
-      if (this.killsTracees) this.gone(tracee, at, "killed with its debugger");
-      this.closeStop(tracee, at);
-      this.untrace(tracee, at);
-    }
-  }
-
-  /** An end without `ended`. */
-  gone(process, at, label) {
-    if (process.to !== null) return;
-    this.echo("gone", process, label, at);
-    this.end(process, at, true);
-  }
-
-  /** The process makes a step: a concluded end didn't happen, and the last signal passed on didn't end it. */
-  lives(process) {
-    process.passed = null;
-    if (!process.concluded) return;
-    const isGone = (mark) => mark.kind === "gone" && mark.lane === process && mark.at === process.to;
-    this.marks = this.marks.filter((mark) => !isGone(mark));
-    process.marks = process.marks.filter((mark) => !isGone(mark));
-    for (const lwp of process.lwps) if (lwp.to === process.to) lwp.to = null;
-    Object.assign(process, { to: null, seenTo: null, concluded: false });
-    this.user(process.user).live.add(process);
-  }
-
-  /** The child of a followed fork, which is traced and in its first stop from the fork on. */
-  followed(pid, { lane, at, tracer }) {
-    this.forks = this.forks.filter((fork) => fork.lane !== lane || fork.at !== at);
-    const child = this.addProcess(pid, at);
-    Object.assign(child, { parent: lane.owner, maker: lane });
-    if (lane.waiting) lane.waiting.child ??= child;
-    this.echo("followed", child, `child of ${lane.owner?.number ?? lane.name}`, at);
-    this.link("birth", lane, child, at);
-    if (tracer) this.trace(tracer, child, at);
-    this.openStop(child, null, "SIGSTOP SCX CHILD", at);
-    return child;
+  openCall(lwp, name) {
+    this.endCall(lwp);
+    lwp.call = { kind: "call", from: this.now, to: null, name };
+    lwp.bands.push(lwp.call);
   }
 
   endCall(lwp, at = this.now) {
@@ -235,242 +207,107 @@ export class Session {
     lwp.waiting = null;
   }
 
-  /** The child has done an exec, or has ended. */
-  release(child, at = this.now) {
-    if (child.maker?.waiting?.child === child) this.endWaiting(child.maker, at);
+  endLwp(lwp, at = this.now) {
+    lwp.to = at;
+    this.unsuspend(lwp, at);
+    this.endWaiting(lwp, at);
+    this.endCall(lwp, at);
   }
 
-  // ---- steps with their replies
+  // ---- marks of steps with their replies
 
-  read({ reply, asked }) {
-    if (reply.refused) return this.mark("refused", this.inputLane(), reply.refused);
-    const home = this.home(reply, asked);
+  place(home, { reply, asked }) {
     if (reply.reply === "error") return this.mark("error", home, `${action(asked)} ${reply.errno}`.trim());
     if (reply.reply === "held") return this.mark("held", home, "held");
-    if (!asked) return this.readReply(reply, home);
+    if (!asked) return this.placeReply(home, reply);
     switch (asked.op) {
-      case "spawn": return this.created(null);
-      case "turn": return this.turn(home, reply, asked);
-      case "ptrace": return this.ptrace(home, reply, asked);
-      case "wait4": case "handle": return this.wait(home, reply);
-      case "kill": return this.kill(home, asked);
-      default:
-        if (reply.reply === "pids") this.listed(reply.pids);
-        return this.mark("request", home, action(asked) + (asked.op === "sigaction" ? objectText(asked) : ""));
+      case "spawn": return this.placeBirth(null);
+      case "turn": return this.placeTurn(home, reply, asked);
+      case "ptrace": return this.placeRequest(home, reply, asked);
+      case "wait4": case "handle": return this.placeWait(home, reply);
+      case "kill": return this.placeKill(home, asked);
+      default: return this.mark("request", home, action(asked) + (asked.op === "sigaction" ? objectText(asked) : ""));
     }
-  }
-
-  /** The lane of the caller or the LWP that makes the step, or of the user if neither is known. */
-  home(reply, asked) {
-    if (!asked || asked.op === "spawn") return this.user();
-    const [kind, number] = asked.op === "turn" ? ["lwp", asked.lwp] : ["process", asked.caller];
-    if (reply.reply === "error" && reply.errno === "ESRCH") return this.absent(kind, number);
-    const lane = this[kind](number);
-    this.lives(lane.owner ?? lane);
-    return lane;
-  }
-
-  /** The lane that ESRCH is about: of a turn its LWP, of a call its caller or target; else the user's. */
-  absent(kind, number) {
-    const lane = this.known(kind, number);
-    if (kind === "lwp" && lane?.to === null) {
-      const { passed } = lane.owner ?? lane;
-      if (passed) this.gone(lane.owner, passed.at, `ended by ${signalName(passed.signal)}`);
-      else this.endLwp(lane, this.now);
-    }
-    return lane ?? this.user();
   }
 
   /** A reply without its step: it is drawn where its own numbers say. */
-  readReply(reply, home) {
+  placeReply(home, reply) {
     switch (reply.reply) {
-      case "new": return this.created(null);
-      case "stopped": return this.stopped(this.lwp(reply.lwp), reply);
-      case "status": case "handled": return this.wait(this.process(reply.pid), reply);
+      case "new": return this.placeBirth(null);
+      case "stopped": return this.placeStop(this.lwp(reply.lwp), reply, null);
+      case "status": case "handled": return this.placeWait(this.process(reply.pid), reply);
       case "info": return this.mark("request", this.lwp(reply.lwp), "info");
       case "ended": return this.mark("end", home, statusText(reply));
       case "caught": return this.mark("caught", home, reply.signal);
       case "nothing": return this.mark("nothing", home, "nothing");
       case "ok": return this.mark("ok", home, "");
-      default:
-        if (reply.reply === "pids") this.listed(reply.pids);
-        return this.mark("request", home, reply.reply);
+      default: return this.mark("request", home, reply.reply);
     }
   }
 
   /** A new process, or a new LWP of a process; the maker is the LWP whose call made it, if that is known. */
-  created(maker) {
+  placeBirth(maker) {
     const { pid, lwp } = this.entry.reply;
-    const process = this.known("process", pid);
-    const isThread = maker ? maker.owner === process && process : !this.entry.asked && process?.to === null;
-    if (isThread) {
-      const lane = this.addLwp(lwp, process, this.now);
+    const [process, lane] = [this.process(pid), this.lwp(lwp)];
+    if (process.lwps[0] !== lane) {
       this.link("birth", maker, lane);
       return this.mark("lwp-birth", lane, "thr_new");
     }
-    const lane = this.addProcess(pid, this.now);
-    Object.assign(lane, { parent: maker?.owner ?? null, maker });
-    this.addLwp(lwp, lane, this.now);
-    if (maker?.call?.name === "vfork") this.waitForChild(maker, lane);
-    this.link("birth", maker, lane);
+    this.link("birth", maker, process);
     const origin = maker && `${maker.call?.name ?? "child"} of ${maker.owner?.number ?? maker.name}`;
-    return this.mark("birth", lane, origin ?? (this.entry.asked ? "spawn" : "new"));
+    return this.mark("birth", process, origin ?? (this.entry.asked ? "spawn" : "new"));
   }
 
-  turn(lwp, reply, asked) {
-    this.endWaiting(lwp);
+  placeTurn(lwp, reply, asked) {
     switch (reply.reply) {
-      case "stopped": return this.stopped(lwp, reply, asked);
+      case "stopped": return this.placeStop(lwp, reply, asked);
       case "caught": return this.mark("caught", lwp, reply.signal);
-      case "ended": {
-        if (lwp.owner) this.end(lwp.owner, this.now, false);
-        else this.endLwp(lwp, this.now);
-        return this.mark("end", lwp.owner ?? lwp, statusText(reply));
-      }
-      case "new":
-        this.created(lwp);
-        return this.endCall(lwp);
-      default: return this.acted(lwp, asked);
+      case "ended": return this.mark("end", lwp.owner ?? lwp, statusText(reply));
+      case "new": return this.placeBirth(lwp);
+      default: return this.placeAct(lwp, asked);
     }
   }
 
-  acted(lwp, asked) {
+  placeAct(lwp, asked) {
     switch (asked.act) {
       case "raise": return this.mark("post", lwp, signalName(asked.signal));
-      case "enter":
-        this.enter(lwp, asked);
-        return this.mark("call", lwp, callText(asked));
-      case "leave": {
-        const label = lwp.call ? `leave ${lwp.call.name}` : "leave";
-        this.leave(lwp, "ok");
-        return this.mark("leave", lwp, label);
-      }
+      case "enter": return this.mark("call", lwp, callText(asked));
+      case "leave": return this.mark("leave", lwp, lwp.call ? `leave ${lwp.call.name}` : "leave");
       default: return this.mark("run", lwp, asked.act === "block" ? `block${objectText(asked)}` : "");
     }
   }
 
-  enter(lwp, asked) {
-    this.endCall(lwp);
-    lwp.call = { kind: "call", from: this.now, to: null, name: callText(asked) };
-    lwp.bands.push(lwp.call);
+  placeStop(lwp, reply, asked) {
+    const call = asked?.act === "enter" ? callText(asked) : lwp.call?.name;
+    const isEntry = call && reply.flags.includes("PL_FLAG_SCE");
+    return this.mark("stop", lwp, isEntry ? `${stopText(reply)} ${call}` : stopText(reply));
   }
 
-  /** The call has done its work. */
-  leave(lwp, answer) {
-    const name = lwp.call?.name;
-    this.endCall(lwp);
-    if (name === "vfork") this.waitForChild(lwp, null);
-    if (name === "exec" && lwp.owner) {
-      for (const other of lwp.owner.lwps) if (other !== lwp && other.to === null) this.endLwp(other, this.now);
-      this.release(lwp.owner);
-    }
-    if (name === "thr_exit" && answer === "ok") this.endLwp(lwp, this.now);
-  }
-
-  stopped(lwp, reply, asked = null) {
-    const has = (flag) => reply.flags.includes("PL_FLAG_" + flag);
-    if (asked?.act === "enter" && has("SCE")) this.enter(lwp, asked);
-    if (asked?.act === "leave" && (has("SCX") || has("EXITED"))) this.leave(lwp, "stopped");
-    if (has("EXITED")) lwp.exiting = true;
-    this.mark("stop", lwp, has("SCE") && lwp.call ? `${stopText(reply)} ${lwp.call.name}` : stopText(reply));
-    if (lwp.owner) this.openStop(lwp.owner, lwp, stopText(reply));
-    if (!has("FORKED")) return;
-    const fork = { lane: lwp, at: this.now, tracer: lwp.owner?.tracer ?? null };
-    const child = this.hints.child(lwp.number, this.now);
-    if (child === undefined) this.forks.push(fork);
-    else this.followed(child, fork);
-  }
-
-  wait(home, reply) {
+  placeWait(home, reply) {
     if (reply.reply === "nothing") return this.mark("nothing", home, "nothing");
-    const process = this.process(reply.pid);
-    const text = `${reply.pid} ${statusText(reply)}`;
-    this.link("reported", process, home);
-    this.reported(process, reply);
-    if (reply.reply === "status") return this.mark("wait", home, text);
-    this.mark("handled", home, `${reply.pid} ${stopText(reply.at)}: ${decisionText(reply)}`);
-    this.lwp(reply.at.lwp);
-    if (reply.decision === "kill") this.gone(process, this.now, "SIGKILL");
-    if (["continue", "detach"].includes(reply.decision)) this.resume(process, reply.pass?.number);
-    if (reply.decision === "detach") this.untrace(process);
+    this.link("reported", this.process(reply.pid), home);
+    if (reply.reply === "status") return this.mark("wait", home, `${reply.pid} ${statusText(reply)}`);
+    return this.mark("handled", home, `${reply.pid} ${stopText(reply.at)}: ${decisionText(reply)}`);
   }
 
-  /** What a wait reports of a process. */
-  reported(process, reply) {
-    if (reply.continued) return this.closeStop(process);
-    if (reply.stopped !== undefined) return this.stopReported(process, reply);
-    const { passed } = process;
-    const at = passed && reply.signaled === signalName(passed.signal) ? passed.at : this.now;
-    this.gone(process, at, statusText(reply));
-    process.seenTo = this.now;
-    return undefined;
-  }
-
-  /** The end of a reported stop is known only if the steps are given. */
-  stopReported(process, reply) {
-    if (!this.entry.asked) return this.closeStop(process);
-    if (!process.stop) this.openStop(process, null, reply.stopped);
-    process.stop.reported ??= this.now;
-    return undefined;
-  }
-
-  kill(home, { which, signal }) {
+  placeKill(home, { which, signal }) {
     if (signal === 0) return this.mark("request", home, "kill 0");
-    const all = which === -1;
-    const targets = all ? [...this.user().live].filter((lane) => lane !== home) : [this.process(which)];
+    const targets = this.targets(home, which);
     if (targets.length === 0) return this.mark("post", home, `${signalName(signal)} to all others`);
     targets.forEach((target, place) => {
       this.mark("post", target, signalName(signal), { primary: place === 0 });
       this.link("post", home, target);
-      if (signal === SIGCONT && !target.span) this.closeStop(target);
     });
-    if (signal === SIGKILL) for (const target of targets) this.gone(target, this.now, "");
     return undefined;
   }
 
-  ptrace(home, reply, asked) {
+  placeRequest(home, reply, asked) {
     const { request, data } = asked;
     const target = this.target(asked.target);
     const kind = { PT_ATTACH: "attach", PT_TRACE_ME: "attach", PT_DETACH: "detach", PT_KILL: "kill" }[request]
       ?? (RESUMES.includes(request) ? "resume" : "request");
     this.mark(kind, home, RESUMES.includes(request) && data ? `${request} ${signalName(data)}` : request);
-    if (request === "PT_TRACE_ME") {
-      this.trace(home.parent, home);
-      this.link("attach", home.parent, home);
-    }
+    if (request === "PT_TRACE_ME") this.link("attach", home.parent, home);
     this.link(kind, home, reply.reply === "info" ? this.lwp(reply.lwp) : target);
-    if (reply.reply === "lwps") reply.lwps.forEach((lwp) => this.lwp(lwp));
-    if (target) this.commanded(target, home, asked);
-  }
-
-  /** What an accepted request does to its target. */
-  commanded(target, tracer, { request, data, target: number }) {
-    if (request === "PT_ATTACH") {
-      this.trace(tracer, target);
-      this.openStop(target, target.lwps.find((lwp) => lwp.to === null) ?? null, "SIGSTOP");
-    }
-    if (RESUMES.includes(request)) this.resume(target, data);
-    if (request === "PT_DETACH") this.untrace(target);
-    if (request === "PT_KILL") this.gone(target, this.now, "SIGKILL");
-    const lwp = number > LAST_PROCESS ? this.lwp(number) : target.stop?.lwp;
-    if (lwp && request === "PT_SUSPEND") this.suspend(lwp);
-    if (lwp && request === "PT_RESUME") this.unsuspend(lwp);
-  }
-
-  suspend(lwp) {
-    if (lwp.suspended) return;
-    lwp.suspended = { kind: "suspended", from: this.now, to: null };
-    lwp.bands.push(lwp.suspended);
-  }
-
-  /** All processes of the user, zombies too: others have ended. */
-  listed(pids) {
-    const unknown = pids.filter((pid) => !this.known("process", pid));
-    if (unknown.length > 1) this.forks = this.forks.filter((fork) => fork.lane.user !== this.entry.reply.user);
-    for (const pid of pids) {
-      const lane = this.process(pid);
-      if (lane.to !== null) lane.seenTo = this.now;
-    }
-    for (const lane of this.user().live) if (!pids.includes(lane.number)) this.gone(lane, this.now, "not listed");
   }
 }

@@ -2,10 +2,11 @@
 
 import { RESUMES, SIGNALS, signalName } from "./names.mjs";
 
-const short = (flags) => flags.map((flag) => flag.replace(/^PL_FLAG_/, ""));
+/** The name of an event or a flag without what all of them begin with. */
+export const bare = (name) => name.replace(/^(PTRACE_|PL_FLAG_)/, "");
 const joined = (names, mark = "+") => (names.length ? names.join(mark) : "none");
 const numbers = (signals) => joined(signals.map((name) => SIGNALS.indexOf(name)), ",");
-export const stopText = (stop) => [stop.signal, ...short(stop.flags)].join(" ");
+export const stopText = (stop) => [stop.signal, ...stop.flags.map(bare)].join(" ");
 
 export function statusText(reply) {
   if (reply.exited !== undefined) return `exited ${reply.exited}`;

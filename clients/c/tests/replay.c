@@ -1,10 +1,11 @@
 /*
  * Makes the steps that its standard input names, one a line, and prints the line of each answer.
  *
- *     replay PROGRAM 0|1 < STEPS
+ *     replay PROGRAM 0|1 [explain] < STEPS
  *
  * The number is the setting of kern.kill_on_debugger_exit. A line that begins with `{` is sent as it is; every other line has
- * the words that words.py writes, and is made by a typed call, whose result is written as the program would write it.
+ * the words that words.py writes, and is made by a typed call, whose result is written as the program would write it. With
+ * `explain` the line of a refused call is followed by a line that says why.
  */
 #define _POSIX_C_SOURCE 200809L
 
@@ -17,6 +18,7 @@
 enum { USERS = 1064 - 1001 + 1, MOST = 1000 };
 
 static unsigned long counts[USERS];
+static th_host *explained; /* the session, if refusals are explained */
 
 /* the next word as a number of C's 32 bits */
 static int number(char **rest)
@@ -76,6 +78,8 @@ static void print_refusal(void)
         printf("error %s %d\n", names[error], error);
     else
         printf("errno %d: %s\n", errno, th_strerror(errno));
+    if (explained != NULL)
+        printf("  %s\n", th_explain(explained));
 }
 
 static void done(int result)
@@ -276,8 +280,8 @@ static int text_step(th_host *h, const char *line)
 
 int main(int argc, char **argv)
 {
-    if (argc != 3) {
-        fprintf(stderr, "usage: replay PROGRAM 0|1 < STEPS\n");
+    if (argc != 3 && (argc != 4 || strcmp(argv[3], "explain") != 0)) {
+        fprintf(stderr, "usage: replay PROGRAM 0|1 [explain] < STEPS\n");
         return 2;
     }
     struct th_settings settings = {atoi(argv[2])};
@@ -286,6 +290,7 @@ int main(int argc, char **argv)
         perror(argv[1]);
         return 1;
     }
+    explained = argc == 4 ? h : NULL;
     char *line = NULL;
     size_t size = 0;
     ssize_t length;

@@ -222,14 +222,17 @@ def test_two(tracehost):
     raise ValueError("<b>second</b>")
 """
     )
-    titles = []
+    shown = []
     for folder in folders(tmp_path):
         page = (folder / "session.html").read_text()
         data = page.split('id="embedded">', 1)[1].split("</script>", 1)[0]
-        titles.append(json.loads(html.unescape(data))["title"])
-    assert sorted(titles) == [
-        "test_suite.py::test_one: assert (1000,) == (1000, 1001)",
-        "test_suite.py::test_two: ValueError: <b>second</b>",
+        page_of = json.loads(html.unescape(data))
+        failure = page_of["failure"]
+        assert page_of["title"] == failure["test"]
+        shown.append((failure["test"], failure["message"].splitlines()[0], failure["step"]))
+    assert sorted(shown) == [
+        ("test_suite.py::test_one", "assert (1000,) == (1000, 1001)", 2),
+        ("test_suite.py::test_two", "ValueError: <b>second</b>", 1),
     ]
 
 
@@ -293,3 +296,60 @@ def test_one(monkeypatch, request):
 """
     )
     assert [steps(folder) for folder in folders(tmp_path)] == [1]
+
+
+def test_the_folder_of_the_environment(tmp_path: pathlib.Path) -> None:
+    (tmp_path / "test_suite.py").write_text("def test_one(tracehost):\n    tracehost.user(1001).spawn()\n    assert False\n")
+    command = [sys.executable, "-m", "pytest", "-p", "tracehost.pytest_plugin", "-p", "no:cacheprovider", "-q"]
+    environment = {**os.environ, "PYTHONPATH": str(CLIENT), "TRACEHOST_ARTIFACTS": "left"}
+    subprocess.run(command, cwd=tmp_path, env=environment, stdout=subprocess.DEVNULL)
+    (folder,) = folders(tmp_path)
+    assert steps(folder) == 1
+
+
+FULL = """
+import resource
+
+def test_passes(tracehost):
+    resource.setrlimit(resource.RLIMIT_FSIZE, (600, resource.getrlimit(resource.RLIMIT_FSIZE)[1]))
+    try:
+        for _ in range(40):
+            tracehost.user(1001).spawn()
+    finally:
+        resource.setrlimit(resource.RLIMIT_FSIZE, (resource.getrlimit(resource.RLIMIT_FSIZE)[1],) * 2)
+
+def test_fails(tracehost):
+    test_passes(tracehost)
+    assert tracehost.user(1001).spawn().pid == 0
+"""
+
+
+def test_a_full_disk_changes_no_outcome(runs: Runs, tmp_path: pathlib.Path) -> None:
+    """It is told, and the record is that of the steps before."""
+    said = runs(FULL)
+    assert "1 failed, 1 passed" in said
+    assert "assert 1040 == 0" in said
+    assert ": not recorded from step " in said
+    assert {1 <= steps(folder) < 40 for folder in folders(tmp_path)} == {True}
+
+
+def test_a_record_that_cannot_be_made(tmp_path: pathlib.Path) -> None:
+    """The test goes on without it."""
+    (tmp_path / "conftest.py").write_text(
+        "import pathlib\nimport pytest\nimport tracehost.pytest_plugin as plugin\n\n"
+        "@pytest.fixture(autouse=True)\ndef no_room(monkeypatch):\n"
+        "    made = plugin.Sessions.__init__\n"
+        "    def without(self, folder):\n        made(self, pathlib.Path('/dev/null/nowhere'))\n"
+        "    monkeypatch.setattr(plugin.Sessions, '__init__', without)\n"
+    )
+    (tmp_path / "test_suite.py").write_text("def test_one(tracehost):\n    assert tracehost.user(1001).spawn().pid == 1000\n")
+    command = [sys.executable, "-m", "pytest", "-p", "tracehost.pytest_plugin", "-p", "no:cacheprovider", "-s"]
+    done = subprocess.run(
+        command,
+        cwd=tmp_path,
+        env={**os.environ, "PYTHONPATH": str(CLIENT)},
+        stdout=subprocess.PIPE,
+        stderr=subprocess.STDOUT,
+        text=True,
+    )
+    assert "1 passed" in done.stdout and "tracehost: not recorded: " in done.stdout, done.stdout

@@ -18,10 +18,11 @@ from typing import Any, Literal
 
 import pytest
 
-sys.path.insert(0, str(pathlib.Path(__file__).resolve().parents[1]))
+sys.path[:0] = [str(pathlib.Path(__file__).resolve().parent), str(pathlib.Path(__file__).resolve().parents[1])]
+from random_steps import Chance, random_step
 from tracehost import Action, Call, Compute, Decision, Enter, Held, Host, Leave, New, Raise, Request, Rule, Signal, User
 from tracehost.names import CALLER_OPS
-from tracehost.refusals import Asked, Rows, asked_by, causes
+from tracehost.refusals import Asked, Rows, asked_by, conditions
 
 FORMAT = pathlib.Path(__file__).resolve().parents[3] / "docs" / "FORMAT.md"
 TRANSPORTS: list[Literal["library", "pipe"]] = ["library", "pipe"]
@@ -32,70 +33,11 @@ Step = dict[str, Any]
 # ---- sessions of random steps
 
 
-class Chance(random.Random):
-    """Numbers of a user, most of them those of the first few processes and LWPs."""
-
-    def of_user(self, uid: int) -> Chance:
-        self.first_pid, self.first_lwp = (uid - 1000) * 1000, 100_000 + (uid - 1001) * 4000
-        return self
-
-    def pid(self) -> int:
-        return self.choice((self.first_pid, *(self.first_pid + n for n in range(7)), 1, 99))
-
-    def lwp(self) -> int:
-        return self.first_lwp + self.randrange(9)
-
-    def signal(self) -> int:
-        return self.choice((0, 1, 9, 15, 17, 19, 20, 31, 32))
-
-
-def random_step(chance: Chance) -> Step:
-    """A step of one of two users."""
-    uid = chance.choice((1001, 1001, 1001, 1002))
-    chance.of_user(uid)
-    op = chance.choice(("spawn", "turn", "turn", "turn", "ptrace", "ptrace", "ptrace", *CALLER_OPS))
-    if op == "spawn":
-        return {"user": uid, "op": op}
-    if op == "turn":
-        return {"user": uid, "op": op, "lwp": chance.lwp(), **random_act(chance)}
-    return {"user": uid, "op": op, "caller": chance.pid(), **random_arguments(op, chance)}
-
-
-def random_act(chance: Chance) -> Step:
-    act = chance.choice(("compute", "raise", "block", "enter", "enter", "leave", "leave"))
-    if act == "raise":
-        return {"act": act, "signal": chance.signal()}
-    if act == "block":
-        return {"act": act, "set": [chance.randint(1, 31)]}
-    if act == "enter":
-        call = chance.choice(list(Call))
-        code = {"code": 7} if call in (Call.EXIT, Call.OTHER) else {}
-        return {"act": act, "call": call.value, **code}
-    return {"act": act}
-
-
-def random_arguments(op: str, chance: Chance) -> Step:
-    if op == "ptrace":
-        request = chance.choice([*Request, Request.PT_ATTACH, Request.PT_ATTACH, Request.PT_CONTINUE])
-        target = {} if request == Request.PT_TRACE_ME else {"target": chance.choice((chance.pid(), chance.lwp()))}
-        more: Step = {"data": chance.signal()} if target else {}
-        if request == Request.PT_SET_EVENT_MASK:
-            more = {"mask": ["PTRACE_FORK", "PTRACE_LWP"]}
-        return {"request": request.name, **target, **more}
-    pid = chance.pid()
-    arguments: dict[str, Step] = {
-        "wait4": {"which": chance.choice((-1, -1, -2, 0, pid))},
-        "kill": {"which": chance.choice((-1, -2, 0, pid, pid, pid)), "signal": chance.signal()},
-        "sigaction": {"signal": chance.signal(), "action": chance.choice(("default", "ignore", "catch"))},
-        "install": {"rules": [{"decision": "continue"}]},
-    }
-    return arguments.get(op, {})
-
-
-def first_cause(host: Host, asked: Asked) -> str | None:
-    """The errno of the first condition that holds."""
-    rows = Rows(host._rows(asked.uid))
-    return next((cause.errno for cause in causes(asked) if cause.holds(asked, rows)), None)
+def first_answer(host: Host, asked: Asked) -> str | None:
+    """The answer of the first condition that holds."""
+    rows = Rows(host._rows(asked.user))
+    found = (condition for condition in conditions(asked) if not condition.unseen and condition.holds(asked, rows))
+    return next((condition.answer for condition in found), None)
 
 
 @pytest.mark.parametrize("transport, sessions", [("library", 120), ("pipe", 10)])
@@ -107,21 +49,18 @@ def test_the_first_condition_that_holds_gives_the_errno(transport: Literal["libr
             for _ in range(250):
                 step = random_step(chance)
                 asked = asked_by(step)
-                unknowable = asked.op == "install"  # rows have no stop handlers
-                before = None if unknowable else first_cause(host, asked)
+                before = first_answer(host, asked)
                 try:
                     words = host.step(step).split()
-                except Held:
-                    continue
-                except OSError as error:
-                    name = errno.errorcode[error.errno or 0]
-                    assert unknowable or before == name, (seed, step, str(error))
+                except (Held, OSError) as error:
+                    name = "held" if isinstance(error, Held) else errno.errorcode[error.errno or 0]
+                    assert before == name, (seed, step, str(error))
                     assert f": {name}, " in str(error)
                     met.add(f"{asked.op} {name}: " + re.sub(r"\d+", "N", str(error).split(f"{name}, ")[1]))
                     continue
                 if words[2] in ("stopped", "caught", "ended") and asked.op == "turn":
                     continue  # in place of the act
-                assert unknowable or before is None, (seed, step, words)
+                assert before is None, (seed, step, words)
     if transport == "library":
         print("\n".join(sorted(met)))
         assert len(met) >= 30, sorted(met)
@@ -169,7 +108,7 @@ def test_each_request_and_why(host: Host) -> None:
     assert told(lambda: ptrace(Request.PT_CONTINUE, 1001, 32)) == ("ptrace(PT_CONTINUE, 1001, 32) by 1000: EINVAL, 32 is no signal")
     assert told(lambda: ptrace(Request.PT_GETLWPLIST, 1001, 0)).endswith("EINVAL, data is 0, and has to be how many LWPs to list")
     assert told(lambda: ptrace(Request.PT_SET_EVENT_MASK, 1001, 0x41)) == (
-        "ptrace(PT_SET_EVENT_MASK, 1001, 0x41) by 1000: EINVAL, the mask's 0x40 is no event"
+        "ptrace(PT_SET_EVENT_MASK, 1001) by 1000: EINVAL, the mask's 0x40 is no event"
     )
     ptrace(Request.PT_CONTINUE, 1001)
     assert told(lambda: ptrace(Request.PT_CONTINUE, 1001)).endswith("EBUSY, 1001 is in no trace stop")
@@ -185,13 +124,13 @@ def test_each_other_call_and_why(host: Host) -> None:
     assert told(lambda: one.kill(1005, Signal.SIGTERM)) == "kill(1005, SIGTERM) by 1000: ESRCH, user 1001 has no process 1005"
     assert told(lambda: one.kill(1001, 77)) == "kill(1001, 77) by 1000: EINVAL, 77 is no signal"
     assert told(lambda: one.sigaction(Signal.SIGKILL, Action.CATCH)) == (
-        "sigaction(SIGKILL, CATCH) by 1000: EINVAL, 9 is SIGKILL or SIGSTOP, which can be neither caught nor ignored"
+        "sigaction(SIGKILL, catch) by 1000: EINVAL, SIGKILL can be neither caught nor ignored"
     )
-    assert told(lambda: turn(two.tid, Leave())) == "turn(100001, Leave()) by user 1001: EINVAL, LWP 100001 is in no system call"
+    assert told(lambda: turn(two.tid, Leave())) == "turn(100001, leave) by user 1001: EINVAL, LWP 100001 is in no system call"
     turn(two.tid, Enter(Call.OTHER, 4))
     assert told(lambda: turn(two.tid, Compute())).endswith("EINVAL, LWP 100001 is in a system call, which it has to leave first")
     assert told(lambda: turn(100077, Compute())).endswith("ESRCH, user 1001 has no LWP 100077")
-    assert told(lambda: turn(100002, Raise(32))) == "turn(100002, Raise(32)) by user 1001: EINVAL, 32 is no signal"
+    assert told(lambda: turn(100002, Raise(32))) == "turn(100002, raise 32) by user 1001: EINVAL, 32 is no signal"
     assert told(lambda: host.step({"user": 1001, "op": "kill", "caller": 1000, "which": 0, "signal": 9})) == (
         "kill(0, SIGKILL) by 1000: EINVAL, which is 0, and there are no process groups"
     )
@@ -204,15 +143,13 @@ def test_limits(host: Host) -> None:
     for _ in range(64):
         process.install([])
     assert told(lambda: process.install([Rule(Decision.LEAVE)])) == (
-        "install(1 rules) by 2000: EAGAIN, user 1002 has 64 stop handlers"
+        "install(1 rule) by 2000: EAGAIN, user 1002 has 64 stop handlers"
     )
     user.turn(first.tid, Enter(Call.FORK))
     for _ in range(249):
         user.spawn()
     assert told(user.spawn) == "spawn() by user 1002: EAGAIN, user 1002 has 250 processes"
-    assert told(lambda: user.turn(first.tid, Leave())) == (
-        "turn(104000, Leave()) by user 1002: EAGAIN, user 1002 has 250 processes"
-    )
+    assert told(lambda: user.turn(first.tid, Leave())) == ("turn(104000, leave) by user 1002: EAGAIN, user 1002 has 250 processes")
 
 
 def test_the_limit_of_lwps(host: Host) -> None:
@@ -298,8 +235,9 @@ def table(heading: str, after: str) -> list[list[str]]:
 
 
 def errnos(asked: Asked) -> list[str]:
-    """The errnos of the call's conditions, each once, in order; those of its caller aside."""
-    names = [cause.errno for cause in causes(asked)][1 if asked.caller else 0 :]
+    """The errnos of the call's conditions, each once, in order; those of its caller and of memory aside."""
+    names = [condition.answer for condition in conditions(asked) if condition.answer not in ("held", "ENOMEM")]
+    names = names[1 if asked.caller else 0 :]
     return [name for n, name in enumerate(names) if n == 0 or names[n - 1] != name]
 
 

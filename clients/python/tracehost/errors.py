@@ -9,7 +9,7 @@ from typing import Optional
 class Held(Exception):
     """The call isn't made: a debugger or job control has the caller (or the LWP at its turn) stopped.
 
-    An LWP is held too while it is suspended, or waits for its vfork's child.
+    An LWP is held too while it is suspended, or waits for its vfork's child. The text says which.
     """
 
 

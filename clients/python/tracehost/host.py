@@ -19,7 +19,7 @@ from .names import ALL_EVENTS, CALLER_OPS, OPTIONS, Action, Decision, EventMask,
 from .pipe import Pipe
 from .program import default
 from .recording import Recording
-from .refusals import Asked, Rows, asked_by, refusal
+from .refusals import Asked, Rows, asked_by, explanation, refusal
 from .replica import Replica
 from .replies import NOTHING, Answered, Handled, LwpInfo, New, Turned, Waited
 from .rows import View, lwp_row, process_row
@@ -179,6 +179,8 @@ class Host:
             words_of(text, sent, str(step.get("user")))
         except Answered as answered:
             raise self._refusal(answered, asked_by(step)) from None
+        except Held:
+            raise self._held(asked_by(step)) from None
         return sent.line
 
     def run(self, *functions: Callable[[], Any]) -> list[Any]:
@@ -219,7 +221,7 @@ class Host:
         """Makes the call of this name (`TextCalls`, `TypedCalls`)."""
         return self._alone(self._call_alone, name, arguments)
 
-    def _call_alone(self, name: str, arguments: tuple[Any, ...]) -> Any:
+    def _call_alone(self, name: str, arguments: tuple[Any, ...], explains_held: bool = True) -> Any:
         try:
             typed = getattr(self._typed, name, None)
             if typed is not None:
@@ -230,9 +232,16 @@ class Host:
             return getattr(self._text, name)(*arguments)
         except Answered as answered:
             raise self._refusal(answered, _asked(name, arguments)) from None
+        except Held:
+            if not explains_held:
+                raise
+            raise self._held(_asked(name, arguments)) from None
+
+    def _held(self, asked: Asked) -> Held:
+        return Held(explanation("held", asked, lambda: self._known_rows(asked.user)))
 
     def _refusal(self, answered: Answered, asked: Asked) -> OSError:
-        return refusal(answered.name, asked, lambda: self._known_rows(asked.uid))
+        return refusal(answered.name, asked, lambda: self._known_rows(asked.user))
 
     def _known_rows(self, uid: int) -> Optional[Rows]:
         """The user's rows; None if nothing has them, as over a pipe without the library."""
@@ -246,7 +255,7 @@ class Host:
     def _call_and_see(self, name: str, arguments: tuple[Any, ...], quiet: object) -> tuple[Any, int]:
         """The result of a call, Held if that is quiet, and how many steps its user has had until then."""
         try:
-            result = self._call_alone(name, arguments)
+            result = self._call_alone(name, arguments, explains_held=quiet is not Held)
         except Held:
             if quiet is not Held:
                 raise

@@ -6,8 +6,9 @@
   ``@given`` starts one for each example.
 - An assertion that compares replies shows statuses, signals and flags by name.
 - A test that fails, in a fixture too, leaves its scenario, its lines and its page in pytest's temporary folder, or in a
-  folder of its own below the one that ``--tracehost-artifacts`` names. The report says where, and JUnit's XML has the
-  page as the property ``tracehost_page``.
+  folder of its own below the one that ``--tracehost-artifacts``, or the environment's ``TRACEHOST_ARTIFACTS``, names.
+  The report says where, and JUnit's XML has the page as the property ``tracehost_page``. What can't be recorded, as on a
+  full disk, is told on standard error, and the test goes on.
 """
 
 from __future__ import annotations
@@ -35,7 +36,7 @@ _Hook = TypeVar("_Hook", bound=Callable[..., Generator[None, Any, None]])
 _wrapper: Callable[[_Hook], _Hook] = pytest.hookimpl(hookwrapper=True)  # untyped in some versions of pytest
 
 _MOST_OF_A_NAME = 80  # characters; the digest makes it the test's own
-_MOST_OF_A_TITLE = 300
+_MOST_OF_A_MESSAGE = 4000
 _artifacts = pytest.StashKey[Optional[Path]]()
 _sessions_of_item = pytest.StashKey["Sessions"]()
 _current: list[pytest.Item] = []
@@ -62,8 +63,19 @@ class Sessions:
         if earlier is not None:
             earlier.stop_recording()
             self._earlier.add(earlier)
-        host = Host(record=self.folder / f"{name}.json", record_lines=self.folder / f"{name}.out", **settings)
+        host = self._recorded(name, settings)
         self._hosts[name] = weakref.ref(host)
+        return host
+
+    def _recorded(self, name: str, settings: dict[str, Any]) -> Host:
+        """A host that records; without a record if its files can't be made."""
+        try:
+            host = Host(record=self.folder / f"{name}.json", record_lines=self.folder / f"{name}.out", **settings)
+        except OSError as error:
+            host = Host(**settings)  # raises what isn't about the files
+            print(f"tracehost: not recorded: {error}", file=sys.stderr)
+        if host._recording is not None:
+            host._recording.ends_session = False
         return host
 
     def close(self) -> None:
@@ -84,12 +96,16 @@ class Sessions:
 
 def pytest_addoption(parser: pytest.Parser) -> None:
     group = parser.getgroup("tracehost")
-    group.addoption("--tracehost-artifacts", metavar="DIR", help="the folder for the sessions and pages of failed tests")
+    group.addoption(
+        "--tracehost-artifacts",
+        metavar="DIR",
+        help="the folder for the sessions and pages of failed tests; else $TRACEHOST_ARTIFACTS",
+    )
 
 
 def pytest_configure(config: pytest.Config) -> None:
     config.addinivalue_line("markers", "tracehost(**settings): settings of the Host that the fixture tracehost starts")
-    named: Optional[str] = config.getoption("--tracehost-artifacts")
+    named: Optional[str] = config.getoption("--tracehost-artifacts") or os.environ.get("TRACEHOST_ARTIFACTS") or None
     artifacts = None if named is None else Path(named).absolute()  # a test may change the folder that it runs in
     config.stash[_artifacts] = artifacts
     if artifacts is not None:  # so that a later job finds the same failing examples
@@ -171,8 +187,8 @@ def pytest_runtest_makereport(item: pytest.Item, call: pytest.CallInfo[None]) ->
         if report.when == "call":
             sessions.clear(("html",))  # of an earlier attempt
         return
-    title = _title(item.nodeid, call)
-    kept = [_kept(scenario, title) for scenario in sessions.records()]
+    message = _message(call)
+    kept = [_kept(scenario, item.nodeid, message) for scenario in sessions.records()]
     if kept:
         report.sections.append(("tracehost", "\n".join(text for text, _ in kept)))
     for page in (page for _, page in kept if page is not None):
@@ -181,20 +197,20 @@ def pytest_runtest_makereport(item: pytest.Item, call: pytest.CallInfo[None]) ->
             report.user_properties.append(("tracehost_page", str(page)))
 
 
-def _title(nodeid: str, call: pytest.CallInfo[None]) -> str:
-    """The test, and the first line of its assertion or exception."""
-    said = str(call.excinfo.value).strip() if call.excinfo is not None else ""
-    kind = call.excinfo.typename if call.excinfo is not None else ""
-    first = said.splitlines()[0] if said else kind
-    title = f"{nodeid}: {first if kind == 'AssertionError' else f'{kind}: {first}'}"
-    return title if len(title) <= _MOST_OF_A_TITLE else title[:_MOST_OF_A_TITLE] + " .."
+def _message(call: pytest.CallInfo[None]) -> str:
+    """The assertion or the exception."""
+    if call.excinfo is None:
+        return ""
+    kind, said = call.excinfo.typename, str(call.excinfo.value).strip()
+    text = said if said and kind == "AssertionError" else f"{kind}: {said}".removesuffix(": ")
+    return text if len(text) <= _MOST_OF_A_MESSAGE else text[:_MOST_OF_A_MESSAGE] + " .."
 
 
-def _kept(scenario: Path, title: str) -> tuple[str, Optional[Path]]:
+def _kept(scenario: Path, test: str, message: str) -> tuple[str, Optional[Path]]:
     """Makes the page. Reports the files, and returns the page."""
     page: Optional[Path] = None
     try:
-        page = view(scenario, title=title)
+        page = view(scenario, title=test, failed=test, message=message)
         where = str(page)
     except (OSError, subprocess.CalledProcessError) as error:
         where = f"none ({error})"

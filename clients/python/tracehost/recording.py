@@ -6,6 +6,7 @@ import errno
 import json
 import os
 import resource
+import sys
 import warnings
 from collections.abc import Iterator
 from pathlib import Path
@@ -27,7 +28,8 @@ class Recording:
     numbers of that user's later steps are one lower. A session that is longer than a scenario may be is recorded up to
     there. Both give a RuntimeWarning.
 
-    A step that can't be written, as on a full disk, leaves both files as they were. Lines are written before their
+    A step that can't be written, as on a full disk, leaves both files as they were. It ends the session, unless that is
+    a test's (`ends_session`): then standard error says so. Lines are written before their
     step: a process that is killed between the two leaves one line more (`mend`). A forked child records nothing.
     """
 
@@ -52,6 +54,7 @@ class Recording:
             self._scenario.close()
             raise error if error.filename else OSError(error.errno, error.strerror, os.fspath(path)) from None
         self._steps, self._size, self._size_of_lines = 0, len(start), 0
+        self.ends_session = True
         self._records = True
 
     def add(self, step: str, answer: str) -> None:
@@ -75,7 +78,9 @@ class Recording:
             self._put(text, answer.encode() + b"\n")
         except OSError as error:
             self.close()
-            raise RecordingFailed(f"{self.path}: step {self._steps + 1} can't be recorded: {error.strerror}") from error
+            if self.ends_session:
+                raise RecordingFailed(f"{self.path}: step {self._steps + 1} can't be recorded: {error.strerror}") from error
+            print(f"tracehost: {self.path}: not recorded from step {self._steps + 1} on: {error.strerror}", file=sys.stderr)
 
     def close(self) -> None:
         """Closes the files. Closing again does nothing more."""

@@ -1,56 +1,51 @@
-"""Why a call was answered by an errno: the conditions of docs/FORMAT.md, sections 2 to 4, in its order.
+"""Why a call was answered by an errno, or held: the first of its conditions that holds (`conditions`).
 
-The first condition that holds gives the errno. Those that the arguments decide are looked at here; for the others the
-user's rows say which one it was. Without rows a message names each that is possible.
+Those that the arguments decide are looked at first; for the others the user's rows say which one it was. Without rows a
+message names each that is possible.
 """
 
 from __future__ import annotations
 
 import errno
 import os
+import re
 from bisect import bisect_left
 from collections.abc import Callable, Iterator, Mapping, Sequence
 from typing import Any, NamedTuple, Optional
 
-from .library import MOST_LWPS, MOST_PROCESSES, CLwp, CProcess, RawRows
+from .conditions import CALLS, CONDITIONS, DATA_REQUESTS, SIGNAL_REQUESTS, Condition
+from .conditions import Call as CallOfTable
+from .library import CLwp, CProcess, RawRows
 from .names import ALL_EVENTS, Action, Call, EventMask, Request, Signal
 from .rows import LwpMode, ProcessState
 from .steps import Act, Block, Compute, Enter, Leave, Raise
-from .typed import CALLS
 
 _LAST_SIGNAL, _LAST_PID = 31, 99_999
-_PASSING = (
-    Request.PT_CONTINUE, Request.PT_STEP, Request.PT_TO_SCE, Request.PT_TO_SCX, Request.PT_SYSCALL, Request.PT_DETACH,
-)  # fmt: skip
+_ACTS = (Compute, Raise, Block, Enter, Leave)
+_ACTIONS = (Action.SIG_DFL, Action.SIG_IGN, Action.CATCH)
 
 
 class Asked(NamedTuple):
-    """A call: an op of docs/FORMAT.md and what was given, in the order of its keys."""
+    """A call: an op of docs/FORMAT.md and what was given, in the order of its keys. The other properties are its
+    arguments as `conditions` names them, and 0 if the call has none of the name."""
 
     op: str
-    uid: int
+    user: int
     caller: int
     """0 if the op has none."""
     arguments: Sequence[Any]
 
     @property
-    def first(self) -> int:
-        """`request`, `which`, `lwp`, or the `signal` of sigaction(2)."""
-        return int(self.arguments[0])
+    def request(self) -> int:
+        return int(self.arguments[0]) if self.op == "ptrace" else -1
 
     @property
     def target(self) -> int:
-        return int(self.arguments[1])
+        return int(self.arguments[1]) if self.op == "ptrace" else 0
 
     @property
     def data(self) -> int:
-        """What a request got, and the signal of kill(2)."""
-        return int(self.arguments[-1])
-
-    @property
-    def signal(self) -> int:
-        """The signal of kill(2), of sigaction(2) or of a request, as it was given: -1 is sent as 4294967295."""
-        return _signed(self.first if self.op == "sigaction" else self.data)
+        return int(self.arguments[2]) if self.op == "ptrace" else 0
 
     @property
     def unnamed(self) -> int:
@@ -58,51 +53,121 @@ class Asked(NamedTuple):
         return self.data & ~ALL_EVENTS
 
     @property
-    def kind(self) -> str:
-        """What the target's number may be of."""
-        return "process" if self.target <= _LAST_PID else "LWP"
+    def which(self) -> int:
+        return int(self.arguments[0]) if self.op in ("wait4", "kill") else -1
+
+    @property
+    def lwp(self) -> int:
+        return int(self.arguments[0]) if self.op == "turn" else 0
+
+    @property
+    def act(self) -> int:
+        return _ACTS.index(type(self.arguments[1])) if self.op == "turn" else 0
+
+    @property
+    def action(self) -> int:
+        return _ACTIONS.index(self.arguments[1]) if self.op == "sigaction" else 0
+
+    @property
+    def signal(self) -> int:
+        if self.op == "turn":
+            return int(self.arguments[1].signal) if isinstance(self.arguments[1], Raise) else 0
+        place = {"sigaction": 0, "kill": 1, "ptrace": 2}.get(self.op)
+        return 0 if place is None else int(self.arguments[place])
+
+    def word(self, name: str) -> str:
+        """An argument, as a person writes it."""
+        if name == "signal":
+            return _signal(self.signal)
+        if name == "request":
+            return Request(self.request).name
+        if name == "data":
+            return self._data()
+        if name == "unnamed":
+            return hex(self.unnamed)
+        if name == "act":
+            return _act(self.arguments[1])
+        if name == "action":
+            return str(self.arguments[1].value)
+        if name == "rules":
+            count = len(self.arguments[0])
+            return f"{count} {'rule' if count == 1 else 'rules'}"
+        return str(getattr(self, name))
+
+    def _data(self) -> str:
+        if not self.data or self.request not in DATA_REQUESTS:
+            return ""
+        return f", {_signal(self.data) if self.request in SIGNAL_REQUESTS else self.data}"
 
 
 class Rows:
-    """A user's rows by number. Processes have rising numbers. LWPs are in order of birth, and numbers are used again."""
+    """A user's rows by number. Processes have rising numbers. LWPs are in order of birth, and numbers are used again.
+
+    What is asked of a process or an LWP that isn't there is 0 or false.
+    """
 
     def __init__(self, raw: RawRows) -> None:
         self._processes, self._lwps = raw
         self._pids, self._lwpids = _first_words(self._processes), _first_words(self._lwps)
-        self.processes, self.lwps = len(self._processes), len(self._lwps)
 
-    def process(self, pid: int) -> Optional[CProcess]:
-        place = bisect_left(self._pids, pid)
-        return self._processes[place] if place < self.processes and self._pids[place] == pid else None
+    def processes(self) -> int:
+        return len(self._processes)
 
-    def lwp(self, lwp: int) -> Optional[CLwp]:
-        return next((self._lwps[place] for place, tid in enumerate(self._lwpids) if tid == lwp), None)
+    def lwps(self) -> int:
+        return len(self._lwps)
 
-    def target(self, number: int) -> Optional[CProcess]:
+    def process_of(self, number: int) -> int:
         """The process that a target of ptrace(2) names, by its number or an LWP's."""
-        if number <= _LAST_PID:
-            return self.process(number)
-        lwp = self.lwp(number)
-        return None if lwp is None else self.process(lwp.pid)
+        return self._process(number).pid if number <= _LAST_PID else self.owner(number)
+
+    def state(self, pid: int) -> int:
+        return self._process(pid).state
+
+    def parent(self, pid: int) -> int:
+        return self._process(pid).parent
+
+    def tracer(self, pid: int) -> int:
+        return self._process(pid).tracer
+
+    def was_told(self, pid: int) -> bool:
+        return bool(self._process(pid).told)
 
     def is_live(self, pid: int) -> bool:
-        process = self.process(pid)
-        return process is not None and process.state != ProcessState.ZOMBIE.value
+        process = self._process(pid)
+        return bool(process.pid) and process.state != ProcessState.ZOMBIE.value
 
     def traces(self, tracer: int, pid: int) -> bool:
         """Whether the first process traces the second, directly or through others."""
-        for _ in range(self.processes):
-            process = self.process(pid)
-            if process is None:
-                return False
-            if process.tracer == tracer:
-                return True
-            pid = process.tracer
-        return False
+        for _ in range(self.processes()):
+            pid = self.tracer(pid)
+            if pid in (0, tracer):
+                break
+        return pid != 0 and pid == tracer
 
     def has_child(self, caller: int, which: int) -> bool:
         """Whether the caller has a child, or traces a process, that `which` names."""
         return any(caller in (row.parent, row.tracer) for row in self._processes if which in (-1, row.pid))
+
+    def owner(self, lwp: int) -> int:
+        return self._lwp(lwp).pid
+
+    def mode(self, lwp: int) -> int:
+        return self._lwp(lwp).mode
+
+    def call_of(self, lwp: int) -> int:
+        """The call that it is in; -1 for none."""
+        row = self._lwp(lwp)
+        return row.call if row.mode == LwpMode.IN_CALL.value else -1
+
+    def is_suspended(self, lwp: int) -> bool:
+        return bool(self._lwp(lwp).suspended)
+
+    def _process(self, pid: int) -> CProcess:
+        place = bisect_left(self._pids, pid)
+        return self._processes[place] if place < len(self._pids) and self._pids[place] == pid else CProcess()
+
+    def _lwp(self, lwp: int) -> CLwp:
+        return next((self._lwps[place] for place, tid in enumerate(self._lwpids) if tid == lwp), CLwp())
 
 
 def _first_words(rows: Any) -> Sequence[int]:
@@ -113,266 +178,54 @@ def _first_words(rows: Any) -> Sequence[int]:
     return words[:: len(words) // len(rows)]
 
 
-class Cause(NamedTuple):
-    """A condition, and the errno that it gives."""
-
-    errno: str
-    text: str
-    """For `str.format`; `a` is the call."""
-    holds: Callable[[Asked, Rows], bool]
-    is_possible: Callable[[Asked], bool] = lambda a: True
-    """What the arguments say of it."""
+_BY_NAME = {condition.name: condition for condition in CONDITIONS}
 
 
-def causes(asked: Asked) -> Iterator[Cause]:
+def conditions(asked: Asked) -> Iterator[Condition]:
     """The conditions that this call may meet, in order. Those that its arguments rule out aren't among them."""
-    table = _PTRACE[_kind_of(asked.arguments[0])] if asked.op == "ptrace" else _OPS[asked.op]
-    return (cause for cause in table if cause.is_possible(asked))
+    call = _call(asked)
+    return (_BY_NAME[name] for name in call.order if _BY_NAME[name].possible(asked))
 
 
-def refusal(name: str, asked: Asked, rows: Callable[[], Optional[Rows]]) -> OSError:
-    """The OSError for an errno, with this system's number. It asks for rows only if the arguments leave a doubt."""
-    possible = [cause for cause in causes(asked) if cause.errno == name]
+def explanation(answer: str, asked: Asked, rows: Callable[[], Optional[Rows]]) -> str:
+    """What an errno, or ``held``, says of a call. It asks for rows only if the arguments leave a doubt."""
+    possible = [condition for condition in conditions(asked) if condition.answer == answer]
     if len(possible) > 1:
         known = rows()
         if known is not None:
-            possible = [cause for cause in possible if cause.holds(asked, known)][:1] or possible
-    why = ", or ".join(cause.text.format(a=asked) for cause in possible)
-    number: int = getattr(errno, name)
-    return OSError(number, f"{_call_text(asked)}: {name}, {why or os.strerror(number)}")
+            possible = [condition for condition in possible if condition.holds(asked, known)][:1] or possible
+    why = ", or ".join(_filled(condition.words, asked) for condition in possible)
+    if not why:
+        why = os.strerror(getattr(errno, answer)) if answer != "held" else "it doesn't run"
+    return f"{_filled(_call(asked).text, asked)}: {answer}, {why}"
 
 
-# ---- the table
+def refusal(name: str, asked: Asked, rows: Callable[[], Optional[Rows]]) -> OSError:
+    """The OSError for an errno, with this system's number."""
+    return OSError(getattr(errno, name), explanation(name, asked, rows))
 
 
-def _by_arguments(a: Asked, rows: Rows) -> bool:
-    return True
+def _call(asked: Asked) -> CallOfTable:
+    return next(call for call in CALLS if call.op == asked.op and call.request in (-1, asked.request))
 
 
-def _is_no_signal(number: int) -> bool:
-    return not 1 <= number <= _LAST_SIGNAL
-
-
-def _target(a: Asked, rows: Rows) -> CProcess:
-    """The target's row; an empty one if there is none."""
-    return rows.target(a.target) or CProcess()
-
-
-def _caller(a: Asked, rows: Rows) -> CProcess:
-    return rows.process(a.caller) or CProcess()
-
-
-def _lwp(a: Asked, rows: Rows) -> CLwp:
-    return rows.lwp(a.first) or CLwp()
-
-
-def _is_in_call(a: Asked, rows: Rows) -> bool:
-    return bool(_lwp(a, rows).mode == LwpMode.IN_CALL.value)
-
-
-def _leaves(a: Asked) -> bool:
-    return isinstance(a.arguments[1], Leave)
-
-
-def _makes_process(a: Asked, rows: Rows) -> bool:
-    return a.op == "spawn" or CALLS[_lwp(a, rows).call] in (Call.FORK, Call.VFORK)
-
-
-_CALLER = Cause("ESRCH", "{a.caller} isn't a live process of user {a.uid}", lambda a, rows: not rows.is_live(a.caller))
-_NO_GROUPS = Cause(
-    "EINVAL", "which is {a.first}, and there are no process groups", _by_arguments, lambda a: a.first == 0 or a.first < -1
-)
-_NO_CHILD = "{a.caller} has no child and traces no process"
-_LIMITS = (
-    Cause(
-        "EAGAIN",
-        f"user {{a.uid}} has {MOST_PROCESSES} processes",
-        lambda a, rows: rows.processes >= MOST_PROCESSES and _makes_process(a, rows),
-        lambda a: a.op == "spawn" or _leaves(a),
-    ),
-    Cause(
-        "EAGAIN",
-        f"user {{a.uid}} has {MOST_LWPS} LWPs",
-        lambda a, rows: rows.lwps >= MOST_LWPS,
-        lambda a: a.op == "spawn" or _leaves(a),
-    ),
-)
-
-_OPS: dict[str, tuple[Cause, ...]] = {
-    "spawn": _LIMITS,
-    "wait4": (
-        _CALLER,
-        _NO_GROUPS,
-        Cause("ECHILD", _NO_CHILD, lambda a, rows: not rows.has_child(a.caller, -1), lambda a: a.first == -1),
-        Cause(
-            "ECHILD",
-            "{a.first} is neither a child of {a.caller} nor traced by it",
-            lambda a, rows: not rows.has_child(a.caller, a.first),
-            lambda a: a.first != -1,
-        ),
-    ),
-    "kill": (
-        _CALLER,
-        Cause("EINVAL", "{a.signal} is no signal", _by_arguments, lambda a: a.data > _LAST_SIGNAL),
-        _NO_GROUPS,
-        Cause(
-            "ESRCH", "user {a.uid} has no process except {a.caller}", lambda a, rows: rows.processes == 1, lambda a: a.first == -1
-        ),
-        Cause(
-            "ESRCH",
-            "user {a.uid} has no process {a.first}",
-            lambda a, rows: rows.process(a.first) is None,
-            lambda a: a.first != -1,
-        ),
-    ),
-    "sigaction": (
-        _CALLER,
-        Cause("EINVAL", "{a.signal} is no signal", _by_arguments, lambda a: _is_no_signal(a.first)),
-        Cause(
-            "EINVAL",
-            "{a.first} is SIGKILL or SIGSTOP, which can be neither caught nor ignored",
-            _by_arguments,
-            lambda a: a.first in (Signal.SIGKILL, Signal.SIGSTOP) and a.arguments[1] is not Action.SIG_DFL,
-        ),
-    ),
-    "list": (_CALLER,),
-    "install": (_CALLER, Cause("EAGAIN", "user {a.uid} has 64 stop handlers", _by_arguments)),
-    "handle": (_CALLER, Cause("ECHILD", _NO_CHILD, lambda a, rows: not rows.has_child(a.caller, -1))),
-    "turn": (
-        Cause("ESRCH", "{a.first} is no LWP, whose numbers begin at 100000", _by_arguments, lambda a: a.first <= _LAST_PID),
-        Cause(
-            "ESRCH",
-            "user {a.uid} has no LWP {a.first}",
-            lambda a, rows: rows.lwp(a.first) is None,
-            lambda a: a.first > _LAST_PID,
-        ),
-        Cause("EINVAL", "LWP {a.first} is in no system call", lambda a, rows: not _is_in_call(a, rows), _leaves),
-        Cause("EINVAL", "LWP {a.first} is in a system call, which it has to leave first", _is_in_call, lambda a: not _leaves(a)),
-        Cause(
-            "EINVAL",
-            "{a.arguments[1].signal:d} is no signal",
-            _by_arguments,
-            lambda a: isinstance(a.arguments[1], Raise) and _is_no_signal(a.arguments[1].signal),
-        ),
-        *_LIMITS,
-    ),
-}
-
-_TARGET = (
-    _CALLER,
-    Cause("ESRCH", "the target is 0, which is no process", _by_arguments, lambda a: a.target == 0),
-    Cause(
-        "ESRCH",
-        "user {a.uid} has no {a.kind} {a.target}",
-        lambda a, rows: rows.target(a.target) is None,
-        lambda a: a.target != 0,
-    ),
-    Cause("ESRCH", "{a.target} has ended", lambda a, rows: _target(a, rows).state == ProcessState.ZOMBIE.value),
-)
-_PTRACE: dict[str, tuple[Cause, ...]] = {
-    "trace me": (
-        _CALLER,
-        Cause("EBUSY", "{a.caller} is traced already", lambda a, rows: _caller(a, rows).tracer != 0),
-        Cause("EPERM", "the parent of {a.caller} is process 1", lambda a, rows: _caller(a, rows).parent == 1),
-        Cause(
-            "EINVAL",
-            "{a.caller} traces its parent, directly or through others",
-            lambda a, rows: rows.traces(a.caller, _caller(a, rows).parent),
-        ),
-    ),
-    "attach": (
-        *_TARGET,
-        Cause("EINVAL", "a process can't trace itself", lambda a, rows: _target(a, rows).pid == a.caller),
-        Cause("EBUSY", "{a.target} is traced already", lambda a, rows: _target(a, rows).tracer != 0),
-        Cause(
-            "EINVAL",
-            "{a.target} traces {a.caller}, directly or through others",
-            lambda a, rows: rows.traces(_target(a, rows).pid, a.caller),
-        ),
-    ),
-    "control": (
-        *_TARGET,
-        Cause("EPERM", "{a.target} isn't traced", lambda a, rows: _target(a, rows).tracer == 0),
-        Cause("EBUSY", "another process traces {a.target}", lambda a, rows: _target(a, rows).tracer != a.caller),
-        Cause("EBUSY", "{a.target} is in no trace stop", lambda a, rows: _target(a, rows).state != ProcessState.TRACE_STOP.value),
-        Cause("EBUSY", "no wait has reported the stop of {a.target}", lambda a, rows: not _target(a, rows).told),
-        Cause("EINVAL", "{a.signal} is no signal", _by_arguments, lambda a: a.first in _PASSING and a.data > _LAST_SIGNAL),
-        Cause(
-            "EINVAL",
-            "data is 0, and has to be how many LWPs to list",
-            _by_arguments,
-            lambda a: a.first == Request.PT_GETLWPLIST and not a.data,
-        ),
-        Cause(
-            "EINVAL",
-            "the mask's {a.unnamed:#x} is no event",
-            _by_arguments,
-            lambda a: a.first == Request.PT_SET_EVENT_MASK and bool(a.unnamed),
-        ),
-    ),
-}
-
-
-def _kind_of(request: Request) -> str:
-    return {Request.PT_TRACE_ME: "trace me", Request.PT_ATTACH: "attach"}.get(request, "control")
-
-
-# ---- the text of a call
-
-
-def _call_text(asked: Asked) -> str:
-    by = asked.caller or f"user {asked.uid}"
-    return f"{asked.op}({', '.join(_words(asked.op, asked.arguments))}) by {by}"
-
-
-def _words(op: str, given: Sequence[Any]) -> Iterator[str]:
-    """The arguments, as a person writes them."""
-    if op == "ptrace":
-        yield from _ptrace_words(*given)
-    elif op == "kill":
-        yield str(given[0])
-        yield _signal(given[1])
-    elif op == "sigaction":
-        yield _signal(given[0])
-        yield given[1].name
-    elif op == "wait4":
-        yield str(given[0])
-    elif op == "turn":
-        yield str(given[0])
-        yield _act(given[1])
-    elif op == "install":
-        yield f"{len(given[0])} rules"
-
-
-def _ptrace_words(request: Request, target: int, data: int) -> Iterator[str]:
-    yield request.name
-    if request == Request.PT_TRACE_ME:
-        return
-    yield str(target)
-    if request in _PASSING and data:
-        yield _signal(data)
-    elif request == Request.PT_SET_EVENT_MASK:
-        yield f"{data:#x}"
-    elif data:
-        yield str(data)
+def _filled(text: str, asked: Asked) -> str:
+    return re.sub(r"\{(\w+)\}", lambda match: asked.word(match[1]), text)
 
 
 def _signal(number: int) -> str:
-    return str(_signed(number)) if _is_no_signal(number) else Signal(number).name
-
-
-def _signed(number: int) -> int:
-    return int(number) - (1 << 32) if number >= 1 << 31 else int(number)
+    """Its name; a number that is none as it was given: -1 is sent as 4294967295."""
+    if 1 <= number <= _LAST_SIGNAL:
+        return Signal(number).name
+    return str(number - (1 << 32) if number >= 1 << 31 else number)
 
 
 def _act(act: Act) -> str:
     if isinstance(act, Raise):
-        return f"Raise({_signal(act.signal)})"
-    if isinstance(act, Block):
-        return "Block(..)"
+        return f"raise {_signal(act.signal)}"
     if isinstance(act, Enter):
-        return f"Enter({act.call.name})"
-    return f"{type(act).__name__}()"
+        return f"enter {act.call.value}"
+    return type(act).__name__.lower()
 
 
 # ---- the call that a step makes

@@ -27,24 +27,29 @@ def view(
     *,
     title: str | None = None,
     program: str | os.PathLike[str] | None = None,
+    failed: str | None = None,
+    message: str = "",
 ) -> Path:
     """Makes a page that shows this scenario, such as `Host` records one, and returns the page's path.
 
     The page is one HTML file; without `page` it gets the scenario's name with ``.html`` in place of ``.json``.
-    `program` runs the scenario; without it the one that `Host` chooses. Raises FileNotFoundError if there is no such
-    scenario, or the viewer isn't installed, and NoPage if the scenario is refused or the page can't be written.
+    `program` runs the scenario; without it the one that `Host` chooses. `failed` is a test that failed after the last
+    step, and `message` what it said: the page shows both. Raises FileNotFoundError if there is no such scenario, or the
+    viewer isn't installed, and NoPage if the scenario is refused or the page can't be written.
     """
     source = Path(scenario)
     if not source.exists():
         raise FileNotFoundError(errno.ENOENT, os.strerror(errno.ENOENT), os.fspath(scenario))
     target = source.with_suffix(".html") if page is None else Path(page)
     run = os.fspath(program or default())
-    lines = _output_of([run, "--json", "--explain=always", "--", os.fspath(source)])
+    lines = _output_of([run, "--json=trace+rows", "--explain=always", "--", os.fspath(source)])
     with tempfile.TemporaryDirectory() as room:
         lines_file = Path(room, source.stem + ".lines")
         lines_file.write_bytes(lines)
-        titled = ["--title", source.stem if title is None else title]
-        _output_of([*_viewer(run), "-o", os.fspath(target), *titled, os.fspath(lines_file), os.fspath(source)])
+        words = [f"--output={os.fspath(target)}", f"--title={source.stem if title is None else title}"]
+        words += [] if failed is None else [f"--failed={failed}", f"--message={message}"]
+        files = [os.fspath(lines_file)] if lines else [os.fspath(lines_file), os.fspath(source)]  # for a run without steps
+        _output_of([*_viewer(run), *words, "--", *files])
     return target
 
 

@@ -21,7 +21,8 @@ pub enum Error {
     NoText,
     /// The user has had 2^64 - 1 answers.
     TooMany,
-    /// The step was made, and can't be recorded: [`Session::record_error`](crate::Session::record_error) says why.
+    /// The step was made, and can't be recorded: [`Session::record_error`](crate::Session::record_error) says why. The
+    /// session has ended, and its later calls return this too.
     RecordingFailed,
 }
 
@@ -33,7 +34,8 @@ impl Error {
             sys::INVALID => Error::Invalid,
             sys::NO_TEXT => Error::NoText,
             sys::TOO_MANY => Error::TooMany,
-            _ => unreachable!("the library answers code {code}, and a session is open"),
+            sys::NOT_OPEN => Error::RecordingFailed, // which has closed it
+            _ => unreachable!("the library answers code {code}"),
         }
     }
 }
@@ -48,7 +50,7 @@ impl fmt::Display for Error {
             Error::NoMemory => f.pad("Out of memory, and no step is made"),
             Error::NoText => f.pad("Out of memory for the text of an answer"),
             Error::TooMany => f.pad("The user has had all its answers"),
-            Error::RecordingFailed => f.pad("The step was made, and can't be recorded"),
+            Error::RecordingFailed => f.pad("A step can't be recorded, and the session has ended"),
         }
     }
 }

@@ -33,14 +33,17 @@
 #[doc = include_str!("../README.md")]
 struct Readme;
 
+mod artifacts;
 mod error;
 mod flags;
 mod numbers;
 mod record;
+mod refusals;
 mod replies;
 mod session;
 mod steps;
 mod sys;
+pub mod test;
 mod view;
 
 pub use error::Error;

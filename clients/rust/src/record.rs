@@ -1,10 +1,11 @@
 //! A recording: a scenario that has the steps of a session, and its lines.
 
+use crate::artifacts::named;
 use crate::sys;
 use std::fs::File;
 use std::io::{self, Error, ErrorKind};
 use std::os::unix::fs::FileExt;
-use std::path::Path;
+use std::path::{Path, PathBuf};
 
 /// What closes a scenario.
 const END: &[u8] = b"\n]}\n";
@@ -20,7 +21,11 @@ struct Output {
 impl Output {
     fn create(path: &Path) -> io::Result<Output> {
         let file = File::create(path).map_err(|error| named(path, &error))?;
-        Ok(Output { file, kept: 0 })
+        Ok(Output::of(file))
+    }
+
+    fn of(file: File) -> Output {
+        Output { file, kept: 0 }
     }
 
     /// Writes `added`, which stays, and `end` after the bytes that stay. After an error the file ends as before.
@@ -47,38 +52,50 @@ impl Output {
     }
 }
 
-/// The error, with the file that it is about.
-fn named(path: &Path, error: &Error) -> Error {
-    Error::new(error.kind(), format!("{}: {error}", path.display()))
-}
-
 /// The files of a recording. The scenario is whole after each step, and the lines are those of its steps.
 #[derive(Debug)]
 pub struct Recording {
     scenario: Output,
     lines: Option<Output>,
-    has_steps: bool,
+    path: PathBuf,
+    steps: usize,
     process: u32,
 }
 
 impl Recording {
     /// Makes the files, or empties them.
     pub fn create(path: &Path, lines: Option<&Path>, kill_on_debugger_exit: bool) -> io::Result<Recording> {
-        let mut scenario = Output::create(path)?;
+        let scenario = Output::create(path)?;
         let lines = lines.map(Output::create).transpose()?;
-        let head = format!(
-            "{{\"kill_on_debugger_exit\":{},\"steps\":[",
-            u8::from(kill_on_debugger_exit)
-        );
+        Recording::begin(path, scenario, lines, kill_on_debugger_exit)
+    }
+
+    /// Begins in files that are empty; `path` is the scenario's.
+    pub fn of_files(path: &Path, scenario: File, lines: Option<File>, kills: bool) -> io::Result<Recording> {
+        Recording::begin(path, Output::of(scenario), lines.map(Output::of), kills)
+    }
+
+    fn begin(path: &Path, mut scenario: Output, lines: Option<Output>, kills: bool) -> io::Result<Recording> {
+        let head = format!("{{\"kill_on_debugger_exit\":{},\"steps\":[", u8::from(kills));
         scenario
             .add(head.as_bytes(), END)
             .map_err(|error| named(path, &error))?;
         Ok(Recording {
             scenario,
             lines,
-            has_steps: false,
+            path: path.to_owned(),
+            steps: 0,
             process: std::process::id(),
         })
+    }
+
+    /// How many steps it has.
+    pub fn steps(&self) -> usize {
+        self.steps
+    }
+
+    pub fn path(&self) -> &Path {
+        &self.path
     }
 
     /// Adds a step and the line of its answer. A step that was answered ENOMEM isn't part of a scenario, and the steps
@@ -92,7 +109,7 @@ impl Recording {
         if let Some(lines) = &mut self.lines {
             lines.add(format!("{line}\n").as_bytes(), b"")?;
         }
-        let between = if self.has_steps { ",\n" } else { "\n" };
+        let between = if self.steps > 0 { ",\n" } else { "\n" };
         if let Err(error) = self.scenario.add(format!("{between}{step}").as_bytes(), END) {
             if let Some(lines) = &mut self.lines {
                 lines.kept = before;
@@ -100,7 +117,7 @@ impl Recording {
             }
             return Err(error);
         }
-        self.has_steps = true;
+        self.steps += 1;
         Ok(())
     }
 }

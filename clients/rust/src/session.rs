@@ -1,6 +1,7 @@
 //! A session, and its calls.
 
 use crate::record::{self, Recording};
+use crate::refusals::{self, Rows};
 use crate::replies::{checked, new, reply};
 use crate::view::{Lwp, Process, View};
 use crate::{
@@ -42,6 +43,10 @@ pub struct Session {
     settings: Settings,
     recording: Option<Recording>,
     record_error: Option<io::Error>,
+    /// Whether the session goes on if a step can't be recorded.
+    is_test: bool,
+    /// Steps in the recording, also once it has ended.
+    recorded: usize,
 }
 
 impl Session {
@@ -64,6 +69,8 @@ impl Session {
             settings,
             recording: None,
             record_error: None,
+            is_test: false,
+            recorded: 0,
         }
     }
 
@@ -71,7 +78,7 @@ impl Session {
     ///
     /// The scenario is whole after each step: `tracehost scenario --expect lines` passes. A line that is refused, a step
     /// that is answered ENOMEM and the steps of a forked child aren't recorded. If a step can't be written, its call
-    /// returns [`Error::RecordingFailed`] though it was made, both files are as before, and recording ends.
+    /// returns [`Error::RecordingFailed`] though it was made, both files are as before, and the session has ended.
     ///
     /// # Errors
     ///
@@ -99,7 +106,17 @@ impl Session {
         Ok(())
     }
 
-    /// Why recording ended, if a call returned [`Error::RecordingFailed`].
+    /// Records a test. A step that can't be written is told, and the session goes on without a recording.
+    pub(crate) fn record_test(&mut self, recording: Recording) {
+        self.recording = Some(recording);
+        self.is_test = true;
+    }
+
+    pub(crate) fn recorded_steps(&self) -> usize {
+        self.recorded
+    }
+
+    /// Why a step couldn't be recorded, if a call returned [`Error::RecordingFailed`].
     pub fn record_error(&self) -> Option<&io::Error> {
         self.record_error.as_ref()
     }
@@ -115,11 +132,19 @@ impl Session {
         };
         match added {
             Ok(()) => {
+                self.recorded = recording.steps();
                 self.recording = Some(recording);
+                Ok(())
+            }
+            Err(error) if self.is_test => {
+                let (path, step) = (recording.path().display(), recording.steps() + 1);
+                eprintln!("tracehost: {path}: not recorded from step {step} on: {error}");
+                self.record_error = Some(error);
                 Ok(())
             }
             Err(error) => {
                 self.record_error = Some(error);
+                self.handle.close();
                 Err(Error::RecordingFailed)
             }
         }
@@ -317,6 +342,34 @@ impl Session {
         }
     }
 
+    /// Why the last step was answered by an errno, or held: the call, the answer, and the condition that held. None after
+    /// another answer; only the errno after a step that no line is ([`last_step`](Session::last_step)).
+    ///
+    /// ```
+    /// # fn main() -> Result<(), tracehost::Error> {
+    /// # use tracehost::{Caller, Request, Session};
+    /// let mut session = Session::new()?;
+    /// let debugger = Caller { user: 1001, pid: session.spawn(1001)?.pid };
+    /// let target = session.spawn(1001)?.pid;
+    /// session.ptrace(debugger, Request::Attach, target)?;
+    /// assert!(session.ptrace(debugger, Request::Continue(None), target).is_err());
+    /// let why = "ptrace(PT_CONTINUE, 1001) by 1000: EBUSY, no wait has reported the stop of 1001";
+    /// assert_eq!(session.explain()?.as_deref(), Some(why));
+    /// # Ok(())
+    /// # }
+    /// ```
+    pub fn explain(&self) -> Result<Option<String>, Error> {
+        let line = self.last_line()?;
+        let Some(answer) = refusals::refusal(&line) else {
+            return Ok(None);
+        };
+        let Some(step) = self.last_step()? else {
+            return Ok(Some(answer.to_owned()));
+        };
+        let (processes, lwps) = self.rows(refusals::user(&step))?;
+        Ok(Some(refusals::explanation(&step, answer, &Rows { processes, lwps })))
+    }
+
     /// The user's processes and LWPs at this moment. It makes no step.
     ///
     /// ```no_run
@@ -332,6 +385,14 @@ impl Session {
     /// # }
     /// ```
     pub fn view(&self, user: u32) -> Result<View, Error> {
+        let (processes, lwps) = self.rows(user)?;
+        Ok(View {
+            processes: processes.iter().map(Process::from).collect(),
+            lwps: lwps.iter().map(Lwp::from).collect(),
+        })
+    }
+
+    fn rows(&self, user: u32) -> Result<(Vec<sys::Process>, Vec<sys::Lwp>), Error> {
         let (mut processes, mut lwps) = (Vec::new(), Vec::new());
         loop {
             let (code, [processes_length, lwps_length]) = self.handle.view(user, &mut processes, &mut lwps);
@@ -339,10 +400,7 @@ impl Session {
                 return Err(Error::of_code(code));
             }
             if processes.len() == processes_length && lwps.len() == lwps_length {
-                return Ok(View {
-                    processes: processes.iter().map(Process::from).collect(),
-                    lwps: lwps.iter().map(Lwp::from).collect(),
-                });
+                return Ok((processes, lwps));
             }
             processes.resize(processes_length, sys::Process::default());
             lwps.resize(lwps_length, sys::Lwp::default());

@@ -1,12 +1,16 @@
 //! The calls of `tracehost.h`, and the only unsafe code of this crate: a [`Handle`] is open from [`Handle::open`] until
-//! it is dropped, and is used by one thread at a time.
+//! it is closed or dropped, and is used by one thread at a time. Calls of a closed handle return [`NOT_OPEN`].
 #![allow(unsafe_code)]
 
 use std::cell::UnsafeCell;
 use std::ffi::{c_int, c_void};
+use std::fs::File;
+use std::io;
+use std::os::fd::AsRawFd;
 
 /// The code of a call that was answered.
 pub const ANSWERED: u32 = 0;
+pub const NOT_OPEN: u32 = 1;
 pub const NO_MEMORY: u32 = 2;
 pub const INVALID: u32 = 3;
 pub const NO_TEXT: u32 = 4;
@@ -155,7 +159,25 @@ extern "C" {
 pub const EFBIG: i32 = 27;
 
 extern "C" {
+    fn flock(file: c_int, operation: c_int) -> c_int;
     fn getrlimit(resource: c_int, limit: *mut [u64; 2]) -> c_int;
+}
+
+/// The flag of open(2): a symbolic link isn't followed.
+pub const O_NOFOLLOW: c_int = 0o400_000;
+
+/// Locks a file while it is open; false if it is locked otherwise.
+pub fn lock(file: &File) -> io::Result<bool> {
+    const LOCK_EX: c_int = 2;
+    const LOCK_NB: c_int = 4;
+    // SAFETY: flock(2) takes two numbers, and the file is open.
+    if unsafe { flock(file.as_raw_fd(), LOCK_EX | LOCK_NB) } == 0 {
+        return Ok(true);
+    }
+    match io::Error::last_os_error() {
+        error if error.kind() == io::ErrorKind::WouldBlock => Ok(false),
+        error => Err(error),
+    }
 }
 
 /// The most bytes that a file may get, by RLIMIT_FSIZE of getrlimit(2).
@@ -189,7 +211,7 @@ impl Handle {
     /// Copies the session; else the code.
     pub fn copy(&self) -> Result<Handle, u32> {
         let mut raw = Raw::CLOSED;
-        // SAFETY: this handle is open, `raw` is a closed one that nothing else uses, and no other call is being made.
+        // SAFETY: `raw` is a closed handle that nothing else uses, and no other call is being made.
         match unsafe { tracehost_copy(self.0.get(), &mut raw) } {
             ANSWERED => Ok(Handle(UnsafeCell::new(raw))),
             code => Err(code),
@@ -200,7 +222,7 @@ impl Handle {
     pub fn line(&mut self, json: bool, line: &[u8], out: &mut [u8]) -> (u32, usize) {
         let mut length = 0;
         let (room, size) = (out.as_mut_ptr(), out.len());
-        // SAFETY: the handle is open, no other call is being made, and both slices and `length` are disjoint.
+        // SAFETY: no other call is being made, and both slices and `length` are disjoint.
         let code = unsafe { tracehost_line(self.0.get(), json, line.as_ptr(), line.len(), room, size, &mut length) };
         (code, length)
     }
@@ -209,7 +231,7 @@ impl Handle {
     pub fn last_line(&self, json: bool, out: &mut [u8]) -> (u32, usize) {
         let mut length = 0;
         let (room, size) = (out.as_mut_ptr(), out.len());
-        // SAFETY: the handle is open, no other call is being made, and the slice and `length` are disjoint.
+        // SAFETY: no other call is being made, and the slice and `length` are disjoint.
         let code = unsafe { tracehost_last_line(self.0.get(), json, room, size, &mut length) };
         (code, length)
     }
@@ -218,7 +240,7 @@ impl Handle {
     pub fn last_step(&self, out: &mut [u8]) -> (u32, usize) {
         let mut length = 0;
         let (room, size) = (out.as_mut_ptr(), out.len());
-        // SAFETY: the handle is open, no other call is being made, and the slice and `length` are disjoint.
+        // SAFETY: no other call is being made, and the slice and `length` are disjoint.
         let code = unsafe { tracehost_last_step(self.0.get(), room, size, &mut length) };
         (code, length)
     }
@@ -227,7 +249,7 @@ impl Handle {
     pub fn install(&mut self, user: u32, caller: u32, rules: &[Rule]) -> (u32, Reply) {
         let mut reply = Reply::default();
         let (first, count) = (rules.as_ptr(), rules.len());
-        // SAFETY: the handle is open, no other call is being made, and the slice and `reply` are disjoint.
+        // SAFETY: no other call is being made, and the slice and `reply` are disjoint.
         let code = unsafe { tracehost_install(self.0.get(), user, caller, first, count, &mut reply) };
         (code, reply)
     }
@@ -236,7 +258,7 @@ impl Handle {
     pub fn numbers(&self, out: &mut [u32]) -> (u32, usize) {
         let mut length = 0;
         let (room, size) = (out.as_mut_ptr(), out.len());
-        // SAFETY: the handle is open, no other call is being made, and the slice and `length` are disjoint.
+        // SAFETY: no other call is being made, and the slice and `length` are disjoint.
         let code = unsafe { tracehost_numbers(self.0.get(), room, size, &mut length) };
         (code, length)
     }
@@ -244,7 +266,7 @@ impl Handle {
     /// A user's rows. The code, and how many processes and LWPs there are; the slices have the first of them.
     pub fn view(&self, user: u32, processes: &mut [Process], lwps: &mut [Lwp]) -> (u32, [usize; 2]) {
         let (mut processes_length, mut lwps_length) = (0, 0);
-        // SAFETY: the handle is open, no other call is being made, and the slices and lengths are disjoint.
+        // SAFETY: no other call is being made, and the slices and lengths are disjoint.
         let code = unsafe {
             tracehost_view(
                 self.0.get(),
@@ -259,12 +281,17 @@ impl Handle {
         };
         (code, [processes_length, lwps_length])
     }
+
+    /// Ends the session.
+    pub fn close(&mut self) {
+        // SAFETY: no other call is being made, and closing a closed handle does nothing.
+        unsafe { tracehost_close(self.0.get()) };
+    }
 }
 
 impl Drop for Handle {
     fn drop(&mut self) {
-        // SAFETY: the handle is open, and this is its last call.
-        unsafe { tracehost_close(self.0.get()) };
+        self.close();
     }
 }
 
@@ -278,7 +305,7 @@ macro_rules! steps {
         impl Handle {
             $(pub fn $name(&mut self, user: u32, $($argument: $kind),*) -> (u32, Reply) {
                 let mut reply = Reply::default();
-                // SAFETY: the handle is open, no other call is being made, and `reply` is nobody else's.
+                // SAFETY: no other call is being made, and `reply` is nobody else's.
                 let code = unsafe { $symbol(self.0.get(), user, $($argument,)* &mut reply) };
                 (code, reply)
             })+

@@ -89,11 +89,25 @@ fn a_full_disk_leaves_a_whole_scenario() -> Result<(), Box<dyn std::error::Error
         Some(ENOSPC)
     );
     assert_eq!(steps_of(&scenario), Vec::<String>::new());
-    assert_eq!(session.last_line()?, "1001 1 new 1000 100000");
-    assert!(
-        session.spawn(USER).is_ok(),
-        "recording has ended, and the session goes on"
+    let caller = Caller { user: USER, pid: 1000 };
+    assert_eq!(
+        session.spawn(USER),
+        Err(Error::RecordingFailed),
+        "the session has ended"
     );
+    assert_eq!(session.list(caller), Err(Error::RecordingFailed));
+    assert_eq!(session.install(caller, &[]), Err(Error::RecordingFailed));
+    assert_eq!(
+        session.line("{\"user\":1001,\"op\":\"spawn\"}"),
+        Err(Error::RecordingFailed)
+    );
+    assert_eq!(session.last_line(), Err(Error::RecordingFailed));
+    assert_eq!(session.last_step(), Err(Error::RecordingFailed));
+    assert_eq!(session.view(USER).err(), Some(Error::RecordingFailed));
+    assert_eq!(session.try_clone().err(), Some(Error::RecordingFailed));
+    let late = session.record(&scenario, None).expect_err("the session has ended");
+    assert_eq!(late.kind(), ErrorKind::AlreadyExists);
+    assert_eq!(steps_of(&scenario), Vec::<String>::new());
     fs::remove_dir_all(folder)?;
     Ok(())
 }

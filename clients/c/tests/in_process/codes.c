@@ -11,12 +11,15 @@
 
 /* ---------------------------------------------------------------- the library */
 
+#pragma GCC diagnostic ignored "-Wunused-parameter"
+
 enum { LONG = 20000 };
 
 static const char NEW[] = "1001 1 new 1000 100000\n", SPAWN[] = "{\"user\":1001,\"op\":\"spawn\"}";
 static char text[LONG + 1];      /* what is answered */
 static uint32_t opening, making; /* what tracehost_open returns; what tracehost_spawn and tracehost_line return */
 static uint32_t lasting[3];      /* what tracehost_last_line returns, one after another */
+static uint32_t error;           /* what tracehost_spawn answers; 0 for a new process */
 static int lasts, lines, opened, closed;
 
 static void store(uint8_t *out, size_t size, size_t *length)
@@ -64,15 +67,22 @@ uint32_t tracehost_last_line(tracehost *h, bool json, uint8_t *out, size_t out_s
 
 uint32_t tracehost_spawn(tracehost *h, uint32_t user, tracehost_reply *reply)
 {
-    static const tracehost_reply made = {.kind = TRACEHOST_NEW, .pid = 1000, .lwp = 100000};
+    const tracehost_reply made = {.kind = TRACEHOST_NEW, .pid = 1000, .lwp = 100000};
+    const tracehost_reply refusal = {.kind = TRACEHOST_ERROR, .error = error};
     CHECK(h->tag != 0 && user == 1001);
     if (making == TRACEHOST_ANSWERED)
-        *reply = made;
+        *reply = error != 0 ? refusal : made;
     return making;
 }
 
+uint32_t tracehost_view(tracehost *h, uint32_t user, tracehost_process *processes, size_t processes_size, tracehost_lwp *lwps,
+                        size_t lwps_size, size_t *processes_length, size_t *lwps_length)
+{
+    CHECK(h->tag != 0 && user == 1001);
+    return TRACEHOST_NO_MEMORY;
+}
+
 /* these tests make no other step */
-#pragma GCC diagnostic ignored "-Wunused-parameter"
 #define NOT_CALLED(name, ...) \
     uint32_t tracehost_##name(tracehost *h, uint32_t user, uint32_t caller, __VA_ARGS__) \
     { \
@@ -207,6 +217,20 @@ static void long_answers(void)
     CHECK(th_close(h) == 0);
 }
 
+/* without memory for the rows each condition that is possible is told */
+static void explained(void)
+{
+    th_host *h = begin(TRACEHOST_ANSWERED, 0, 0, NEW);
+    error = TH_EAGAIN;
+    REFUSED(EAGAIN, spawn(h));
+    CHECK(strcmp(th_explain(h), "spawn() by user 1001: EAGAIN, user 1001 has 250 processes, or user 1001 has 1000 LWPs") == 0);
+    error = TH_ENOMEM;
+    REFUSED(ENOMEM, spawn(h));
+    CHECK(strcmp(th_explain(h), "spawn() by user 1001: ENOMEM, no memory is left") == 0);
+    error = 0;
+    CHECK(spawns(h) && th_explain(h)[0] == '\0' && th_close(h) == 0);
+}
+
 int main(void)
 {
     no_memory();
@@ -214,6 +238,7 @@ int main(void)
     refused();
     recorded();
     long_answers();
+    explained();
     CHECK(opened == closed);
     if (!failed)
         printf("the tests of codes passed\n");

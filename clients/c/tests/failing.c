@@ -1,0 +1,186 @@
+/*
+ * Tests that fail, or pass, in the ways that their names say. tests/python/test_failed_tests.py looks at what they leave.
+ *
+ *     failing PROGRAM CASE [NAME]
+ *
+ * Its status is 1 if a test failed, and 0 if all passed.
+ */
+#define _POSIX_C_SOURCE 200809L
+
+#include "session.h"
+
+#include <assert.h>
+#include <pthread.h>
+#include <signal.h>
+#include <stdio.h>
+#include <stdlib.h>
+#include <string.h>
+#include <sys/wait.h>
+#include <unistd.h>
+
+enum { USER = 1001, THREADS = 8 };
+
+static const char *program;
+
+static th_host *begin(const char *name)
+{
+    th_host *h = start_session(program, NULL);
+    if (h == NULL || th_test_begin(h, name) != 0)
+        abort();
+    return h;
+}
+
+/* A debugger that takes a SIGSEGV of its target for the end of a PT_STEP: 1 if its test passes. */
+static int attaches(th_host *h, int wanted)
+{
+    th_caller debugger = {USER, 0};
+    th_pid target;
+    th_lwpid lwp;
+    int status = 0;
+    th_spawn(h, USER, &debugger.pid, NULL);
+    th_spawn(h, USER, &target, &lwp);
+    th_ptrace(h, debugger, TH_PT_ATTACH, target, NULL, 0);
+    th_wait4(h, debugger, -1, &status, 0);
+    th_ptrace(h, debugger, TH_PT_STEP, target, NULL, 0);
+    th_turn_raise(h, USER, lwp, TH_SIGSEGV, NULL);
+    th_turn_compute(h, USER, lwp, NULL);
+    th_wait4(h, debugger, -1, &status, 0);
+    return TH_EXPECT(h, TH_WSTOPSIG(status) == wanted);
+}
+
+static int run(const char *name, int wanted)
+{
+    th_host *h = begin(name);
+    int failed = th_test_end(h, attaches(h, wanted));
+    return th_close(h) != 0 || failed;
+}
+
+static int passes(const char *name) { return run(name, TH_SIGSEGV); }
+
+static int fails(const char *name) { return run(name, TH_SIGTRAP); }
+
+static int twice(const char *name) { return fails(name) + fails(name) == 2; }
+
+static void *fails_in_a_thread(void *name) { return fails(name) ? name : NULL; }
+
+static int threads(const char *name)
+{
+    pthread_t all[THREADS];
+    void *failed = NULL;
+    int count = 0;
+    for (int i = 0; i < THREADS; i++)
+        if (pthread_create(&all[i], NULL, fails_in_a_thread, (void *)name) != 0)
+            abort();
+    for (int i = 0; i < THREADS; i++) {
+        pthread_join(all[i], &failed);
+        count += failed != NULL;
+    }
+    return count == THREADS;
+}
+
+/* The child goes on with a copy of the session, and fails; the parent passes. */
+static int forks(const char *name)
+{
+    th_host *h = begin(name);
+    int status;
+    pid_t child = fork();
+    if (child == 0)
+        _exit(th_test_end(h, attaches(h, TH_SIGTRAP)) ? 7 : 8);
+    waitpid(child, &status, 0);
+    int failed = th_test_end(h, attaches(h, TH_SIGSEGV) && WEXITSTATUS(status) == 7);
+    return th_close(h) != 0 || failed;
+}
+
+/* The child is ended by abort(3). */
+static int forks_and_aborts(const char *name)
+{
+    th_host *h = begin(name);
+    int status;
+    pid_t child = fork();
+    if (child == 0)
+        abort();
+    waitpid(child, &status, 0);
+    int failed = th_test_end(h, attaches(h, TH_SIGSEGV) && WIFSIGNALED(status));
+    return th_close(h) != 0 || failed;
+}
+
+static int aborts(const char *name)
+{
+    th_host *h = begin(name);
+    attaches(h, TH_SIGSEGV);
+    assert(h == NULL);
+    return 0;
+}
+
+static void *aborts_in_a_thread(void *host)
+{
+    assert(host == NULL);
+    return NULL;
+}
+
+/* The test that failed isn't the only one, and another thread aborts. */
+static int aborts_elsewhere(const char *name)
+{
+    th_host *h = begin(name), *other = begin("other");
+    pthread_t thread;
+    attaches(h, TH_SIGSEGV);
+    attaches(other, TH_SIGSEGV);
+    th_test_end(other, 1);
+    th_close(other);
+    pthread_create(&thread, NULL, aborts_in_a_thread, h);
+    pthread_join(thread, NULL);
+    return 0;
+}
+
+static void leave(int signal) { _exit(signal == SIGABRT ? 9 : 0); }
+
+/* The program does something with SIGABRT itself. */
+static int handles_abort(const char *name)
+{
+    struct sigaction own = {.sa_handler = leave};
+    sigaction(SIGABRT, &own, NULL);
+    return aborts(name);
+}
+
+static int closes(const char *name)
+{
+    th_host *h = begin(name);
+    attaches(h, TH_SIGSEGV);
+    return th_close(h) == 0;
+}
+
+static int no_step(const char *name)
+{
+    th_host *h = begin(name);
+    int failed = th_test_end(h, 0);
+    return th_close(h) != 0 || failed;
+}
+
+/* What begins too late, or ends without a beginning. */
+static int misuse(const char *name)
+{
+    th_host *h = start_session(program, NULL);
+    int is_wrong = th_test_end(h, 1) != 0 || th_test_end(h, 0) != 1;
+    th_spawn(h, USER, NULL, NULL);
+    errno = 0;
+    is_wrong |= th_test_begin(h, name) != -1 || errno != EBUSY;
+    th_close(h);
+    h = begin(name);
+    is_wrong |= th_test_begin(h, name) != -1 || th_record(h, "/nowhere/x", NULL) != -1 || th_test_end(h, 1) != 0;
+    return th_close(h) != 0 || is_wrong;
+}
+
+int main(int argc, char **argv)
+{
+    static const struct {
+        const char *name;
+        int (*run)(const char *name);
+    } cases[] = {{"passes", passes}, {"fails", fails}, {"twice", twice}, {"threads", threads}, {"forks", forks},
+        {"forks_and_aborts", forks_and_aborts}, {"aborts", aborts}, {"aborts_elsewhere", aborts_elsewhere},
+        {"handles_abort", handles_abort}, {"closes", closes}, {"no_step", no_step}, {"misuse", misuse}};
+    program = argc > 2 ? argv[1] : "";
+    for (size_t i = 0; argc > 2 && i < sizeof cases / sizeof cases[0]; i++)
+        if (strcmp(cases[i].name, argv[2]) == 0)
+            return cases[i].run(argc > 3 ? argv[3] : argv[2]);
+    return 2;
+}

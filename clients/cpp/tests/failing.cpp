@@ -1,0 +1,85 @@
+// Tests without a framework, in the ways that their names say. tests/python/test_failed_tests.py looks at what they leave.
+//
+//     failing CASE [NAME]
+//
+// Its status is 1 if a test failed, and 0 if all passed.
+#include <tracehost_test.hpp>
+
+#include "failing.hpp"
+
+#include <functional>
+#include <map>
+#include <stdexcept>
+#include <thread>
+
+namespace {
+
+int run(const std::string &name, std::uint32_t wanted)
+{
+    tracehost_test test(name);
+    if (signal_after_step(test) == wanted)
+        return 0;
+    test.fail("signal_after_step(test) == wanted", __FILE__, __LINE__);
+    return 1;
+}
+
+int passes(const std::string &name) { return run(name, sigsegv); }
+
+int fails(const std::string &name) { return run(name, sigtrap); }
+
+int twice(const std::string &name) { return fails(name) + fails(name) == 2; }
+
+int throws(const std::string &name)
+{
+    try {
+        tracehost_test test(name);
+        signal_after_step(test);
+        throw std::runtime_error("the debugger is lost");
+    } catch (const std::runtime_error &) {
+        return 1;
+    }
+}
+
+int threads(const std::string &name)
+{
+    std::vector<std::thread> all;
+    std::vector<int> failed(8);
+    for (int &one : failed)
+        all.emplace_back([&] { one = fails(name); });
+    for (std::thread &thread : all)
+        thread.join();
+    return std::count(failed.begin(), failed.end(), 1) == 8;
+}
+
+// The child goes on with a copy of the session, and fails; the parent passes.
+int forks(const std::string &name)
+{
+    int status = 0;
+    {
+        tracehost_test test(name);
+        const pid_t child = fork();
+        if (child != 0)
+            waitpid(child, &status, 0);
+        else if (signal_after_step(test) != sigtrap)
+            test.fail("the child");
+        if (child != 0)
+            return WEXITSTATUS(status) == 7 && signal_after_step(test) == sigsegv ? 0 : 1;
+    }
+    _exit(7); // the child, whose session is gone
+}
+
+int no_step(const std::string &name)
+{
+    tracehost_test test(name);
+    test.fail("before any step");
+    return 1;
+}
+
+} // namespace
+
+int main(int argc, char **argv)
+{
+    const std::map<std::string, std::function<int(const std::string &)>> cases = {{"passes", passes}, {"fails", fails},
+        {"twice", twice}, {"throws", throws}, {"threads", threads}, {"forks", forks}, {"no_step", no_step}};
+    return argc < 2 ? 2 : cases.at(argv[1])(argv[argc > 2 ? 2 : 1]);
+}

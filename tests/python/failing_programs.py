@@ -1,0 +1,98 @@
+"""Test programs in C, C++ and Rust whose tests fail, or pass, in the ways that their names say; and what they leave."""
+
+from __future__ import annotations
+
+import json
+import os
+import re
+import resource
+import subprocess
+from collections.abc import Callable, Mapping
+from pathlib import Path
+from typing import NamedTuple
+
+import pytest
+from c_programs import HEADERS, STRICT, WARNINGS, compiled, output, sanitized
+from checking import TOP
+from client_programs import CLIENT, IN_PROCESS, SOURCE
+
+CPP = TOP / "clients/cpp/tests"
+SECONDS = 300
+EMBEDDED = re.compile(r'<script type="application/json" id="embedded">(.*?)</script>', re.DOTALL)
+
+
+class Ran(NamedTuple):
+    status: int
+    said: str
+    left: list[str]
+
+
+class Failing:
+    """A test program: the command for a case, and for one with another name."""
+
+    def __init__(self, name: str, command: Callable[[str, str | None], list[str]], stem: Callable[[str], str]) -> None:
+        self.name, self._command, self.stem = name, command, stem
+        self.environment: Mapping[str, str] = {}
+
+    def __call__(self, case: str, folder: Path | None, named: str | None = None, *, room: int = 0, **environment: str) -> Ran:
+        """Runs a case that leaves its files in the folder. `room` is the most bytes of a file, 0 for no limit."""
+        surroundings = {**os.environ, **self.environment, **environment}
+        surroundings.pop("TRACEHOST_ARTIFACTS", None)
+        if folder is not None:
+            surroundings["TRACEHOST_ARTIFACTS"] = str(folder)
+        limit = (lambda: resource.setrlimit(resource.RLIMIT_FSIZE, (room, room))) if room else None
+        ran = subprocess.run(
+            self._command(case, named), env=surroundings, cwd=TOP, stdin=subprocess.DEVNULL, stdout=subprocess.PIPE,
+            stderr=subprocess.STDOUT, timeout=SECONDS, check=False, preexec_fn=limit,
+        )  # fmt: skip
+        left = [] if folder is None or not folder.is_dir() else sorted(path.name for path in folder.iterdir())
+        return Ran(ran.returncode, ran.stdout.decode(errors="replace"), left)
+
+
+def in_c(room: Path, library: Path, program: Path, way: str) -> Failing:
+    flags = ["-std=c11", *WARNINGS, "-Wconversion", "-g", "-pthread", *sanitized(), "-I", CLIENT]
+    more = [*IN_PROCESS, SOURCE, library / "libtracehost.a"] if way == "in process" else [SOURCE]
+    made = compiled(room / f"c-{way.replace(' ', '-')}", *flags, CLIENT / "tests/failing.c", *more)
+    return Failing(f"c {way}", lambda case, named: [str(made), str(program), case, *([named] if named else [])], lambda case: case)
+
+
+def in_cpp(room: Path, library: Path) -> Failing:
+    flags = ["-std=c++17", *STRICT, "-g", "-pthread", *sanitized(), *HEADERS]
+    made = compiled(room / "cpp", *flags, CPP / "failing.cpp", library / "libtracehost.a", compiler="c++")
+    return Failing("cpp", lambda case, named: [str(made), case, *([named] if named else [])], lambda case: case)
+
+
+def in_gtest(room: Path, library: Path) -> Failing:
+    if not Path("/usr/include/gtest/gtest.h").exists():
+        pytest.skip("not installed: libgtest-dev")
+    words = ["-std=c++17", *STRICT, "-g", "-pthread", *sanitized(), *HEADERS, CPP / "failing_gtest.cpp"]
+    words += [library / "libtracehost.a", "-lgtest_main", "-lgtest"]
+    made = compiled(room / "gtest", *words, compiler="c++")
+    return Failing("gtest", lambda case, named: [str(made), f"--gtest_filter={case}"], lambda case: case)
+
+
+def in_catch2(room: Path, library: Path) -> Failing:
+    three, two = Path("/usr/include/catch2/catch_all.hpp"), Path("/usr/include/catch2/catch.hpp")
+    if not three.exists() and not two.exists():
+        pytest.skip("not installed: catch2")
+    words = ["-std=c++17", *STRICT, "-g", "-pthread", *sanitized(), *HEADERS, CPP / "failing_catch2.cpp"]
+    words += [library / "libtracehost.a", *(["-lCatch2Main", "-lCatch2"] if three.exists() else [])]
+    made = compiled(room / "catch2", *words, compiler="c++")
+    return Failing("catch2", lambda case, named: [str(made), case], lambda case: case)
+
+
+def in_rust(room: Path, library: Path) -> Failing:
+    environment = {"TRACEHOST_LIB_DIR": str(library), "CARGO_TARGET_DIR": str(room / "rust")}
+    words = ["cargo", "test", "--offline", "--quiet", "--test", "failing"]
+    said = output(*words, "--no-run", "--message-format=json", cwd=TOP / "clients/rust", environment=environment)
+    found = [json.loads(line).get("executable") for line in said.splitlines()]
+    made = next(path for path in found if path)
+    return Failing("rust", lambda case, named: [made, "--ignored", "--exact", case], lambda case: case)
+
+
+def page_of(path: Path) -> dict[str, object]:
+    """What a page was made from: its files, and the failure."""
+    found = EMBEDDED.search(path.read_text(encoding="utf-8"))
+    assert found
+    page: dict[str, object] = json.loads(found[1])
+    return page

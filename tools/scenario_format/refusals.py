@@ -1,0 +1,277 @@
+"""The tables of format/refusals.toml: why a step is refused, for the clients in Python, C, C++ and Rust."""
+
+from __future__ import annotations
+
+import ast
+import dataclasses
+import json
+import pathlib
+import tomllib
+
+from .tables import Format, wrapped
+
+
+@dataclasses.dataclass(frozen=True)
+class Condition:
+    """A condition. format/refusals.toml says what its fields are."""
+
+    name: str
+    answer: str
+    words: str
+    possible: str = ""
+    holds: str = ""
+    unseen: str = ""
+    never: str = ""
+
+
+@dataclasses.dataclass(frozen=True)
+class Call:
+    """A call, and its conditions in order."""
+
+    op: str
+    text: str
+    order: tuple[str, ...]
+    only: str = ""
+
+    def request(self, refusals: Refusals) -> int:
+        """The number of its request; -1 for any."""
+        return refusals.numbers[self.only] if self.only else -1
+
+
+@dataclasses.dataclass(frozen=True)
+class Refusals:
+    """All calls and conditions, and the numbers that expressions name."""
+
+    calls: tuple[Call, ...]
+    conditions: tuple[Condition, ...]
+    requests: dict[str, int]
+    numbers: dict[str, int]
+    sets: dict[str, tuple[int, ...]]
+
+    @classmethod
+    def read(cls, path: pathlib.Path, form: Format) -> Refusals:
+        with path.open("rb") as file:
+            found = tomllib.load(file)
+        groups: dict[str, list[str]] = found["groups"]
+        calls = []
+        for row in found["call"]:
+            order = [name for entry in row["order"] for name in groups.get(entry, [entry])]
+            calls.append(Call(row["op"], row["text"], tuple(order), row.get("request", "")))
+        conditions = tuple(Condition(**row) for row in found["condition"])
+        named = {condition.name for condition in conditions}
+        asked = {name for call in calls for name in call.order}
+        requests = {request.name: request.bit for request in form.requests}
+        assert named == asked, f"conditions and orders differ in {sorted(named ^ asked)}"
+        assert {call.only for call in calls} <= {"", *requests}, f"{path.name} names a request that isn't there"
+        sets = {
+            "SIGNAL_REQUESTS": tuple(request.bit for request in form.requests if request.data == "signal"),
+            "DATA_REQUESTS": tuple(request.bit for request in form.requests if request.data not in (None, "ignored")),
+        }
+        return cls(tuple(calls), conditions, requests, {**found["numbers"], **requests}, sets)
+
+
+@dataclasses.dataclass(frozen=True)
+class Language:
+    """How a language writes an expression: an argument, a call of a function of rows, and the words between."""
+
+    argument: str
+    function: str
+    both: str = " && "
+    either: str = " || "
+    negated: str = "!"
+
+    def expression(self, text: str, refusals: Refusals) -> str:
+        return self._of(ast.parse(text, mode="eval").body, refusals, False)
+
+    def _of(self, node: ast.expr, refusals: Refusals, is_part: bool) -> str:
+        if isinstance(node, ast.BoolOp):
+            between = self.both if isinstance(node.op, ast.And) else self.either
+            return self._joined([self._of(value, refusals, True) for value in node.values], between, is_part)
+        if isinstance(node, ast.Compare):
+            return self._comparison(node, refusals, is_part)
+        if isinstance(node, ast.UnaryOp) and isinstance(node.op, ast.Not):
+            inner = self._of(node.operand, refusals, False)
+            return self.negated + (inner if isinstance(node.operand, ast.Call) else f"({inner})")
+        if isinstance(node, ast.UnaryOp) and isinstance(node.op, ast.USub):
+            return f"-{self._of(node.operand, refusals, True)}"
+        if isinstance(node, ast.Constant):
+            return str(node.value)
+        if isinstance(node, ast.Name):
+            number = refusals.numbers.get(node.id)
+            return self.argument.format(node.id) if number is None else str(number)
+        assert isinstance(node, ast.Call) and isinstance(node.func, ast.Name), ast.dump(node)
+        arguments = [self._of(argument, refusals, False) for argument in node.args]
+        return self.function.format(node.func.id, ", ".join(arguments)).replace("(r, )", "(r)")
+
+    def _comparison(self, node: ast.Compare, refusals: Refusals, is_part: bool) -> str:
+        terms = [node.left, *node.comparators]
+        if isinstance(node.ops[0], ast.In):
+            assert isinstance(terms[1], ast.Name)
+            term = self._of(terms[0], refusals, True)
+            return self._joined([f"{term} == {number}" for number in refusals.sets[terms[1].id]], self.either, is_part)
+        signs = {ast.Eq: "==", ast.NotEq: "!=", ast.Lt: "<", ast.LtE: "<=", ast.Gt: ">", ast.GtE: ">="}
+        written = [self._of(term, refusals, True) for term in terms]
+        parts = [f"{left} {signs[type(op)]} {right}" for left, op, right in zip(written, node.ops, written[1:])]
+        return self._joined(parts, self.both, is_part)
+
+    @staticmethod
+    def _joined(parts: list[str], between: str, is_part: bool) -> str:
+        text = between.join(parts)
+        return f"({text})" if is_part and len(parts) > 1 else text
+
+
+PYTHON = Language("a.{}", "r.{}({})", " and ", " or ", "not ")
+C = Language("a->{}", "{}(r, {})")
+CPP = Language("a.{}", "r.{}({})")
+RUST = CPP
+
+
+def in_cases(refusals: Refusals, language: Language, field: str, case: str) -> str:
+    """A case for each condition that has this expression."""
+    found = [(condition.name, getattr(condition, field)) for condition in refusals.conditions]
+    return "".join(case.format(name.upper(), language.expression(text, refusals)) for name, text in found if text)
+
+
+# ---- Python
+
+
+def python_conditions(refusals: Refusals) -> str:
+    lines = []
+    for condition in refusals.conditions:
+        possible = PYTHON.expression(condition.possible or "True", refusals)
+        holds = PYTHON.expression(condition.holds or "True", refusals)
+        more = f", unseen={json.dumps(condition.unseen)}" if condition.unseen else ""
+        more += f", never={json.dumps(condition.never)}" if condition.never else ""
+        words = ", ".join(map(json.dumps, (condition.name, condition.answer, condition.words)))
+        lines.append(f"    Condition({words}, lambda a: {possible}, lambda a, r: {holds}{more}),\n")
+    return f"CONDITIONS = (\n{''.join(lines)})\n"
+
+
+def python_calls(refusals: Refusals) -> str:
+    calls = ""
+    for call in refusals.calls:
+        order = ", ".join(map(json.dumps, call.order))
+        calls += f'    Call("{call.op}", {call.request(refusals)}, "{call.text}", ({order},)),\n'
+    return f"CALLS = (\n{calls})\n"
+
+
+def python_sets(refusals: Refusals) -> str:
+    """The requests that pass their data on as a signal, and those that have a use for it."""
+    return "".join(f"{name} = {numbers}\n" for name, numbers in refusals.sets.items())
+
+
+# ---- C
+
+
+def as_it_is(text: str) -> str:
+    return f"/* clang-format off */\n{text}/* clang-format on */\n"
+
+
+def c_enumerators(refusals: Refusals) -> str:
+    items = [f"THP_{condition.name.upper()}, " for condition in refusals.conditions]
+    lines = wrapped([*items[:-1], items[-1].rstrip(", ")], 116, "    ", "    ")
+    return as_it_is("enum thp_condition {\n" + "".join(line.rstrip() + "\n" for line in lines) + "};\n")
+
+
+def c_conditions(refusals: Refusals) -> str:
+    """The answers and the words of the conditions, and what arguments say of them."""
+    rows = "".join(f'    {{"{condition.answer}", "{condition.words}"}},\n' for condition in refusals.conditions)
+    cases = in_cases(refusals, C, "possible", "    case THP_{}: return {};\n")
+    return as_it_is(
+        f"static const struct condition CONDITIONS[] = {{\n{rows}}};\n\n"
+        "static int is_possible(enum thp_condition condition, const struct thp_asked *a)\n"
+        f"{{\n    switch (condition) {{\n{cases}    default: return 1;\n    }}\n}}\n"
+    )
+
+
+def sets_as_functions(refusals: Refusals, function: str) -> str:
+    """Which requests pass their data on as a signal, and which have a use for it."""
+    bare = Language("{}", "{}({})")
+    return "".join(
+        function.format(name, bare.expression(f"request in {numbers}", refusals))
+        for name, numbers in {"passes_signal": "SIGNAL_REQUESTS", "takes_data": "DATA_REQUESTS"}.items()
+    )
+
+
+def c_sets(refusals: Refusals) -> str:
+    return as_it_is(sets_as_functions(refusals, "static int {}(int64_t request) {{ return {}; }}\n"))
+
+
+def c_calls(refusals: Refusals) -> str:
+    orders, calls = "", ""
+    for n, call in enumerate(refusals.calls):
+        names = ", ".join(f"THP_{name.upper()}" for name in call.order)
+        orders += f"static const enum thp_condition ORDER_{n}[] = {{{names}}};\n"
+        calls += f'    {{THP_{call.op.upper()}, {call.request(refusals)}, "{call.text}", ORDER_{n}, COUNT(ORDER_{n})}},\n'
+    return as_it_is(f"{orders}static const struct call ASKED_CALLS[] = {{\n{calls}}};\n")
+
+
+def c_holds(refusals: Refusals) -> str:
+    cases = in_cases(refusals, C, "holds", "    case THP_{}: return {};\n")
+    return as_it_is(
+        "static int holds(enum thp_condition condition, const struct thp_asked *a, const struct rows *r)\n"
+        f"{{\n    switch (condition) {{\n{cases}    default: return 1;\n    }}\n}}\n"
+    )
+
+
+# ---- C++ and Rust
+
+
+def cpp_tables(refusals: Refusals) -> str:
+    conditions = ""
+    for condition in refusals.conditions:
+        possible = CPP.expression(condition.possible or "True", refusals).replace("True", "true")
+        holds = CPP.expression(condition.holds or "True", refusals).replace("True", "true")
+        asked = "a" if "a." in possible else ""
+        argument, rows = "a" if "a." in holds else "", "r" if "r." in holds else ""
+        conditions += (
+            f'    static const condition {condition.name} = {{"{condition.answer}", "{condition.words}",\n'
+            f"        [](const asked &{asked}) {{ return {possible}; }},\n"
+            f"        [](const asked &{argument}, const rows &{rows}) {{ return {holds}; }}}};\n"
+        )
+    calls = "".join(
+        f'        {{"{call.op}", {call.request(refusals)}, "{call.text}", {{{", ".join(f"&{name}" for name in call.order)}}}}},\n'
+        for call in refusals.calls
+    )
+    return f"{conditions}    static const std::vector<call> made = {{\n{calls}    }};\n"
+
+
+def cpp_sets(refusals: Refusals) -> str:
+    return sets_as_functions(refusals, "inline bool {}(std::int64_t request) {{ return {}; }}\n")
+
+
+def cpp_requests(refusals: Refusals) -> str:
+    rows = wrapped([f'{{"{name}", {number}}}, ' for name, number in refusals.requests.items()], 116, "        ", "        ")
+    return (
+        "    static const std::vector<std::pair<std::string, std::int64_t>> requests = {\n"
+        + "".join(line.rstrip() + "\n" for line in rows)
+        + "    };\n"
+    )
+
+
+def rust_requests(refusals: Refusals) -> str:
+    return "".join(f'        "{name}" => {number},\n' for name, number in refusals.requests.items())
+
+
+def rust_sets(refusals: Refusals) -> str:
+    """The requests that pass their data on as a signal, and those that have a use for it."""
+    return "".join(f"pub const {name}: &[i64] = &{list(numbers)};\n" for name, numbers in refusals.sets.items())
+
+
+def rust_tables(refusals: Refusals) -> str:
+    conditions = ""
+    for condition in refusals.conditions:
+        possible = RUST.expression(condition.possible or "True", refusals).replace("True", "true")
+        holds = RUST.expression(condition.holds or "True", refusals).replace("True", "true")
+        asked = "a" if "a." in possible else "_"
+        argument, rows = "a" if "a." in holds else "_", "r" if "r." in holds else "_"
+        conditions += (
+            f"static {condition.name.upper()}: Condition = Condition {{\n"
+            f'    answer: "{condition.answer}", words: "{condition.words}",\n'
+            f"    possible: |{asked}| {possible}, holds: |{argument}, {rows}| {holds},\n}};\n"
+        )
+    calls = ""
+    for call in refusals.calls:
+        order = ", ".join(f"&{name.upper()}" for name in call.order)
+        calls += f'    Call {{ op: "{call.op}", request: {call.request(refusals)}, text: "{call.text}", order: &[{order}] }},\n'
+    return f"{conditions}\npub static CALLS: &[Call] = &[\n{calls}];\n"
