@@ -94,5 +94,5 @@ def test_a_tool_is_started_on_the_process_that_fails(posix: Posix, tmp_path: Pat
     tool, printed = tmp_path / "tool", tmp_path / "tool.out"
     tool.write_text(f'#!/bin/sh\ngrep State: "/proc/$1/status" >{printed}\n')
     tool.chmod(0o755)
-    posix.run("--with", tool, "--switches", "100000.36:100001", posix.race("lost_wakeup"))
+    posix.run("--with", tool, "--switches", "100000.60:100001", posix.race("lost_wakeup"))
     assert printed.read_text().startswith("State:")

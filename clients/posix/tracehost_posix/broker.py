@@ -154,7 +154,7 @@ class Broker:
             schedule = f"pct {task.seed} {task.depth} {task.length}"
         else:
             schedule = f"seed {task.seed} {int(self.setting.early)}"
-        wants += "c" * self.setting.options.coverage
+        wants += "c" * self.setting.options.coverage + (f"p{task.points}" if task.points else "")
         line = f"{wants or '-'} {schedule}\n".encode()
         self._asked.append((task, len(line)))
         self._on_their_way += len(line)
@@ -226,7 +226,7 @@ class Broker:
     def run(self, task: Task, on_failure: Callable[[int], None] | None = None, places: bool = False) -> Outcome:
         """One run, with all that a record has of it."""
         self._dropped, self._on_failure = [], on_failure
-        self._write(self._line_of(task, "t" + "l" * places + "p" * task.points + "h" * (on_failure is not None)))
+        self._write(self._line_of(task, "t" + "l" * places + "h" * (on_failure is not None)))
         result = self._answered()
         return Outcome(result, self._answer.kept, self._printed(), self._answer.places, self._answer.blamed)
 
@@ -259,7 +259,7 @@ class Broker:
 
     def ask(self, tasks: Sequence[Task]) -> None:
         """More may be asked before the first is answered, as long as their lines fit the pipe."""
-        self._write(b"".join(self._line_of(task, "p" * task.points) for task in tasks))
+        self._write(b"".join(self._line_of(task, "") for task in tasks))
 
     def answers(self) -> Iterator[Result]:
         """The next answer, and those that are there already."""

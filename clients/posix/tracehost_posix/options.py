@@ -31,6 +31,15 @@ class _Print(argparse.Action):
         parser.exit()
 
 
+def _formatter(prog: str) -> argparse.HelpFormatter:
+    """For the terminal's width. argparse asks for it by the module shutil, at each option."""
+    try:
+        width = int(os.environ.get("COLUMNS") or os.get_terminal_size(1).columns)
+    except (OSError, ValueError):
+        width = 80
+    return argparse.HelpFormatter(prog, width=width - 2)
+
+
 class Parser(argparse.ArgumentParser):
     """A mistake is one line, with status 2."""
 
@@ -76,6 +85,7 @@ def parser() -> Parser:
     made = Parser(
         prog="tracehost-run",
         description="Runs a program of tracehost-cc on the model of FreeBSD's process tracing.",
+        formatter_class=_formatter,
         allow_abbrev=False,
         add_help=False,
     )
