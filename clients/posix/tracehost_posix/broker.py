@@ -16,7 +16,7 @@ from . import record
 from .outcome import Answer, Outcome, Result, fault
 from .program import REFUSED, NotRunnable
 from .report import say_once
-from .setting import Broken, Setting, Task, text_of
+from .setting import Broken, Died, Setting, Task, text_of
 
 AHEAD, ROOM = 64, 32768
 """The most schedules, and bytes of them, that are on their way: a pipe has room for twice as many bytes."""
@@ -140,7 +140,7 @@ class Broker:
         if not got:
             name = f"{self._asked[0][0].name()}: " if self._asked else ""
             status = self._wait()
-            raise Broken(f"{name}the broker has ended with status {status}")
+            raise Died(f"{name}the broker has ended with status {status}")
         *lines, self._text = (self._text + got).split(b"\n")
         self._lines.extend(line.decode("utf-8", "replace") for line in lines)
 
@@ -271,6 +271,10 @@ class Broker:
     def fileno(self) -> int:
         """This can be read when there is an answer."""
         return self._from
+
+    def unanswered(self) -> list[Task]:
+        """What it was asked and hasn't answered."""
+        return [*self._dropped, *(task for task, _ in self._asked)]
 
     def pids(self) -> list[int]:
         """The processes that live longer than a run."""

@@ -15,6 +15,14 @@ class Broken(Exception):
     """The run can't go on: the broker, the runtime or the host has failed, and nothing is known of the program."""
 
 
+class Died(Broken):
+    """The broker has ended, and hasn't said why: another one may run the schedule."""
+
+
+class Refused(Exception):
+    """A file that was named isn't one for this; the text says so."""
+
+
 class Options(NamedTuple):
     """What a run may do."""
 
