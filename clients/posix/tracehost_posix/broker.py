@@ -205,7 +205,8 @@ class Broker:
         self._on_their_way = 0
         self._write(b"on\n")
 
-    def _ask_again(self) -> None:
+    def ask_again(self) -> None:
+        """Asks for what it has passed over."""
         dropped, self._dropped = self._dropped, []
         self.ask(dropped)
 
@@ -245,7 +246,7 @@ class Broker:
             return
         more = True
         while more or self._asked or self._dropped:
-            self._ask_again()
+            self.ask_again()
             asked: list[Task] = []
             while more and len(self._asked) + len(asked) < AHEAD and self._on_their_way < ROOM:
                 task = next(tasks, None)
@@ -263,7 +264,7 @@ class Broker:
 
     def answers(self) -> Iterator[Result]:
         """The next answer, and those that are there already."""
-        self._ask_again()
+        self.ask_again()
         yield self._answered()
         while self._asked and any(line.startswith(_LAST) for line in self._lines):
             yield self._answered()

@@ -30,7 +30,7 @@ class Search:
         self._command, self._given = command, command.given
         self._tally = Tally()
         self._found: dict[str, Result] = {}
-        """Of what fails in this process, the first run of each kind."""
+        """The first failing runs, but not those that a ledger has."""
         self._task = Task()
         self._ended = ""
         """How a search under --preemptions has ended."""
@@ -57,7 +57,7 @@ class Search:
 
     def _heard(self, seed: int | None, result: Result) -> bool:
         new = self._tally.add(seed, result)
-        if result.why is not None:
+        if result.why is not None and self._tally.sums.failures[result.why].first == seed:
             self._found.setdefault(result.why, result)
         self._command.heard(seed, result)
         return new

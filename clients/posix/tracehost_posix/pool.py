@@ -181,9 +181,10 @@ class Direct(Worker):
 
     ahead = 16
 
-    def __init__(self, setting: Setting, processor: int, tells: bool) -> None:
+    def __init__(self, setting: Setting, processor: int, tells: bool, keeps_going: bool) -> None:
         super().__init__()
         self._broker, self._seat = seated(setting, processor, tells)
+        self._keeps_going = keeps_going
 
     def fileno(self) -> int:
         return self._broker.fileno()
@@ -193,7 +194,10 @@ class Direct(Worker):
 
     def receive(self) -> list[Union[Result, Exception]]:
         self._seat.look(self._broker.pids())
-        return list(self._broker.answers())
+        answers: list[Union[Result, Exception]] = list(self._broker.answers())
+        if self._keeps_going:
+            self._broker.ask_again()
+        return answers
 
     def close(self) -> None:
         self._broker.close()
@@ -309,7 +313,7 @@ class Pool:
         processor, tells = self._processors[place % len(self._processors)], place == 0
         worker: Worker
         if not (self._digest or self._setting.verify):
-            worker = Direct(self._setting, processor, tells)
+            worker = Direct(self._setting, processor, tells, self._keeps_going)
         else:
             worker = Forked(self._setting, self._digest, self._workers, processor, tells)
         self._workers.insert(place, worker)
