@@ -30,6 +30,7 @@ def test_modules_are_compiled_where_they_are_installed(posix: Posix, tmp_path: P
     modules = {path.stem for path in folder.glob("*.py")}
     compiled = {path.name.partition(".")[0] for path in folder.glob("__pycache__/*.pyc")}
     assert "command" in modules and compiled == (set() if staged else modules)
+    assert (folder.parent / "tracehost-run").read_text().startswith(f"#!{sys.executable} -S\n")
 
 
 @pytest.mark.parametrize("source", SOURCES)
