@@ -148,7 +148,7 @@ COMMANDS = {
 OFFERED_BY = [
     ("tracehost-view -", "--help --output --title --version -h -o -t"),
     ("tracehost-perfetto -", "--help --output --version -h -o"),
-    ("tracehost-run --s", "--schedules --seed --sleeps --strategy --strict --switches"),
+    ("tracehost-run --s", "--schedules --seed --seeds --sleeps --strategy --strict --switches"),
     ("tracehost-run --e", ""),  # --expect is another command's
     ("tracehost-run --strategy ", "random pct"),
     ("tracehost-run --kill-on-debugger-exit = ", "0 1"),

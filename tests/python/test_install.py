@@ -243,7 +243,7 @@ def test_a_race(installed: Installed) -> None:
         f"tracehost-cc -g -o lost_wakeup '{races}/lost_wakeup.c' &&"
         " tracehost-run --schedules 300 --record run.json ./lost_wakeup; test $? -eq 1"
     )
-    assert "tracehost-run: of its 2 switches 1 is enough: --switches 100000.61:100001" in said
+    assert "tracehost-run: of its 4 switches 1 is enough: --switches 100000.60:100001" in said
     assert installed.shell("tracehost --expect run.json.lines run.json") == ""
     assert installed.place.read(f"{installed.room}/run.json.html").rstrip().endswith("</html>")
 

@@ -196,7 +196,7 @@ def test_a_race_by_the_runtime_of_a_wheel(with_runtime: Environment, tmp_path: P
     commands, made, record = with_runtime.bin, tmp_path / "lost_wakeup", tmp_path / "run.json"
     run([commands / "tracehost-cc", "-g", "-o", made, TOP / "clients/posix/races/lost_wakeup.c"], tmp_path)
     said = run([commands / "tracehost-run", "--jobs", "2", "--schedules", "300", "--record", record, made], tmp_path, status=1)
-    assert "tracehost-run: of its 2 switches 1 is enough: --switches 100000.61:100001\n" in said
+    assert "tracehost-run: of its 4 switches 1 is enough: --switches 100000.60:100001\n" in said
     assert Path(f"{record}.html").read_text(encoding="utf-8").rstrip().endswith("</html>")
     assert run([commands / "tracehost", "--expect", f"{record}.lines", record], tmp_path) == ""
     assert "goes as recorded" in run([commands / "tracehost-run", "--replay", record, made], tmp_path, status=1)

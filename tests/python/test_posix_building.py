@@ -2,6 +2,7 @@
 
 from __future__ import annotations
 
+import sys
 from pathlib import Path
 
 import pytest
@@ -18,6 +19,18 @@ def test_the_runtime_and_the_broker_have_no_warning(posix: Posix, tmp_path: Path
     done = posix.execute("make", "-s", "-C", POSIX, f"build={tmp_path}", "WERROR=-Werror")
     assert (done.returncode, done.stderr) == (0, "")
     assert (tmp_path / "libtracehost-posix.a").exists() and (tmp_path / "tracehost-broker").exists()
+
+
+@pytest.mark.parametrize("staged", [False, True])
+def test_modules_are_compiled_where_they_are_installed(posix: Posix, tmp_path: Path, staged: bool) -> None:
+    words = [f"DESTDIR={tmp_path / 'stage'}", "PREFIX=/usr"] if staged else [f"PREFIX={tmp_path / 'stage' / 'usr'}"]
+    done = posix.execute("make", "-s", "-C", POSIX, "install", f"PYTHON={sys.executable}", *words)
+    assert (done.returncode, done.stderr) == (0, "")
+    folder = tmp_path / "stage/usr/lib/tracehost-posix/tracehost_posix"
+    modules = {path.stem for path in folder.glob("*.py")}
+    compiled = {path.name.partition(".")[0] for path in folder.glob("__pycache__/*.pyc")}
+    assert "command" in modules and compiled == (set() if staged else modules)
+    assert (folder.parent / "tracehost-run").read_text().startswith(f"#!{sys.executable} -S\n")
 
 
 @pytest.mark.parametrize("source", SOURCES)

@@ -51,13 +51,6 @@ def test_truss_passes_with_sigint_at_any_time(posix: Posix) -> None:
 # ---- other strategies
 
 
-@pytest.mark.parametrize("name", RACES)
-def test_priorities_find_its_race(posix: Posix, name: str) -> None:
-    """By PCT; tracer_dies takes a thousand runs."""
-    done = posix.run("--jobs", JOBS, "--strategy", "pct", "--schedules", 2000, posix.race(name))
-    assert done.returncode == 1, done.stderr
-
-
 def test_one_preemption_is_enough_for_the_lost_wakeup(posix: Posix) -> None:
     done = posix.run("--preemptions", 1, posix.race("lost_wakeup"))
     assert done.returncode == 1, done.stderr
@@ -94,5 +87,5 @@ def test_a_tool_is_started_on_the_process_that_fails(posix: Posix, tmp_path: Pat
     tool, printed = tmp_path / "tool", tmp_path / "tool.out"
     tool.write_text(f'#!/bin/sh\ngrep State: "/proc/$1/status" >{printed}\n')
     tool.chmod(0o755)
-    posix.run("--with", tool, "--switches", "100000.36:100001", posix.race("lost_wakeup"))
+    posix.run("--with", tool, "--switches", "100000.60:100001", posix.race("lost_wakeup"))
     assert printed.read_text().startswith("State:")

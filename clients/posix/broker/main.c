@@ -4,10 +4,12 @@
  *     STAYS PROGRAM [ARGUMENT..]
  *
  * REQUESTS and ANSWERS are descriptors of pipes. OUTPUT is that of a file for what a run prints, or -1. If STAYS is 1 it
- * stays on the processor on which it begins. A request is a line of two parts. The first asks for more than the last line of the answer, or is `-`: t asks for the steps, p for the points
- * of choice, l for places, c for the calls at which another could go on, and with h the run halts if it fails. The second is a schedule: `plain`, `seed N EARLY`,
- * `pct N DEPTH LENGTH` or `switches LIST`. The broker answers a request as soon as it has run it. After a failure it ignores
- * all requests up to the line `on`. The answers are in outcome.c. `--calls` prints the table of calls. */
+ * stays on the processor on which it begins. A request is a line of two parts. The first asks for more than the last line of
+ * the answer, or is `-`: t asks for the steps, l for places, c for the calls at which another could go on, and with h the run
+ * halts if it fails. p and a number ask for so many points of choice, behind which the run is left. The second part is a
+ * schedule: `plain`, `seed N EARLY`, `pct N DEPTH LENGTH` or `switches LIST`. The broker answers a request as soon as it has
+ * run it. After a failure it ignores all requests up to the line `on`. The answers are in outcome.c. `--calls` prints the
+ * table of calls. */
 #include <errno.h>
 #include <fcntl.h>
 #include <poll.h>
@@ -106,10 +108,10 @@ static void read_switches(const char *text)
 /* Sets the schedule, and what is wanted. */
 static void read_request(char *line)
 {
-	char *wants = strsep(&line, " "), *name = strsep(&line, " ");
+	char *wants = strsep(&line, " "), *name = strsep(&line, " "), *points = strchr(wants, 'p');
 	int early = 1;
 	run.wants = (struct wants){.trace = strchr(wants, 't') != NULL,
-		.points = strchr(wants, 'p') != NULL,
+		.points = points != NULL ? atol(points + 1) : 0,
 		.places = strchr(wants, 'l') != NULL,
 		.covers = strchr(wants, 'c') != NULL,
 		.halts = strchr(wants, 'h') != NULL};

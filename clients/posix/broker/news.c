@@ -9,8 +9,6 @@ void nudge(struct process *p, int signal)
 	change(p->pid);
 	p->stops |= stops(signal);
 	p->chld_due |= signal == CHLD && (p->catches & BIT(CHLD) || p->tracer != 0);
-	for (size_t i = 0; i < p->lists.lwps.count; i++)
-		p->lists.lwps.at[i]->clean = false;
 	if (p->tracer != 0 ? !is_discarded(p, signal) : has(p->catches, signal) || !(has(p->ignored, signal) || has(DISCARDED, signal)))
 		p->maybe |= BIT(signal);
 }
@@ -59,8 +57,6 @@ void child_news(struct process *p, int code, int status)
 	bool tells = !silent && (code != BSD_CLD_CONTINUED || p->stops);
 	if (silent) {
 		receiver->chld_spurious = true;
-		for (size_t i = 0; i < receiver->lists.lwps.count; i++)
-			receiver->lists.lwps.at[i]->clean = false;
 		return;
 	}
 	if (receiver != NULL && tells)

@@ -25,7 +25,6 @@ BODY(hello)
 /* Into the call and out of it. If there is no room the model keeps the LWP in the call: until a process ends. */
 static reply made(struct lwp *l, int call)
 {
-	expect_others();
 	enter_call(l, call, 0, NULL);
 	for (;;) {
 		reply r = leave(l);
@@ -63,7 +62,6 @@ static bool has_no_room(struct lwp *l, int code, bool forks)
 		full = full || all_of_user(l->process, &numbers) >= MAX_PROCESSES;
 	if (!full)
 		return false;
-	expect_others();
 	bare_call(l, code);
 	say_error(EAGAIN);
 	return true;
@@ -215,7 +213,6 @@ BODY(foreign)
 BODY(exit_process)
 {
 	(void)call;
-	expect_others();
 	enter_call(l, TRACEHOST_EXIT, arguments[0], NULL);
 	l->process->told = arguments[0];
 	ended(l, leave(l).status);
@@ -277,7 +274,6 @@ void bare_call(struct lwp *l, int code)
 /* A call that never waits. */
 BODY(simple)
 {
-	expect_others();
 	bare_call(l, call->code != 0 ? call->code : (int)arguments[0]);
 	if (call->wakes & FILES)
 		change(IO);
@@ -336,7 +332,6 @@ BODY(join)
 BODY(stat_call)
 {
 	struct numbers numbers = {0};
-	expect_others();
 	bare_call(l, call->code);
 	reply r = step_of_call(l, (struct step){.op = LIST_PROCESSES, .actor = l->process->pid}, false);
 	if (r.kind == TRACEHOST_PIDS)

@@ -129,6 +129,8 @@ static bool note_point(const struct lwp *plain, long point)
 		count += is_other(i < can.count ? can.at[i] : asleep.at[i - can.count], plain);
 	if (count == 0)
 		return false;
+	if (run.points++ == run.wants.points)
+		repeats(); /* no more are wanted */
 	note("point %d %ld %d %llu", tid, point, forced, (unsigned long long)state_of(tid));
 	for (size_t i = 0; i < can.count + asleep.count; i++) {
 		const struct lwp *l = i < can.count ? can.at[i] : asleep.at[i - can.count];
@@ -269,14 +271,6 @@ struct lwp *next_lwp(void)
 	return NULL;
 }
 
-/* At how many of its next choices, up to `count`, the LWP that runs goes on for certain. */
-long stays_ahead(const struct lwp *l, long count)
-{
-	if (run.wants.points || l == NULL || l != run.current || l->yields)
-		return 0;
-	return schedule_ahead(l, l->points + 1, count);
-}
-
 /* ---- the steps that are kept */
 
 void keep_step(struct step s, const reply *r)
@@ -309,7 +303,6 @@ static void begin(void)
 	outcome_begin();
 	table_begin();
 	legs_begin();
-	turns_begin();
 	coverage_begin();
 	schedule_begin();
 	program_forget_output();

@@ -19,7 +19,8 @@ struct options { /* of all runs */
 extern struct options options;
 
 struct wants {
-	bool trace, points, places, made, halts, covers;
+	bool trace, places, made, halts, covers;
+	long points; /* so many */
 }; /* what an answer has besides its line */
 
 /* Of processes that have ended otherwise than with status 0, or killed, how: the host's numbers. */
@@ -42,7 +43,7 @@ struct run {
 	bool repeats; /* from here on it would only repeat another one */
 	bool has_status;
 	int status; /* of the first process */
-	long questions, choices, steps, passed, skipped, examined, idle_points, busy;
+	long questions, choices, steps, passed, skipped, examined, idle_points, busy, points;
 	uint64_t last_look;
 	/* these stay from run to run */
 	struct wants wants;
@@ -61,7 +62,6 @@ void await(struct lwp *l, int64_t until, int count, const int64_t *topics);
 #define AWAIT(l, until, ...) await(l, until, sizeof(int64_t[]){__VA_ARGS__} / sizeof(int64_t), (int64_t[]){__VA_ARGS__})
 _Noreturn void vanish(struct lwp *l); /* of the LWP at its turn, which has ended */
 struct lwp *next_lwp(void);
-long stays_ahead(const struct lwp *l, long count);
 void run_once(void);
 
 /* ---- coroutines.c */
@@ -135,8 +135,6 @@ void note_outcome(void);
 void note_plain_outcome(void);
 void forget_notes(void);
 void verdict(void);
-
-void turns_begin(void);
 
 /* ---- program.c */
 

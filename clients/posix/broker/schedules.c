@@ -8,8 +8,6 @@ struct schedule schedule;
 static struct twister choosing, staying, reporting;
 static bool draws_children; /* `reporting` has begun */
 static double often;
-static LIST(bool) drawn; /* choices to stay that were drawn ahead */
-static size_t n_taken;
 
 /* Of priorities. */
 static long n_choices;
@@ -51,7 +49,6 @@ void schedule_begin(void)
 {
 	static const double how_often[] = {0.02, 0.1, 0.3, 0.7};
 	draws_children = false;
-	drawn.count = n_taken = 0;
 	n_choices = 0, lowest = 0;
 	fallen.count = priorities.count = sleeps.count = 0;
 	if (schedule.strategy != SEEDED && schedule.strategy != PRIORITIES)
@@ -88,29 +85,9 @@ bool schedule_stays(const struct lwp *current, long point)
 	switch (schedule.strategy) {
 	case PLAIN: return true;
 	case SWITCHED: return given_at(current->tid, point) == NULL;
-	case SEEDED:
-		if (n_taken < drawn.count)
-			return drawn.at[n_taken++];
-		drawn.count = n_taken = 0;
-		return draw_stay();
+	case SEEDED: return draw_stay();
 	default: return false;
 	}
-}
-
-/* At how many of the choices from this one on, up to `count`, it would stay. */
-long schedule_ahead(const struct lwp *current, long point, long count)
-{
-	for (long place = 0; place < count; place++) {
-		if (schedule.strategy == PRIORITIES || given_at(current->tid, point + place) != NULL)
-			return place;
-		if (schedule.strategy != SEEDED)
-			continue;
-		if (n_taken + place == drawn.count)
-			APPEND(&drawn, draw_stay());
-		if (!drawn.at[n_taken + place])
-			return place;
-	}
-	return count;
 }
 
 /* The running LWP goes on until it waits; then the one that has waited longest. */

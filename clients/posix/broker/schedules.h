@@ -25,7 +25,6 @@ extern struct schedule schedule;
 
 void schedule_begin(void);
 bool schedule_stays(const struct lwp *current, long point);
-long schedule_ahead(const struct lwp *current, long point, long count);
 struct lwp *schedule_choose(const lwps *can, const lwps *asleep, const struct lwp *current, long point, struct lwp *plain);
 struct lwp *plain_choice(const lwps *can, const struct lwp *current);
 /* The given switch at this point, or NULL. */

@@ -30,7 +30,6 @@ BODY(kill_call)
 	struct process *targets[PROCESSES];
 	int64_t which = arguments[0], signal = arguments[1];
 	size_t count = 0;
-	expect_others();
 	enter(l, call->code, NULL);
 	reply r = step_of_call(l, (struct step){.op = SEND, .actor = l->process->pid, .a = signal, .which = which}, true);
 	for (EACH_PROCESS(p)) {
@@ -79,8 +78,6 @@ BODY(thr_kill)
 	struct process *p = l->process;
 	int64_t tid = arguments[0], signal = arguments[1];
 	p->chld_due |= signal == CHLD && p->catches & BIT(CHLD);
-	if (tid == l->tid && signal >= 1 && signal <= 31 && signal != KILL && !lands(l))
-		expect_others();
 	enter(l, call->code, NULL);
 	leave(l);
 	if (signal != 0 && lwp_of_process(p, tid) != NULL)
@@ -137,7 +134,6 @@ BODY(action)
 	const struct caught caught = {arguments[2], flags & 1, flags & 2, (signals)arguments[4] & every_signal};
 	if (how < 0 || how > 2)
 		broken("told %d action %lld", p->pid, (long long)how);
-	expect_others();
 	enter(l, call->code, NULL);
 	int place = find_awaited(p, signal);
 	if (place >= 0)
@@ -152,7 +148,6 @@ BODY(mask_call)
 {
 	signals old = l->mask, given = (signals)arguments[1] & every_signal;
 	const signals to[] = {old, old | given, old & ~given, given};
-	expect_others();
 	enter(l, call->code, NULL);
 	leave(l);
 	block(l, to[arguments[0] & 3] & ~UNBLOCKABLE);

@@ -132,7 +132,6 @@ struct lwp {
 	bool hosted; /* it waits in a call of the host's */
 	bool lost; /* a debugger has let it go on at address 0 */
 	bool cancelled, born; /* born: its next message is the hello of a new image */
-	bool clean; /* no signal was pending at its last turn, and none has come since */
 	int level, depth; /* how many questions wait for an answer; and how many did when its debugger made it step */
 	signals has_sent;
 	struct info sent[32], info; /* info: of the signal that it has last stopped for */

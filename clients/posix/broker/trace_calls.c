@@ -89,13 +89,6 @@ static void changed_by(struct process *caller, int64_t request, int64_t target, 
 		reap(&p, 1, data);
 }
 
-static void expect_call(const struct lwp *l, struct step s)
-{
-	const struct step steps[] = {
-		entry_of(l, TRACEHOST_OTHER, 26), s, act_of(l, TRACEHOST_LEAVE_CALL, 0), act_of(l, TRACEHOST_COMPUTE, 0)};
-	expect(l, steps, lands(l) ? 3 : 4);
-}
-
 /* A request that the model has. The last argument: the target is to go on at address 0. */
 BODY(ptrace_call)
 {
@@ -106,10 +99,6 @@ BODY(ptrace_call)
 	if (request == TRACEHOST_PT_CONTINUE)
 		set_to_step(l, &request, &target);
 	struct step s = step_of(l, request, target, data);
-	if (request == TRACEHOST_PT_TRACE_ME)
-		expect_call(l, s);
-	else
-		expect_others();
 	enter(l, call->code, NULL);
 	if (is_known) {
 		r = step_of_call(l, s, true);

@@ -17,63 +17,9 @@ struct step entry_of(const struct lwp *l, int call, uint32_t argument)
 	return (struct step){.op = TURN, .act = TRACEHOST_ENTER, .call = call, .actor = l->tid, .a = argument};
 }
 
-/* Steps of a call that come next for certain are counted as one decision: the schedule is asked at once whether it lets the
- * LWP go on at each of them (`ahead`). The call that has made its process a traced one doesn't land if its `compute` was
- * among them. There is one plan, which each call that has one replaces. No step is made before its turn. */
-enum { EXPECTED = 4 };
-static struct {
-	const struct lwp *of;
-	int count;
-	struct step at[EXPECTED];
-} plan, ahead;
-
-static bool is_same(const struct step *a, const struct step *b)
-{
-	return a->op == b->op && a->act == b->act && a->call == b->call && a->actor == b->actor && a->a == b->a && a->b == b->b &&
-		   a->which == b->which;
-}
-
-static void drop_first(struct step *at, int *count, int dropped)
-{
-	*count -= dropped;
-	memmove(at, at + dropped, *count * sizeof *at);
-}
-
-void expect(const struct lwp *l, const struct step *steps, int count)
-{
-	plan.of = l;
-	plan.count = l->clean && !(l->passed || l->injected.count || l->traps) ? count : 0;
-	memcpy(plan.at, steps, plan.count * sizeof *steps);
-}
-
-void expect_others(void) { plan.count = 0; }
-
-static void count_along(const struct step *s)
-{
-	int place = 0;
-	if (ahead.count > 0 && is_same(&ahead.at[0], s)) {
-		drop_first(ahead.at, &ahead.count, 1);
-		return;
-	}
-	ahead.count = 0;
-	while (place < plan.count && !is_same(&plan.at[place], s))
-		place++;
-	if (place == plan.count) {
-		plan.count = 0;
-		return;
-	}
-	drop_first(plan.at, &plan.count, place + 1);
-	ahead.count = plan.count > 0 && run.inside ? (int)stays_ahead(plan.of, plan.count) : plan.count;
-	memcpy(ahead.at, plan.at, ahead.count * sizeof ahead.at[0]);
-	drop_first(plan.at, &plan.count, ahead.count);
-}
-
-void turns_begin(void) { plan.count = ahead.count = 0; }
-
 /* Makes a step, and keeps it for the record unless it had no effect and was only a look. */
 reply make(struct step s, bool keep)
 {
-	count_along(&s);
 	reply r = look(s);
 	run.steps++;
 	if (keep && r.kind != TRACEHOST_HELD)
@@ -140,8 +86,6 @@ static void pass_over(struct lwp *l, int signal)
 		}
 	run.skipped++;
 	tracer->chld_spurious = true;
-	for (size_t i = 0; i < tracer->lists.lwps.count; i++)
-		tracer->lists.lwps.at[i]->clean = false;
 }
 
 /* Whether a SIGCHLD that is caught came only of stops that were passed over. */
@@ -273,12 +217,6 @@ static void before_turn(struct lwp *l, const struct step *wanted, struct met *me
 	}
 }
 
-static bool is_clean(const struct lwp *l, const struct step *s, const reply *r)
-{
-	return r->kind == TRACEHOST_OK &&
-		   (s->act == TRACEHOST_COMPUTE || s->act == TRACEHOST_LEAVE_CALL || (l->clean && s->act == TRACEHOST_ENTER));
-}
-
 /* Of a turn that hasn't done its act: whether it ends here. */
 static bool is_over(struct lwp *l, const reply *r, const struct how *how)
 {
@@ -321,7 +259,6 @@ reply turn(struct lwp *l, struct step wanted, struct how how)
 		struct step s = how.defers && l->traps ? act_of(l, TRACEHOST_RAISE, 0) : wanted;
 		bool probe = s.act == TRACEHOST_RAISE && s.a == 0;
 		reply r = make(s, !probe);
-		l->clean = is_clean(l, &s, &r);
 		if (probe && (r.kind == TRACEHOST_STOPPED || r.kind == TRACEHOST_CAUGHT || r.kind == TRACEHOST_ENDED))
 			keep_step(s, &r);
 		if (is_over(l, &r, &how))
@@ -414,7 +351,7 @@ bool lands(const struct lwp *l) { return l->process->tracer != 0 && !options.str
 /* Back in user mode, from a call that is over. */
 void back(struct lwp *l)
 {
-	l->lands = lands(l) && ahead.count == 0;
+	l->lands = lands(l);
 	if (!l->lands)
 		user(l);
 }

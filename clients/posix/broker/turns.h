@@ -49,9 +49,6 @@ reply make(struct step s, bool keep);
 void keep_step(struct step s, const reply *r);
 void unkeep(void);
 reply step_of_call(struct lwp *l, struct step s, bool keep); /* a step whose caller is the LWP's process */
-/* The steps that come next if nobody comes between: see turns.c. */
-void expect(const struct lwp *l, const struct step *steps, int count);
-void expect_others(void); /* those of another call */
 struct step act_of(const struct lwp *l, int act, uint32_t argument);
 struct step entry_of(const struct lwp *l, int call, uint32_t argument);
 

@@ -92,7 +92,6 @@ BODY(wait_call)
 	uint32_t bits = arguments[1];
 	struct step s = {.op = WAIT4, .actor = l->process->pid, .a = bits & OPTIONS, .which = arguments[0]};
 	reply r;
-	expect_others();
 	enter(l, call->code, NULL);
 	for (;;) {
 		r = taken(l, s, bits & TRACEHOST_WUNTRACED);

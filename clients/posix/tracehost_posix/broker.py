@@ -16,7 +16,7 @@ from . import record
 from .outcome import Answer, Outcome, Result, fault
 from .program import REFUSED, NotRunnable
 from .report import say_once
-from .setting import Broken, Setting, Task, text_of
+from .setting import Broken, Died, Setting, Task, text_of
 
 AHEAD, ROOM = 64, 32768
 """The most schedules, and bytes of them, that are on their way: a pipe has room for twice as many bytes."""
@@ -140,7 +140,7 @@ class Broker:
         if not got:
             name = f"{self._asked[0][0].name()}: " if self._asked else ""
             status = self._wait()
-            raise Broken(f"{name}the broker has ended with status {status}")
+            raise Died(f"{name}the broker has ended with status {status}")
         *lines, self._text = (self._text + got).split(b"\n")
         self._lines.extend(line.decode("utf-8", "replace") for line in lines)
 
@@ -154,7 +154,7 @@ class Broker:
             schedule = f"pct {task.seed} {task.depth} {task.length}"
         else:
             schedule = f"seed {task.seed} {int(self.setting.early)}"
-        wants += "c" * self.setting.options.coverage
+        wants += "c" * self.setting.options.coverage + (f"p{task.points}" if task.points else "")
         line = f"{wants or '-'} {schedule}\n".encode()
         self._asked.append((task, len(line)))
         self._on_their_way += len(line)
@@ -205,7 +205,8 @@ class Broker:
         self._on_their_way = 0
         self._write(b"on\n")
 
-    def _ask_again(self) -> None:
+    def ask_again(self) -> None:
+        """Asks for what it has passed over."""
         dropped, self._dropped = self._dropped, []
         self.ask(dropped)
 
@@ -226,7 +227,7 @@ class Broker:
     def run(self, task: Task, on_failure: Callable[[int], None] | None = None, places: bool = False) -> Outcome:
         """One run, with all that a record has of it."""
         self._dropped, self._on_failure = [], on_failure
-        self._write(self._line_of(task, "t" + "l" * places + "p" * task.points + "h" * (on_failure is not None)))
+        self._write(self._line_of(task, "t" + "l" * places + "h" * (on_failure is not None)))
         result = self._answered()
         return Outcome(result, self._answer.kept, self._printed(), self._answer.places, self._answer.blamed)
 
@@ -245,7 +246,7 @@ class Broker:
             return
         more = True
         while more or self._asked or self._dropped:
-            self._ask_again()
+            self.ask_again()
             asked: list[Task] = []
             while more and len(self._asked) + len(asked) < AHEAD and self._on_their_way < ROOM:
                 task = next(tasks, None)
@@ -259,11 +260,11 @@ class Broker:
 
     def ask(self, tasks: Sequence[Task]) -> None:
         """More may be asked before the first is answered, as long as their lines fit the pipe."""
-        self._write(b"".join(self._line_of(task, "p" * task.points) for task in tasks))
+        self._write(b"".join(self._line_of(task, "") for task in tasks))
 
     def answers(self) -> Iterator[Result]:
         """The next answer, and those that are there already."""
-        self._ask_again()
+        self.ask_again()
         yield self._answered()
         while self._asked and any(line.startswith(_LAST) for line in self._lines):
             yield self._answered()
@@ -271,6 +272,10 @@ class Broker:
     def fileno(self) -> int:
         """This can be read when there is an answer."""
         return self._from
+
+    def unanswered(self) -> list[Task]:
+        """What it was asked and hasn't answered."""
+        return [*self._dropped, *(task for task, _ in self._asked)]
 
     def pids(self) -> list[int]:
         """The processes that live longer than a run."""

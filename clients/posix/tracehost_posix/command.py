@@ -6,25 +6,24 @@ import os
 import resource
 import sys
 import time
-from collections import deque
-from collections.abc import Callable, Sequence
+from collections.abc import Callable, Iterator, Sequence
 from typing import TYPE_CHECKING
 
-from . import record, report, search
+from . import record, report
 from .broker import Broker, find
 from .describe import Met
+from .many import Search
 from .options import USAGE, model_of, one_of, parser, recordable, replayed
 from .outcome import Outcome, Result
-from .pool import Pool, WorkerEnded
+from .pool import WorkerEnded
 from .program import NotRunnable, check
 from .report import Unwritten, print_lines, say, writing
-from .setting import Broken, Options, Setting, Switch, Task, text_of
+from .setting import Broken, Options, Refused, Setting, Switch, Task, text_of
+from .tally import Sums, sums_of
 
 FAILED, BROKEN, ANOTHER_WAY = 1, 3, 4
 DESCRIPTORS = 1024
 """The runtime's begin at 1000."""
-LAST = 100
-"""The figures say how many of the last LAST schedules were new."""
 
 if TYPE_CHECKING:
     import argparse
@@ -35,38 +34,23 @@ class Command:
 
     def __init__(self, given: argparse.Namespace, setting: Setting) -> None:
         self.given, self.setting = given, setting
-        self.began = time.monotonic()
-        self.runs = self.questions = self.steps = self.passed = self.skipped = self.examined = self.most = 0
-        self.repeated = 0
-        """Of the runs, those that were left: they would only have repeated others."""
-        self.schedules: set[int] = set()
-        """The runs. Those that differ only in the order of legs that commute count as one."""
-        self.covered: dict[Met, bool] = {}
-        self.news: deque[bool] = deque(maxlen=LAST)
-        """Of the last runs, whether nothing like them had run before."""
+        self._began = time.monotonic()
+        self._sums = Sums()
+        """Of all runs of this process."""
+        self.sums_of_last = Sums()
+        self._covered: dict[Met, bool] = {}
 
-    def heard(self, task: Task, result: Result) -> None:
-        """A run has ended."""
-        self.runs += 1
-        self.questions += result.questions
-        self.steps += result.steps
-        self.passed += result.passed
-        self.skipped += result.skipped
-        self.examined += result.examined
-        self.most = max(self.most, result.questions)
+    def heard(self, seed: int | None, result: Result) -> None:
+        """A run of a search has ended."""
+        self._sums.add(sums_of(seed, result))
         self._cover(dict(result.covered))
-        if result.repeats:
-            self.repeated += 1
-            return
-        self.news.append(result.legs not in self.schedules)
-        self.schedules.add(result.legs)
-        if self.given.digest:
+        if self.given.digest and not result.repeats:
             with writing():
-                print(f"{'plain' if task.seed is None else task.seed} {result.digest}")
+                print(f"{seed or 'plain'} {result.digest}")
 
     def _cover(self, met: dict[Met, bool]) -> None:
         for call, preempted in met.items():
-            self.covered[call] = self.covered.get(call, False) or preempted
+            self._covered[call] = self._covered.get(call, False) or preempted
 
     # ---- one run
 
@@ -74,13 +58,14 @@ class Command:
         """A run with its report."""
         broker = Broker(self.setting, quiet)
         try:
-            return self._one(broker, task, quiet)
+            return self.run_by(broker, task, quiet)
         finally:
             broker.close()
 
-    def _one(self, broker: Broker, task: Task, quiet: bool) -> Outcome:
+    def run_by(self, broker: Broker, task: Task, quiet: bool, prints: bool = True) -> Outcome:
+        """A run, and what it prints, if it is `quiet` meanwhile."""
         outcome = broker.run(task, self._tool(), places=True)
-        if quiet:
+        if quiet and prints:
             with writing():
                 sys.stdout.buffer.write(outcome.output)
                 sys.stdout.buffer.flush()
@@ -88,10 +73,10 @@ class Command:
         if self.setting.verify and result.why is None:
             result = result._replace(why=record.verify(outcome.kept, self.setting))
             outcome = outcome._replace(result=result)
-        self.runs, self.questions, self.steps = self.runs + 1, self.questions + result.questions, self.steps + result.steps
-        self.passed, self.skipped, self.examined = result.passed, result.skipped, result.examined
+        self.sums_of_last = sums_of(None, result)
+        self._sums.add(self.sums_of_last)
         self._cover(dict(result.covered))
-        if self.given.digest and self.given.schedules is None:
+        if self.given.digest and self.given.schedules is None and self.given.seeds is None:
             with writing():
                 print(record.digest(outcome.kept, outcome.output))
         return outcome
@@ -116,13 +101,13 @@ class Command:
         """The plain schedule, that of a seed, or one with switches."""
         outcome = self.one(task, quiet=self.given.digest)
         result = outcome.result
-        self._record(outcome)
-        switches, blamed = self._lines(outcome)
+        self.record(outcome)
+        switches, blamed = self.lines(outcome)
         if result.why is not None and result.switches:
             print_lines(switches)
         if result.questions <= 1 and result.why is None:
             say("the program has made no call but its end")
-        status = self._end(result.why)
+        status = self.end(result.why, self.sums_of_last)
         print_lines(blamed)
         return status or self._unmet(task, result)
 
@@ -150,9 +135,10 @@ class Command:
         say(f"goes as recorded: {len(outcome.kept)} steps")
         return FAILED if why is not None else 0
 
-    # ---- many
+    # ---- seeds
 
-    def _task(self) -> Task:
+    def task(self) -> Task:
+        """What the schedules of all seeds have in common."""
         if self.given.strategy != "pct":
             return Task()
         length = self.given.length
@@ -164,76 +150,18 @@ class Command:
 
     def seeded(self) -> int:
         """One schedule by its seed."""
-        return self.plain(self._task()._replace(seed=self.given.seed))
-
-    def many(self) -> int:
-        """--schedules and --preemptions."""
-        given = self.given
-        task = self._task() if given.preemptions is None else Task()
-        pool = Pool(self.setting, given.jobs, given.digest)
-        found = None
-        try:
-            if given.preemptions is None:
-                found = search.seeds(pool, given.schedules, task, self.heard)
-                new = 100 * sum(self.news) // len(self.news)
-                ended = f"{self.runs} schedules passed, {self._different()}; of the last {len(self.news)} {new}% were new"
-            else:
-                found = search.preemptions(pool, given.preemptions, given.schedules or 100000, self.heard)
-        except search.Exhausted as end:
-            every, more = ("all ", "") if end.complete else ("", ", and there are more")
-            ended = (
-                f"{every}{self.runs - self.repeated} schedules with at most {given.preemptions} preemptions passed, "
-                f"{self._different()}{more}; {self.repeated} were left, as they only repeated others"
-            )
-        finally:
-            if found is None:
-                pool.close()
-        if found is None:
-            say(ended)
-            return self._end(None) or self._untried()
-        try:
-            return self._failing(pool, *found)
-        finally:
-            pool.close()
-
-    def _different(self) -> str:
-        return f"{len(self.schedules)} of them different"
-
-    def _failing(self, pool: Pool, task: Task, result: Result) -> int:
-        how = f"a schedule with {len(result.switches)} switches" if task.switches is not None else task.name()
-        say(f"fails under {how}, after {self.runs - self.repeated - 1} schedules that passed: {result.why}")
-        if result.why is not None and result.why.startswith("the record is"):
-            return FAILED
-        broker = pool.broker()
-        switches = search.shrink(broker, result, self.questions) if result.switches else result.switches
-        outcome = self._one(broker, Task(switches=switches), quiet=True)
-        if switches:
-            left = len(outcome.result.switches)
-            enough = "1 is" if left == 1 else f"{left} are"
-            say(f"of its {len(result.switches)} switches {enough} enough: --switches {outcome.result.schedule}")
-        lines, blamed = self._lines(outcome)
-        print_lines(lines)
-        self._record(outcome)
-        status = self._end(outcome.result.why or result.why)
-        print_lines(blamed)
-        return status
-
-    def _untried(self) -> int:
-        """A search of a program that makes no call but its end has tried nothing."""
-        if self.most > 1:
-            return 0
-        say("nothing was tried: the program makes no call but its end. Is it compiled by tracehost-cc, all of it?")
-        return ANOTHER_WAY
+        return self.plain(self.task()._replace(seed=self.given.seed))
 
     # ---- what is printed at the end
 
     @staticmethod
-    def _lines(outcome: Outcome) -> tuple[list[str], list[str]]:
+    def lines(outcome: Outcome) -> tuple[list[str], list[str]]:
         """The lines for its switches, and for the LWPs that are to blame."""
         lines = [f"  {line}" for line in report.places([*outcome.places, *outcome.blamed])]
         return lines[: len(outcome.places)], lines[len(outcome.places) :]
 
-    def _record(self, outcome: Outcome) -> None:
+    def record(self, outcome: Outcome) -> None:
+        """--record."""
         path = self.given.record
         if path is None:
             return
@@ -258,33 +186,37 @@ class Command:
         elif trouble is not None:
             raise OSError(f"--record: {path}.html: {trouble}")
 
-    def _end(self, why: str | None) -> int:
-        if self.passed:
-            say(
-                f"handlers ran {self.passed} times for signals that a debugger passed on, which the model doesn't have (--strict: none)"
-            )
-        if self.skipped:
-            say(f"{self.skipped} stops of traced processes were passed over, for signals that FreeBSD discards (--strict: none)")
-        if self.examined:
-            say(
-                f"registers and instructions were used {self.examined} times, which the model doesn't have: not proved (--strict: none)"
-            )
+    def end(self, why: str | None, sums: Sums) -> int:
+        """What is said of these runs at the end, and the status."""
+        for text in _added(sums):
+            say(text)
         if self.given.coverage:
-            calls, count = report.unpreempted(self.covered)
+            calls, count = report.unpreempted(self._covered)
             say(f"of {count} calls at which another could go on {len(calls)} were never preempted")
             print_lines(f"  {call}" for call in calls)
         if self.given.figures:
-            took = time.monotonic() - self.began
-            times = os.times()
-            used = times.user + times.system + times.children_user + times.children_system
-            say(
-                f"{self.runs} runs, {self.questions} questions, {self.steps} steps in {took:.2f} s: "
-                f"{used / self.runs * 1e3:.2f} ms of processor time a run, {self.runs / took:.0f} runs a second"
-            )
+            say(self._figures())
         if why is not None:
             say(why)
             return FAILED
         return 0
+
+    def _figures(self) -> str:
+        took, times, sums = time.monotonic() - self._began, os.times(), self._sums
+        used = times.user + times.system + times.children_user + times.children_system
+        runs = f"{sums.runs} runs, {sums.questions} questions, {sums.steps} steps in {took:.2f} s"
+        return f"{runs}: {used / max(1, sums.runs) * 1e3:.2f} ms of processor time a run, {sums.runs / took:.0f} runs a second"
+
+
+def _added(sums: Sums) -> Iterator[str]:
+    """What took place that the model doesn't have."""
+    if sums.passed:
+        yield f"handlers ran {sums.passed} times for signals that a debugger passed on, which the model doesn't have (--strict: none)"
+    if sums.skipped:
+        yield f"{sums.skipped} stops of traced processes were passed over, for signals that FreeBSD discards (--strict: none)"
+    if sums.examined:
+        used = f"registers and instructions were used {sums.examined} times"
+        yield f"{used}, which the model doesn't have: not proved (--strict: none)"
 
 
 def _standard_files() -> bool:
@@ -346,6 +278,9 @@ def _command(words: Sequence[str] | None) -> int:
     except Broken as why:
         say(f"the fault is not the program's, which isn't judged: {why}")
         return BROKEN
+    except Refused as why:
+        say(str(why))
+        return USAGE
     except (WorkerEnded, OSError) as why:
         say(f"{why}")
         return BROKEN
@@ -367,8 +302,8 @@ def _run(command: Command) -> int:
     given = command.given
     if given.replay is not None:
         return command.replay()
-    if given.schedules is not None or given.preemptions is not None:
-        return command.many()
+    if given.schedules is not None or given.seeds is not None or given.preemptions is not None:
+        return Search(command).run()
     if given.switches is not None:
         switches = record.switches_of(given.switches)
         return command.plain(Task(switches=tuple(Switch(tid, point, to) for (tid, point), to in switches.items())))

@@ -31,6 +31,15 @@ class _Print(argparse.Action):
         parser.exit()
 
 
+def _formatter(prog: str) -> argparse.HelpFormatter:
+    """For the terminal's width. argparse asks for it by the module shutil, at each option."""
+    try:
+        width = int(os.environ.get("COLUMNS") or os.get_terminal_size(1).columns)
+    except (OSError, ValueError):
+        width = 80
+    return argparse.HelpFormatter(prog, width=width - 2)
+
+
 class Parser(argparse.ArgumentParser):
     """A mistake is one line, with status 2."""
 
@@ -61,6 +70,13 @@ def _natural(text: str) -> int:
     return _number(text, 0, MOST)
 
 
+def _seeds(text: str) -> range:
+    first, dots, last = text.partition("..")
+    if not dots or _count(last) < _count(first):
+        raise argparse.ArgumentTypeError(f"{text!r} is no range A..B of seeds")
+    return range(int(first), int(last) + 1)
+
+
 def _seconds(text: str) -> float:
     try:
         number = float(text)
@@ -76,6 +92,7 @@ def parser() -> Parser:
     made = Parser(
         prog="tracehost-run",
         description="Runs a program of tracehost-cc on the model of FreeBSD's process tracing.",
+        formatter_class=_formatter,
         allow_abbrev=False,
         add_help=False,
     )
@@ -84,6 +101,7 @@ def parser() -> Parser:
     which = made.add_argument_group("which schedules").add_argument
     which("--seed", type=_count, metavar="N", help="this schedule; else the plain one: a thread goes on until it waits")
     which("--schedules", type=_count, metavar="N", help="the plain one and those of the seeds 1 to N, until one fails")
+    which("--seeds", type=_seeds, metavar="A..B", help="those of the seeds A to B, until one fails")
     which(
         "--preemptions",
         type=_natural,
@@ -107,6 +125,9 @@ def parser() -> Parser:
     )
     which("--calls", action="store_true", help="others go on only between calls, not inside of them")
     add("--jobs", type=_count, default=1, metavar="N", help="makes N runs at a time (1)")
+    add("--keep-going", action="store_true", help="runs all of --schedules or --seeds; failures in the same words count as one")
+    add("--ledger", metavar="FILE", help="keeps what they come to, for each 256 seeds; a search that has ended goes on from there")
+    add("--json", action="store_true", help="prints what a search comes to as a JSON object")
     add("--record", metavar="FILE", help="the run, or the one that fails: FILE (scenario), FILE.lines, FILE.schedule, FILE.html")
     add("--gdb", action="store_true", help="starts gdb on the process that fails, before it ends")
     add("--with", dest="tool", metavar="COMMAND", help="starts COMMAND with that process's number")
@@ -142,13 +163,14 @@ def parser() -> Parser:
 
 
 def one_of(given: argparse.Namespace, made: Parser) -> None:
-    chosen = [name for name in ("seed", "schedules", "switches", "replay") if getattr(given, name) is not None]
+    chosen = [name for name in ("seed", "schedules", "seeds", "switches", "replay") if getattr(given, name) is not None]
     if given.preemptions is not None and "schedules" in chosen:
         chosen.remove("schedules")
     if given.preemptions is not None:
         chosen.append("preemptions")
     if len(chosen) > 1:
         made.error(f"--{chosen[0]} and --{chosen[1]} don't go together")
+    _of_searches(given, made)
     if given.gdb and given.tool is not None:
         made.error("--gdb and --with don't go together")
     if given.gdb and which("gdb") is None:
@@ -160,6 +182,19 @@ def one_of(given: argparse.Namespace, made: Parser) -> None:
             record.switches_of(given.switches)
         except ValueError:
             made.error(f"--switches: {given.switches!r} is no list of LWP.POINT:LWP")
+
+
+def _of_searches(given: argparse.Namespace, made: Parser) -> None:
+    """Options that only a search has."""
+    seeds = given.seeds is not None or (given.schedules is not None and given.preemptions is None)
+    for name, is_given in (("keep-going", given.keep_going), ("ledger", given.ledger is not None)):
+        if is_given and not seeds:
+            made.error(f"--{name} needs --schedules or --seeds")
+    if given.json and not seeds and given.preemptions is None:
+        made.error("--json needs --schedules, --seeds or --preemptions")
+    for name in ("digest", "coverage"):
+        if getattr(given, name) and (given.ledger is not None or (given.json and name == "digest")):
+            made.error(f"--{'ledger' if given.ledger is not None else 'json'} and --{name} don't go together")
 
 
 def _tool(command: str, made: Parser) -> None:

@@ -7,14 +7,15 @@ import select
 import signal
 import time
 from abc import ABC, abstractmethod
-from collections import deque
+from collections import Counter, deque
 from collections.abc import Iterable, Iterator
+from itertools import chain
 from typing import TYPE_CHECKING, Union
 
 from .broker import Broker
 from .outcome import Result
 from .program import NotRunnable
-from .setting import Setting, Task
+from .setting import Died, Setting, Task
 
 if TYPE_CHECKING:
     from multiprocessing.connection import Connection
@@ -22,6 +23,8 @@ if TYPE_CHECKING:
 _PR_SET_PDEATHSIG = 1
 DEATHS = 3
 """How often a task whose worker died is tried."""
+WINDOW = 1 << 16
+"""So many tasks are given out beyond one that isn't answered yet: the others go on beside a run that is slow."""
 _SAMPLE = 0.05
 """The seconds of a look at which processors have nothing to do."""
 
@@ -123,7 +126,7 @@ class Worker(ABC):
 
     @abstractmethod
     def receive(self) -> list[Union[Result, Exception]]:
-        """Its next answers; EOFError or ConnectionError if it has died."""
+        """Its next answers; EOFError, ConnectionError or Died if it has died."""
 
     @abstractmethod
     def close(self) -> None:
@@ -174,13 +177,14 @@ class Forked(Worker):
 
 
 class Direct(Worker):
-    """A broker. One that dies isn't replaced: the fault is ours."""
+    """A broker."""
 
     ahead = 16
 
-    def __init__(self, setting: Setting, processor: int, tells: bool) -> None:
+    def __init__(self, setting: Setting, processor: int, tells: bool, keeps_going: bool) -> None:
         super().__init__()
         self._broker, self._seat = seated(setting, processor, tells)
+        self._keeps_going = keeps_going
 
     def fileno(self) -> int:
         return self._broker.fileno()
@@ -190,7 +194,10 @@ class Direct(Worker):
 
     def receive(self) -> list[Union[Result, Exception]]:
         self._seat.look(self._broker.pids())
-        return list(self._broker.answers())
+        answers: list[Union[Result, Exception]] = list(self._broker.answers())
+        if self._keeps_going:
+            self._broker.ask_again()
+        return answers
 
     def close(self) -> None:
         self._broker.close()
@@ -209,6 +216,8 @@ def _serve(pipe: Connection, setting: Setting, digest: bool, tells: bool, proces
             seat.look(broker.pids())
             try:
                 pipe.send(broker.result(task, digest))
+            except Died:  # this worker ends with its broker
+                raise
             except Exception as why:  # the one who waits has to hear of it
                 pipe.send(why)
     finally:
@@ -216,35 +225,58 @@ def _serve(pipe: Connection, setting: Setting, digest: bool, tells: bool, proces
 
 
 class Pool:
-    """Runs tasks: with one job by one broker. Workers are started when there are tasks for them."""
+    """Runs tasks: with one job by one broker. Workers are started when there are tasks for them, and again if they die."""
 
-    def __init__(self, setting: Setting, jobs: int, digest: bool = False) -> None:
-        self._setting, self._digest, self._jobs = setting, digest, jobs
+    def __init__(self, setting: Setting, jobs: int, digest: bool = False, keeps_going: bool = False) -> None:
+        """It `keeps_going` after a failure: else no more tasks are given out then."""
+        self._setting, self._digest, self._jobs, self._keeps_going = setting, digest, jobs, keeps_going
         self._looks = Processors()
         self._processors: list[int] = []
         self._broker = Broker(setting, stays=True) if jobs == 1 else None
         self._seat: Seat | None = None
         self._workers: list[Worker] = []
         self._tasks: dict[int, Task] = {}
-        self._deaths: dict[int, int] = {}
+        self._deaths: Counter[str] = Counter()
+        self._failed = False
 
     def results(self, tasks: Iterator[Task]) -> Iterator[tuple[Task, Result]]:
         """The results, in the order of the tasks. A task may be made from results that were given out before."""
         if self._broker is not None:
-            for answered in self._broker.results(tasks, self._digest):
-                self._sit(self._broker)
-                yield answered
+            yield from self._results_of_one(tasks)
             return
         done: dict[int, Result] = {}
         due = number = max(self._tasks, default=-1) + 1
         while True:
-            number = self._give_out(tasks, number)
+            number = self._give_out(tasks, number, due + WINDOW)
             if due == number:
                 return
-            while due not in done:
+            if due not in done:
                 self._receive(done)
+                continue
             yield self._tasks.pop(due), done.pop(due)
             due += 1
+
+    def _results_of_one(self, tasks: Iterator[Task]) -> Iterator[tuple[Task, Result]]:
+        assert self._broker is not None
+        while True:
+            try:
+                for answered in self._broker.results(tasks, self._digest):
+                    self._sit(self._broker)
+                    yield answered
+                return
+            except Died as why:
+                left = self._broker.unanswered()
+                self._count_death(left[0], why)
+                self._broker.close()
+                self._broker, self._seat = Broker(self._setting, tells=False, stays=True), None
+                tasks = chain(left, tasks)
+
+    def _count_death(self, first: Task, why: object) -> None:
+        """Another worker does what one was given that has died at this task."""
+        name = repr(first)
+        self._deaths[name] += 1
+        if self._deaths[name] == DEATHS:
+            raise WorkerEnded(f"{DEATHS} workers have died: {why or first.name()}")
 
     def _sit(self, broker: Broker) -> None:
         """A single broker begins on the processor that the host chose, and moves to the idlest one once that is known."""
@@ -253,15 +285,21 @@ class Pool:
         elif self._looks.are_known():
             self._seat = Seat(self._looks.found()[0], broker.pids()[0], broker.pids())
 
-    def _give_out(self, tasks: Iterator[Task], number: int) -> int:
+    def _give_out(self, tasks: Iterator[Task], number: int, end: int) -> int:
         """Gives tasks to workers, until there are no more tasks or all have enough: the next task's number."""
-        for task in tasks:
+        while number < end and self._has_room():
+            task = next(tasks, None)
+            if task is None:
+                break
             self._tasks[number] = task
             self._send(self._least_busy(), number)
             number += 1
-            if len(self._workers) == self._jobs and all(len(worker.given) >= worker.ahead for worker in self._workers):
-                break
         return number
+
+    def _has_room(self) -> bool:
+        if self._failed and not self._keeps_going:
+            return False
+        return len(self._workers) < self._jobs or any(len(worker.given) < worker.ahead for worker in self._workers)
 
     def _least_busy(self) -> Worker:
         least = min(self._workers, key=lambda worker: len(worker.given), default=None)
@@ -275,7 +313,7 @@ class Pool:
         processor, tells = self._processors[place % len(self._processors)], place == 0
         worker: Worker
         if not (self._digest or self._setting.verify):
-            worker = Direct(self._setting, processor, tells)
+            worker = Direct(self._setting, processor, tells, self._keeps_going)
         else:
             worker = Forked(self._setting, self._digest, self._workers, processor, tells)
         self._workers.insert(place, worker)
@@ -294,20 +332,17 @@ class Pool:
             worker = busy[ready]
             try:
                 answers = worker.receive()
-            except (EOFError, ConnectionError):
-                self._replace(worker)
+            except (EOFError, ConnectionError, Died) as why:
+                self._replace(worker, why)
                 continue
             for answer in answers:
                 if isinstance(answer, Exception):
                     raise answer
                 done[worker.given.popleft()] = answer
+                self._failed = self._failed or answer.why is not None
 
-    def _replace(self, dead: Worker) -> None:
-        """Another worker does what this one was given."""
-        first = dead.given[0]
-        self._deaths[first] = self._deaths.get(first, 0) + 1
-        if self._deaths[first] == DEATHS:
-            raise WorkerEnded(f"{self._tasks[first].name()}: {DEATHS} workers have died")
+    def _replace(self, dead: Worker, why: Exception) -> None:
+        self._count_death(self._tasks[dead.given[0]], why)
         dead.close()
         place = self._workers.index(dead)
         self._workers.remove(dead)
@@ -330,4 +365,5 @@ class Pool:
     def close(self) -> None:
         if self._broker is not None:
             self._broker.close()
+        self._broker = None
         self._end_workers()

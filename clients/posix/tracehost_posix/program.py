@@ -35,3 +35,19 @@ def check(path: str) -> str:
     if MARKER not in text:
         raise NotRunnable(f"{path}: it has no runtime: compile it with tracehost-cc")
     return found
+
+
+def output_of(*words: str) -> str:
+    """What a command prints; nothing if it isn't there. (The module subprocess takes longer to load than addr2line runs.)"""
+    printed, given = os.pipe()
+    with os.fdopen(printed, errors="replace") as file:
+        try:
+            actions = [(os.POSIX_SPAWN_DUP2, given, 1), (os.POSIX_SPAWN_OPEN, 2, os.devnull, os.O_WRONLY, 0)]
+            pid = os.posix_spawnp(words[0], words, os.environ, file_actions=actions)
+        except OSError:
+            return ""
+        finally:
+            os.close(given)
+        text = file.read()
+    os.waitpid(pid, 0)
+    return text

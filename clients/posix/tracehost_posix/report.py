@@ -9,7 +9,7 @@ from contextlib import contextmanager
 from typing import TYPE_CHECKING
 
 from .describe import CODES, Met, Place, call_name
-from .program import which
+from .program import output_of, which
 
 if TYPE_CHECKING:
     import re
@@ -82,20 +82,13 @@ def unpreempted(covered: Mapping[Met, bool]) -> tuple[list[str], int]:
 
 def _source_lines(addresses: set[tuple[str, int]]) -> dict[tuple[str, int], str]:
     """`FILE:LINE` of each address, by addr2line; nothing if it isn't there, or the program has no debug information."""
-    import re
-    import subprocess
-
     found: dict[tuple[str, int], str] = {}
     for program in sorted({program for program, _ in addresses}):
         wheres = sorted(where for of, where in addresses if of == program)
-        try:  # an address is behind its call
-            done = subprocess.run(
-                ["addr2line", "-e", program, *(hex(where - 1) for where in wheres)], capture_output=True, text=True
-            )
-        except OSError:
-            return found
-        for where, line in zip(wheres, done.stdout.splitlines()):
-            line = re.sub(r" \(discriminator \d+\)$", "", line)
+        # an address is behind its call
+        text = output_of("addr2line", "-e", program, *(hex(where - 1) for where in wheres))
+        for where, line in zip(wheres, text.splitlines()):
+            line = line.partition(" (discriminator ")[0]
             if not line.startswith("??") and not line.endswith(":?"):
                 found[program, where] = os.path.relpath(line) if line.startswith(os.getcwd() + "/") else line
     return found

@@ -15,6 +15,14 @@ class Broken(Exception):
     """The run can't go on: the broker, the runtime or the host has failed, and nothing is known of the program."""
 
 
+class Died(Broken):
+    """The broker has ended, and hasn't said why: another one may run the schedule."""
+
+
+class Refused(Exception):
+    """A file that was named isn't one for this; the text says so."""
+
+
 class Options(NamedTuple):
     """What a run may do."""
 
@@ -61,6 +69,9 @@ def text_of(switches: Iterable[Switch], asleep: Iterable[str] = ()) -> str:
     return ",".join(f"{switch.tid}.{switch.point}:{switch.to}{leg}" for switch, leg in zip(switches, chain(legs, repeat(""))))
 
 
+ALL_POINTS = (1 << 63) - 1
+
+
 class Task(NamedTuple):
     """A schedule to run."""
 
@@ -72,8 +83,8 @@ class Task(NamedTuple):
     switches: tuple[Switch, ...] | None = None
     asleep: tuple[str, ...] = ()
     """What the legs touch that the switches postpone. The LWP of such a leg sleeps until another leg touches that."""
-    points: bool = False
-    """Whether the result has the choices that a search goes on from."""
+    points: int = 0
+    """How many choices the result has that a search goes on from; the run is left behind the last of them."""
     after: tuple[int, int] | None = None
     """Of a search: the number of what its last switch comes after, and who goes on."""
 

@@ -1,0 +1,91 @@
+"""What the runs of a search come to, in the order of their schedules."""
+
+from __future__ import annotations
+
+from collections import deque
+from typing import TYPE_CHECKING, NamedTuple
+
+from .outcome import Result
+
+if TYPE_CHECKING:
+    from .ledger import Block
+
+LAST = 100
+"""The figures say how many of the last LAST schedules were new."""
+
+
+class Failures(NamedTuple):
+    """The schedules that fail in the same words."""
+
+    times: int
+    first: int | None
+    """The seed of the first one; None if the schedule has none."""
+
+
+class Sums:
+    """Numbers of runs that are added up."""
+
+    def __init__(self) -> None:
+        self.runs = self.questions = self.steps = self.passed = self.skipped = self.examined = 0
+        self.most = 0
+        """Questions of a run."""
+        self.failures: dict[str, Failures] = {}
+
+    def add(self, other: Sums) -> None:
+        self.runs += other.runs
+        self.questions += other.questions
+        self.steps += other.steps
+        self.passed += other.passed
+        self.skipped += other.skipped
+        self.examined += other.examined
+        self.most = max(self.most, other.most)
+        for why, failures in other.failures.items():
+            self.fail(why, failures)
+
+    def fail(self, why: str, failures: Failures) -> None:
+        known = self.failures.get(why)
+        self.failures[why] = failures if known is None else known._replace(times=known.times + failures.times)
+
+
+def sums_of(seed: int | None, result: Result) -> Sums:
+    """Those of one run."""
+    sums = Sums()
+    sums.runs, sums.questions, sums.steps, sums.most = 1, result.questions, result.steps, result.questions
+    sums.passed, sums.skipped, sums.examined = result.passed, result.skipped, result.examined
+    if result.why is not None:
+        sums.fail(result.why, Failures(1, seed))
+    return sums
+
+
+class Tally:
+    """What all runs of a search come to."""
+
+    def __init__(self) -> None:
+        self.sums = Sums()
+        self.repeated = 0
+        """Of the runs, those that were left: they would only have repeated others."""
+        self.schedules: set[int] = set()
+        """The runs. Those that differ only in the order of legs that commute count as one."""
+        self.news: deque[bool] = deque(maxlen=LAST)
+        """Of the last runs, whether nothing like them had run before."""
+
+    def add(self, seed: int | None, result: Result) -> bool:
+        """Whether nothing like this run has run before."""
+        self.sums.add(sums_of(seed, result))
+        if result.repeats:
+            self.repeated += 1
+            return False
+        new = result.legs not in self.schedules
+        self.schedules.add(result.legs)
+        self.news.append(new)
+        return new
+
+    def take(self, block: Block) -> None:
+        """Adds the runs of a block."""
+        self.sums.add(block.sums)
+        self.schedules.update(block.different)
+        self.news.extend(block.new)
+
+    def share_of_new(self) -> int:
+        """Of the last runs, in percent."""
+        return 100 * sum(self.news) // len(self.news)
