@@ -1,5 +1,4 @@
-"""`./tracehost --prove` and `--unproved`: in a copy of the repository, with a stand-in for the command rt that proves nothing;
-then `--unproved` by rt itself."""
+"""`./tracehost --prove`, with a stand-in for the command rt that proves nothing, in a copy of the repository."""
 
 from __future__ import annotations
 
@@ -12,7 +11,7 @@ import time
 from pathlib import Path
 
 import pytest
-from checking import TOP, Ended, needs, run
+from checking import TOP, Ended
 from stranger import copy
 
 sys.path.insert(0, str(TOP / "tools"))
@@ -21,21 +20,15 @@ from crates import below  # noqa: E402
 # it notes what it is given, and builds a program unless it is told to fail or to wait
 STAND_IN = """\
 #!/bin/sh
-if [ "$1" = try ]; then
-  echo "in ${PWD##*/}: $*"
-  printf 'checked: ended\nrefused: BadName at step 1\nruns=2\nrun=ok\n' >&2
-  exit 5
-fi
 find . -type f | sort >"$ROOM/given"
 case $GATE in
   fails) echo 'rt: low NOT PROVED'; exit 1 ;;
-  waits) sleep 600 ;;
+  waits) : >"$ROOM/waits" && exec sleep 600 ;;
 esac
 mkdir -p crates/tracehost/out
 printf '#!/bin/sh\\necho "ran $*"\\n' >crates/tracehost/out/tracehost
 chmod +x crates/tracehost/out/tracehost
 """
-WORDS = ("some.json", "--user", "1001")
 RAN = "ran some.json --user 1001\n"
 
 
@@ -52,9 +45,9 @@ class Room:
         (room / "bin/rt").chmod(0o755)
         self.environment = {"PATH": f"{room}/bin:{os.environ['PATH']}", "ROOM": str(room), "TMPDIR": str(self.tmp)}
 
-    def start(self, gate: str = "", words: tuple[str, ...] = ("--prove", *WORDS), cwd: Path = TOP) -> subprocess.Popen[str]:
+    def start(self, gate: str = "") -> subprocess.Popen[str]:
         return subprocess.Popen(
-            [self.top / "tracehost", *words], env={**os.environ, **self.environment, "GATE": gate}, cwd=cwd,
+            [self.top / "tracehost", "--prove", "some.json", "--user", "1001"], env={**os.environ, **self.environment, "GATE": gate},
             stdout=subprocess.PIPE, stderr=subprocess.PIPE, text=True, start_new_session=True,
         )  # fmt: skip
 
@@ -107,7 +100,7 @@ def test_a_failed_proof(room: Room) -> None:
 @pytest.mark.parametrize("number", [signal.SIGINT, signal.SIGTERM])
 def test_an_interrupt_leaves_nothing(room: Room, number: signal.Signals) -> None:
     with room.start("waits") as run:
-        while not room.given.exists():
+        while not room.given.with_name("waits").exists():
             time.sleep(0.05)
         os.killpg(run.pid, number)
         run.communicate(timeout=60)
@@ -115,40 +108,7 @@ def test_an_interrupt_leaves_nothing(room: Room, number: signal.Signals) -> None
     assert not (room.built / "tracehost").exists() and not any(room.tmp.iterdir())
 
 
-def test_sources_with_no_proof(room: Room, tmp_path: Path) -> None:
-    """The kit gets a copy of each file that a word names; what it says of its own run is left out, and its status stays."""
-    (tmp_path / "a b.json").write_text("{}")
-    (tmp_path / "1001").write_text("")
-    with room.start(words=("--unproved", "--user", "1001", "a b.json", "none.json"), cwd=tmp_path) as run:
-        out, err = run.communicate(timeout=120)
-    given = f"in tracehost: try --data scenario-2.json={tmp_path}/a b.json -- --user 1001 scenario-2.json none.json\n"
-    assert (run.returncode, out) == (5, given)
-    first, *others = err.splitlines()
-    assert "nothing is proved in this run" in first
-    assert others == ["refused: BadName at step 1", "runs=2"]
-
-
-@pytest.mark.parametrize("word", ["--prove", "--unproved"])
-def test_without_the_kit(room: Room, word: str) -> None:
+def test_without_the_kit(room: Room) -> None:
     room.environment["PATH"] = "/usr/bin:/bin"
-    with room.start(words=(word,)) as run:
-        out, err = run.communicate(timeout=120)
     said = "tracehost: to prove and build it, put the command rt of the Rattle kit on PATH, and run this again\n"
-    assert (run.returncode, out, err) == (1, "", said)
-
-
-@needs("rt")
-@pytest.mark.parametrize(
-    "words, given, wanted",
-    [
-        (["examples/two_users.json", "--user", "1002"], "", Ended(0, "two_users", "")),
-        ([], '{"steps":[{"user":1001,"op":"dance"}]}\n', Ended(1, "", "tracehost: refused: BadName at step 1\n")),
-    ],
-    ids=["one user of a file", "a refused scenario on standard input"],
-)
-def test_unproved_by_rt(words: list[str], given: str, wanted: Ended) -> None:
-    ran = run(TOP / "tracehost", "--unproved", *words, given=given, cwd=TOP, seconds=600)
-    first, *others = ran.err.splitlines(keepends=True)
-    lines = (TOP / f"examples/{wanted.out}.out").read_text().splitlines(keepends=True) if wanted.out else []
-    assert "nothing is proved in this run" in first
-    assert ran._replace(err="".join(others)) == wanted._replace(out="".join(line for line in lines if line.startswith("1002 ")))
+    assert room.prove() == (1, "", said)
