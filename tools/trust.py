@@ -153,8 +153,7 @@ class Walk:
             raise LookupError(f"{module}.{name} leads to no definition of {crate}")
 
     def add_type(self, crate: str, name: str) -> bool:
-        """Adds a type, and the types of its fields, or of its value if it has one: then contracts see only that. Returns
-        whether there is such a type in the crate, or in one that it uses."""
+        """Adds a type, and those of its value if it has one, or of its fields. Returns whether the crate, or one below, has it."""
         crates = listed()
         places = (read_types(place).get(name) for place in (crate, *crates[crate].uses) if place in crates)
         if (pieces := next(filter(None, places), None)) is None:
@@ -192,44 +191,43 @@ def lines(pieces: Iterable[Piece]) -> int:
     return sum(len(piece.text.splitlines()) for piece in pieces)
 
 
-def parts() -> Iterator[tuple[str, str, list[Listed]]]:
+def parts() -> Iterator[tuple[str, str, Listed, Listed]]:
     """Each part and its contracts, with the definitions and the types that it adds, by their files."""
     walk = Walk()
     for title, headline in HEADLINE.items():
         before = {*walk.definitions, *walk.types}
         for piece, source in contracts_of(headline):
             walk.follow(piece, source)
-        new = [by_file(piece for piece in found if piece not in before) for found in (walk.definitions, walk.types)]
-        yield title, " ".join(headline.split()), new
+        definitions, types = (by_file(it for it in found if it not in before) for found in (walk.definitions, walk.types))
+        yield title, " ".join(headline.split()), definitions, types
 
 
 def totals() -> str:
     """How much that is, part by part."""
-    rows = ["| part | definitions: lines in files | types: lines in files |\n|---|---|---|\n"]
-    for title, _, found in parts():
+    text = "| part | definitions: lines in files | types: lines in files |\n|---|---|---|\n"
+    for title, _, *found in parts():
         sizes = (f"{sum(map(lines, files.values())):,} in {len(files)}" if files else "-" for files in found)
-        rows.append(f"| {title} | {' | '.join(sizes)} |\n")
-    return "".join(rows)
+        text += f"| {title} | {' | '.join(sizes)} |\n"
+    return text
 
 
 def definitions() -> str:
     """The names of all that, by files, with counts of lines."""
-    rows = []
-    for title, contracts, found in parts():
-        rows.append(f"==== {title}\nlines  of {contracts}\n")
-        all_files = [(path, pieces) for files in found for path, pieces in files.items()]
-        for path, pieces in all_files:
-            rows.append(f"{lines(pieces):5}  {path.relative_to(TOP)}: {', '.join(dict.fromkeys(it.name for it in pieces))}\n")
-        rows.append(f"{sum(lines(pieces) for _, pieces in all_files):5}\n")
-    return "".join(rows)
+    text = ""
+    for title, contracts, defined, types in parts():
+        text += f"==== {title}\nlines  of {contracts}\n"
+        for path, pieces in {**defined, **types}.items():
+            text += f"{lines(pieces):5}  {path.relative_to(TOP)}: {', '.join(dict.fromkeys(it.name for it in pieces))}\n"
+        text += f"{sum(map(lines, [*defined.values(), *types.values()])):5}\n"
+    return text
 
 
 def text() -> str:
     """The text of all that, to read from top to bottom."""
     shown = []
-    for title, _, found in parts():
+    for title, _, defined, types in parts():
         shown.append(f"==== {title}")
-        for path, pieces in (item for files in found for item in files.items()):
+        for path, pieces in {**defined, **types}.items():
             shown += [f"---- {path.relative_to(TOP)}", *(piece.text for piece in pieces)]
     return "\n\n".join(shown) + "\n"
 
@@ -237,6 +235,7 @@ def text() -> str:
 def of_the_kit() -> str:
     """The kit's crates that crates.txt names, with the crates that use each."""
     crates = listed()
-    uses = sorted({use for crate in crates.values() for use in crate.uses} - set(crates))
-    users = {use: ", ".join(f"`{name}`" for name, crate in crates.items() if use in crate.uses) for use in uses}
-    return "| the kit's crate | used by |\n|---|---|\n" + "".join(f"| `{use}` | {users[use]} |\n" for use in uses)
+    text = "| the kit's crate | used by |\n|---|---|\n"
+    for use in sorted({use for crate in crates.values() for use in crate.uses} - set(crates)):
+        text += f"| `{use}` | {', '.join(f'`{name}`' for name, crate in crates.items() if use in crate.uses)} |\n"
+    return text

@@ -148,15 +148,12 @@ def test_nothing_is_left_to_try(tried: Repository, capfd: pytest.CaptureFixture[
     assert capfd.readouterr().out == "edits: all were tried on the present contracts\n"
 
 
-@pytest.mark.parametrize(
-    "said",
-    [
-        "NOT REFUSED: the crate is still proved",
-        "BAD EDIT: it did not reach the prover",
-        "NOT TRIED: its check was killed",
-        "refused, as it must be (only because a proof file names what the edit took away",
-    ],
-)
+@pytest.mark.parametrize("said", [
+    "NOT REFUSED: the crate is still proved",
+    "BAD EDIT: it did not reach the prover",
+    "NOT TRIED: its check was killed",
+    "refused, as it must be (only because a proof file names what the edit took away",
+])  # fmt: skip
 def test_an_edit_that_is_not_refused_is_not_noted(tree: Repository, capfd: pytest.CaptureFixture[str], said: str) -> None:
     tree.edit("must-fail-more/none", "(one)", "(0)", said)
     tree.edit("must-fail-more/other", "(one)", "(3)", REFUSED)
@@ -166,10 +163,11 @@ def test_an_edit_that_is_not_refused_is_not_noted(tree: Repository, capfd: pytes
     assert tree.table() == []
 
 
-def test_sources_that_are_in_no_commit_are_not_tried(tree: Repository, capfd: pytest.CaptureFixture[str]) -> None:
+@pytest.mark.parametrize("name, why", [("one", "the sources are not those of a commit"), ("low", "low: no further edits")])
+def test_what_cannot_be_tried(tree: Repository, capfd: pytest.CaptureFixture[str], name: str, why: str) -> None:
     tree.replace("crates/low/specs/Least.antt", "0", "1")
-    with pytest.raises(SystemExit, match="edits: the sources are not those of a commit"):
-        edits.main(["one"])
+    with pytest.raises(SystemExit, match=f"^edits: {why}$"):
+        edits.main([name])
     assert (capfd.readouterr().out, tree.table()) == ("", [])
 
 
@@ -205,8 +203,3 @@ def test_another_statement_makes_the_record_stale(tried: Repository, path: str, 
 def test_an_edit_that_cannot_be_applied_fails(tried: Repository, path: str, old: str, new: str, why: str) -> None:
     tried.replace(path, old, new)
     assert tried.complaints() == [why]
-
-
-def test_a_crate_without_further_edits(tree: Repository) -> None:
-    with pytest.raises(SystemExit, match="edits: low: no further edits"):
-        edits.main(["low"])

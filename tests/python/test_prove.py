@@ -18,13 +18,10 @@ sys.path.insert(0, str(TOP / "tools"))
 from crates import below  # noqa: E402
 
 # it notes what it is given, and builds a program unless it is told to fail or to wait
-STAND_IN = """\
-#!/bin/sh
+STAND_IN = """#!/bin/sh
 find . -type f | sort >"$ROOM/given"
-case $GATE in
-  fails) echo 'rt: low NOT PROVED'; exit 1 ;;
-  waits) : >"$ROOM/waits" && exec sleep 600 ;;
-esac
+[ "$GATE" != fails ] || { echo 'rt: low NOT PROVED'; exit 1; }
+[ "$GATE" != waits ] || { : >"$ROOM/waits"; exec sleep 600; }
 mkdir -p crates/tracehost/out
 printf '#!/bin/sh\\necho "ran $*"\\n' >crates/tracehost/out/tracehost
 chmod +x crates/tracehost/out/tracehost
@@ -39,8 +36,8 @@ class Room:
         self.top, self.given, self.tmp = top, room / "given", room / "tmp"
         self.built = top / "crates/tracehost/out"
         shutil.rmtree(self.built, ignore_errors=True)
-        for folder in (room / "bin", self.tmp):
-            folder.mkdir()
+        self.tmp.mkdir()
+        (room / "bin").mkdir()
         (room / "bin/rt").write_text(STAND_IN)
         (room / "bin/rt").chmod(0o755)
         self.environment = {"PATH": f"{room}/bin:{os.environ['PATH']}", "ROOM": str(room), "TMPDIR": str(self.tmp)}
