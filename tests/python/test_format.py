@@ -18,13 +18,12 @@ import pytest
 
 from checking import TOP, run
 
-COPIED = (
-    "format tools crates schema include clients/c clients/posix/tracehost_posix clients/python clients/rust/src viewer"
-    " docs/FORMAT.md man"
-)
+COPIED = "format tools crates schema include clients/c clients/posix clients/python clients/rust/src viewer" " docs/FORMAT.md man"
 CLIENTS = (
     "clients/c/names.c clients/c/tracehost_client.h clients/python/tracehost/names.py clients/rust/src/steps.rs include/tracehost.h"
 )
+# what else has the name of each request that takes no address
+NAMED = "clients/posix/broker/model.c clients/posix/runtime/trace.c"
 MANUAL = "clients/python/tracehost/manual.py"
 SCHEMA = "schema/scenario.schema.json"
 EXPLAINED = "crates/*/src/tables.rt"
@@ -54,7 +53,14 @@ CHANGES = [
         "another name of a request",
         "PT_ATTACH",
         "PT_SEIZE",
-        f"{EXPLAINED} {SCHEMA} {CLIENTS} {MANUAL} docs/FORMAT.md man/tracehost.1",
+        f"{EXPLAINED} {SCHEMA} {CLIENTS} {NAMED} {MANUAL} docs/FORMAT.md man/tracehost.1",
+    ),
+    Change(
+        "another reply",
+        '^answers = "`number`"',
+        'answers = "`info`"',
+        "clients/c/calls.c clients/python/tracehost/host.py clients/python/tracehost/replies.py clients/posix/runtime/trace.c"
+        " clients/rust/src/steps.rs docs/FORMAT.md",
     ),
     Change(
         "another name of an op",
@@ -66,7 +72,7 @@ CHANGES = [
         "another number of a request",
         "^number = 10$",
         "number = 12",
-        CLIENTS,
+        f"{CLIENTS} {NAMED}",
     ),
     Change(
         "another name of a call",

@@ -59,7 +59,9 @@ void write_last_reply(char *text, size_t room)
 
 /* ---- a step as text */
 
-static const char *const requests[] = {[TRACEHOST_PT_TRACE_ME] = "PT_TRACE_ME",
+/* tools/format requests */
+static const char *const requests[] = {
+	[TRACEHOST_PT_TRACE_ME] = "PT_TRACE_ME",
 	[TRACEHOST_PT_CONTINUE] = "PT_CONTINUE",
 	[TRACEHOST_PT_KILL] = "PT_KILL",
 	[TRACEHOST_PT_STEP] = "PT_STEP",
@@ -76,7 +78,9 @@ static const char *const requests[] = {[TRACEHOST_PT_TRACE_ME] = "PT_TRACE_ME",
 	[TRACEHOST_PT_FOLLOW_FORK] = "PT_FOLLOW_FORK",
 	[TRACEHOST_PT_LWP_EVENTS] = "PT_LWP_EVENTS",
 	[TRACEHOST_PT_GET_EVENT_MASK] = "PT_GET_EVENT_MASK",
-	[TRACEHOST_PT_SET_EVENT_MASK] = "PT_SET_EVENT_MASK"};
+	[TRACEHOST_PT_SET_EVENT_MASK] = "PT_SET_EVENT_MASK",
+};
+/* end */
 static const char *const call_names[] = {"fork", "vfork", "exec", "thr_new", "thr_exit", "exit", "other"};
 static const char *const actions[] = {"default", "ignore", "catch"};
 static const char *const option_names[] = {"WNOHANG", "WUNTRACED", "WCONTINUED"};
