@@ -86,6 +86,12 @@ static const char *const actions[] = {"default", "ignore", "catch"};
 static const char *const option_names[] = {"WNOHANG", "WUNTRACED", "WCONTINUED"};
 static const char *const events[] = {"PTRACE_EXEC", "PTRACE_SCE", "PTRACE_SCX", "PTRACE_FORK", "PTRACE_LWP", "PTRACE_VFORK"};
 
+/* Whether the model has this request. */
+bool is_request(int64_t number)
+{
+	return number >= 0 && (size_t)number < sizeof requests / sizeof requests[0] && requests[number] != NULL;
+}
+
 struct text {
 	char *at;
 	size_t room;
