@@ -93,7 +93,7 @@ go_on(pid_t pid)
 }
 
 /*
- * The next status but for stops by SIGCHLD. A traced process whose child stops or ends gets SIGCHLD; whether it stops for
+ * The next status, except stops by SIGCHLD. A traced process whose child stops or ends gets SIGCHLD; whether it stops for
  * that, with its action the default, isn't said in ptrace(2).
  */
 static inline int
