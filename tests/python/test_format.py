@@ -21,9 +21,8 @@ from checking import TOP, run
 COPIED = "format tools crates schema include clients/c clients/posix clients/python clients/rust/src viewer" " docs/FORMAT.md man"
 CLIENTS = (
     "clients/c/names.c clients/c/tracehost_client.h clients/python/tracehost/names.py clients/rust/src/steps.rs include/tracehost.h"
+    " clients/posix/broker/model.c clients/posix/runtime/trace.c"
 )
-# what else has the name of each request that takes no address
-NAMED = "clients/posix/broker/model.c clients/posix/runtime/trace.c"
 MANUAL = "clients/python/tracehost/manual.py"
 SCHEMA = "schema/scenario.schema.json"
 EXPLAINED = "crates/*/src/tables.rt"
@@ -50,17 +49,17 @@ CHANGES = [
         " ".join([KEYS, *(f"crates/*/{file}" for file in KEY_SETS.split())]),
     ),
     Change(
-        "another name of a request",
-        "PT_ATTACH",
-        "PT_SEIZE",
-        f"{EXPLAINED} {SCHEMA} {CLIENTS} {NAMED} {MANUAL} docs/FORMAT.md man/tracehost.1",
-    ),
-    Change(
         "another reply",
         '^answers = "`number`"',
         'answers = "`info`"',
         "clients/c/calls.c clients/python/tracehost/host.py clients/python/tracehost/replies.py clients/posix/runtime/trace.c"
         " clients/rust/src/steps.rs docs/FORMAT.md",
+    ),
+    Change(
+        "another name of a request",
+        "PT_ATTACH",
+        "PT_SEIZE",
+        f"{EXPLAINED} {SCHEMA} {CLIENTS} {MANUAL} docs/FORMAT.md man/tracehost.1",
     ),
     Change(
         "another name of an op",
@@ -72,7 +71,7 @@ CHANGES = [
         "another number of a request",
         "^number = 10$",
         "number = 12",
-        f"{CLIENTS} {NAMED}",
+        CLIENTS,
     ),
     Change(
         "another name of a call",
