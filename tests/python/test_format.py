@@ -18,7 +18,10 @@ import pytest
 
 from checking import TOP, run
 
-COPIED = "format tools crates schema include clients/c clients/posix clients/python clients/rust/src viewer" " docs/FORMAT.md man"
+COPIED = (
+    "format tools crates schema include clients/c clients/posix/broker clients/posix/runtime clients/posix/tracehost_posix"
+    " clients/python clients/rust/src viewer docs/FORMAT.md man"
+)
 CLIENTS = (
     "clients/c/names.c clients/c/tracehost_client.h clients/python/tracehost/names.py clients/rust/src/steps.rs include/tracehost.h"
     " clients/posix/broker/model.c clients/posix/runtime/trace.c"
