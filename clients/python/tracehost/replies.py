@@ -225,7 +225,7 @@ _Reply = TypeVar("_Reply")
 
 def answer(words: Sequence[str], kind: str, reader: Callable[[Sequence[str]], _Reply]) -> _Reply:
     if words[0] != kind:
-        raise ProtocolError(f"{' '.join(words)!r} where a reply `{kind}` is due")
+        raise ProtocolError(f"{' '.join(words)!r} instead of a reply `{kind}`")
     return read(words, reader)
 
 
