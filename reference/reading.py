@@ -6,17 +6,13 @@ from collections.abc import Callable
 from typing import NamedTuple, NoReturn, TypeAlias, TypeVar
 
 from . import names
+from .requests import REQUESTS, WITH_DATA
 from .rows import NO_NAMES, NONE, Names, Rule, Signals
 from .steps import Handle, Install, Kill, List, Ptrace, Sigaction, Spawn, Step, Turn, Wait
 
 LONGEST_TEXT, MOST_STEPS, DEEPEST = 4194304, 100000, 127
 WORD = range(4294967296)
 SIGNALS = range(1, names.LAST_SIGNAL + 1)
-WITH_DATA = (
-    "PT_ATTACH PT_CONTINUE PT_STEP PT_TO_SCE PT_TO_SCX PT_SYSCALL PT_DETACH PT_KILL PT_SUSPEND PT_RESUME "
-    "PT_GET_EVENT_MASK PT_FOLLOW_FORK PT_LWP_EVENTS PT_LWPINFO PT_GETNUMLWPS PT_GETLWPLIST"
-).split()
-REQUESTS = ("PT_TRACE_ME", "PT_SET_EVENT_MASK", *WITH_DATA)
 CALLS = ("exit", "fork", "vfork", "exec", "thr_new", "thr_exit", "other")
 ACTS = ("compute", "raise", "block", "enter", "leave")
 OPTIONS = ("WNOHANG", "WUNTRACED", "WCONTINUED")

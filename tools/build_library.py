@@ -17,16 +17,21 @@ path or build number gets into a file, so that the same sources give the same bi
 
 from __future__ import annotations
 
+import contextlib
+import importlib.machinery
+import importlib.util
 import os
 import shutil
 import subprocess
 import sys
 import tempfile
+from collections.abc import Iterator
 from pathlib import Path
+from typing import Any
 
-import kit
-from crates import TOP
+from crates import TOP, Unavailable
 
+KIT = Path(shutil.which("rt") or "/missing/bin/rt").resolve().parents[1]
 CRATE = "tracehost_c"
 OUT = TOP / "crates" / CRATE / "out"
 NAMES = ("libtracehost.a", "libtracehost.so")
@@ -38,9 +43,31 @@ C_FLAGS = (
 HEADERS = ("-isystem", f"{TOP}/library/freestanding", "-I", f"{TOP}/include")
 
 
+@contextlib.contextmanager
+def over_the_gate(name: str) -> Iterator[Any]:
+    """A crate as rt has it, over the libraries that `rt ci` has left of those below it. Nothing else works in them meanwhile."""
+    sys.dont_write_bytecode = True
+    loader = importlib.machinery.SourceFileLoader("rt", f"{KIT}/bin/rt")
+    spec = importlib.util.spec_from_loader("rt", loader)
+    assert spec is not None
+    rt: Any = importlib.util.module_from_spec(spec)
+    loader.exec_module(rt)
+    rt.Crate.allowed = rt.handles_of(str(TOP))
+    rt.rtlib.guarded()
+    crate = rt.Crate(f"{TOP}/crates/{name}", str(TOP), {})
+    locks = rt.rtlib.lock([*crate.below(), crate])
+    try:
+        if missing := [below.name for below in crate.below() if not Path(below.rlib).is_dir()]:
+            raise Unavailable(f"run `rt ci` first: there is no library of {', '.join(missing)}")
+        yield crate
+    finally:
+        for lock in locks:
+            os.close(lock)
+
+
 def unwinding(folder: str) -> str:
     """Makes a toolchain in the folder: the kit's, except that its clang adds unwind tables. Returns the folder."""
-    tools = kit.folder() / "toolchain"
+    tools = KIT / "toolchain"
     os.mkdir(f"{folder}/bin")
     os.symlink(f"{tools}/lib", f"{folder}/lib")
     for name in ("ld.lld", "llvm-ar", "kit-clang"):
@@ -52,7 +79,7 @@ def unwinding(folder: str) -> str:
 def build_archive() -> str:
     """Proves the crate and builds its archive. Returns the archive's path."""
     archive = f"out/lib{CRATE}.a"
-    with kit.over_the_gate(CRATE) as crate, tempfile.TemporaryDirectory() as room:
+    with over_the_gate(CRATE) as crate, tempfile.TemporaryDirectory() as room:
         OUT.mkdir(exist_ok=True)
         words = [*crate.words(["--jobs", "1"], keeps=False), "--backend", "llvm"]
         with open(f"{OUT}/build.log", "w+", encoding="utf-8") as crate.out:
@@ -61,26 +88,26 @@ def build_archive() -> str:
             lines = crate.out.read().splitlines()
     if status:
         print(*lines[-20:], sep="\n", file=sys.stderr)
-        raise kit.Unavailable(f"{CRATE} is not proved (status {status}): the whole log is {OUT}/build.log")
+        raise Unavailable(f"{CRATE} is not proved (status {status}): the whole log is {OUT}/build.log")
     print(*(line for line in lines if line.startswith(("logic=proved", "axioms"))), sep="\n")
     return f"{TOP}/crates/{CRATE}/{archive}"
 
 
 def link(archive: str, to: Path) -> None:
     """Makes libtracehost.a and libtracehost.so of the archive and the kit's functions for memory."""
-    tools, archive = kit.folder() / "toolchain", os.path.abspath(archive)
+    tools, archive = KIT / "toolchain", os.path.abspath(archive)
 
     def run(tool: str, *words: str) -> str:
         """Runs one of the tools, which are all one program, in the room."""
         command = subprocess.run([tool, *words], executable=f"{tools}/bin/clang", cwd=room, stdout=subprocess.PIPE, text=True)
         if command.returncode:
-            raise kit.Unavailable(f"{tool} failed with status {command.returncode}")
+            raise Unavailable(f"{tool} failed with status {command.returncode}")
         return command.stdout
 
     with tempfile.TemporaryDirectory() as room:
         members = run("llvm-ar", "t", archive).split()
         run("llvm-ar", "x", archive)
-        run("llvm-ar", "x", f"{kit.folder()}/c/liblibc_c.a", "heap.pic.o")
+        run("llvm-ar", "x", f"{KIT}/c/liblibc_c.a", "heap.pic.o")
         run("clang", *C_FLAGS, *HEADERS, "-c", f"{TOP}/library/words.c", "-o", "words.o")
         members += ["words.o", "heap.pic.o"]
         run("ld.lld", "-m", "elf_x86_64", "-r", "--threads=1", "-o", "tracehost.o", *members)
@@ -111,6 +138,8 @@ if __name__ == "__main__":
     if len(sys.argv) not in (1, 3):
         sys.exit("usage: tools/build_library.py [ARCHIVE FOLDER]")
     try:
+        if not KIT.is_dir():
+            raise Unavailable("the command rt of the Rattle kit is missing")
         main(sys.argv[1:])
-    except kit.Unavailable as why:
+    except Unavailable as why:
         sys.exit(f"build_library: {why}")

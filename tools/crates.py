@@ -8,6 +8,10 @@ from typing import NamedTuple
 TOP = Path(__file__).resolve().parent.parent
 
 
+class Unavailable(Exception):
+    """What can't be made here: the reason."""
+
+
 class Crate(NamedTuple):
     """A line of the file, and the crates that it names."""
 

@@ -9,7 +9,7 @@ nothing is an error. Names of the kit's own libraries are not followed.
 from __future__ import annotations
 
 import re
-from collections.abc import Iterator
+from collections.abc import Iterable, Iterator
 from functools import cache
 from pathlib import Path
 from typing import NamedTuple
@@ -153,8 +153,7 @@ class Walk:
             raise LookupError(f"{module}.{name} leads to no definition of {crate}")
 
     def add_type(self, crate: str, name: str) -> bool:
-        """Adds a type, and the types of its fields, or of its value if it has one: then contracts see only that. Returns
-        whether there is such a type in the crate, or in one that it uses."""
+        """Adds a type, and those of its value if it has one, or of its fields. Returns whether the crate, or one below, has it."""
         crates = listed()
         places = (read_types(place).get(name) for place in (crate, *crates[crate].uses) if place in crates)
         if (pieces := next(filter(None, places), None)) is None:
@@ -178,61 +177,57 @@ def contracts_of(names: str) -> Iterator[tuple[Piece, Source]]:
             yield from ((piece, source) for name, piece in source.pieces.items() if word in ("*", name))
 
 
-class Part(NamedTuple):
-    title: str
-    contracts: str
-    definitions: list[Piece]
-    types: list[Piece]
+Listed = dict[Path, list[Piece]]
 
 
-def parts() -> Iterator[Part]:
-    """Each part and its contracts, with the definitions and the types that it adds."""
+def by_file(pieces: Iterable[Piece]) -> Listed:
+    found: Listed = {}
+    for piece in pieces:
+        found.setdefault(piece.path, []).append(piece)
+    return found
+
+
+def lines(pieces: Iterable[Piece]) -> int:
+    return sum(len(piece.text.splitlines()) for piece in pieces)
+
+
+def parts() -> Iterator[tuple[str, str, Listed, Listed]]:
+    """Each part and its contracts, with the definitions and the types that it adds, by their files."""
     walk = Walk()
     for title, headline in HEADLINE.items():
-        names = " ".join(headline.split())
         before = {*walk.definitions, *walk.types}
-        for piece, source in contracts_of(names):
+        for piece, source in contracts_of(headline):
             walk.follow(piece, source)
-        new = ([piece for piece in found if piece not in before] for found in (walk.definitions, walk.types))
-        yield Part(title, names, *new)
-
-
-def by_file(pieces: list[Piece]) -> dict[Path, list[Piece]]:
-    return {path: [it for it in pieces if it.path == path] for path in dict.fromkeys(it.path for it in pieces)}
-
-
-def lines(pieces: list[Piece]) -> int:
-    return sum(len(it.text.splitlines()) for it in pieces)
-
-
-def size(pieces: list[Piece]) -> str:
-    return f"{lines(pieces):,} in {len(by_file(pieces))}" if pieces else "-"
+        definitions, types = (by_file(it for it in found if it not in before) for found in (walk.definitions, walk.types))
+        yield title, " ".join(headline.split()), definitions, types
 
 
 def totals() -> str:
     """How much that is, part by part."""
-    rows = ["| part | definitions: lines in files | types: lines in files |\n|---|---|---|\n"]
-    rows += [f"| {part.title} | {size(part.definitions)} | {size(part.types)} |\n" for part in parts()]
-    return "".join(rows)
+    text = "| part | definitions: lines in files | types: lines in files |\n|---|---|---|\n"
+    for title, _, *found in parts():
+        sizes = (f"{sum(map(lines, files.values())):,} in {len(files)}" if files else "-" for files in found)
+        text += f"| {title} | {' | '.join(sizes)} |\n"
+    return text
 
 
 def definitions() -> str:
     """The names of all that, by files, with counts of lines."""
-    rows = []
-    for part in parts():
-        rows.append(f"==== {part.title}\nlines  of {part.contracts}\n")
-        for path, pieces in (*by_file(part.definitions).items(), *by_file(part.types).items()):
-            rows.append(f"{lines(pieces):5}  {path.relative_to(TOP)}: {', '.join(dict.fromkeys(it.name for it in pieces))}\n")
-        rows.append(f"{lines([*part.definitions, *part.types]):5}\n")
-    return "".join(rows)
+    text = ""
+    for title, contracts, defined, types in parts():
+        text += f"==== {title}\nlines  of {contracts}\n"
+        for path, pieces in {**defined, **types}.items():
+            text += f"{lines(pieces):5}  {path.relative_to(TOP)}: {', '.join(dict.fromkeys(it.name for it in pieces))}\n"
+        text += f"{sum(map(lines, [*defined.values(), *types.values()])):5}\n"
+    return text
 
 
 def text() -> str:
     """The text of all that, to read from top to bottom."""
     shown = []
-    for part in parts():
-        shown.append(f"==== {part.title}")
-        for path, pieces in (*by_file(part.definitions).items(), *by_file(part.types).items()):
+    for title, _, defined, types in parts():
+        shown.append(f"==== {title}")
+        for path, pieces in {**defined, **types}.items():
             shown += [f"---- {path.relative_to(TOP)}", *(piece.text for piece in pieces)]
     return "\n\n".join(shown) + "\n"
 
@@ -240,6 +235,7 @@ def text() -> str:
 def of_the_kit() -> str:
     """The kit's crates that crates.txt names, with the crates that use each."""
     crates = listed()
-    uses = sorted({use for crate in crates.values() for use in crate.uses} - set(crates))
-    users = {use: ", ".join(f"`{name}`" for name, crate in crates.items() if use in crate.uses) for use in uses}
-    return "| the kit's crate | used by |\n|---|---|\n" + "".join(f"| `{use}` | {users[use]} |\n" for use in uses)
+    text = "| the kit's crate | used by |\n|---|---|\n"
+    for use in sorted({use for crate in crates.values() for use in crate.uses} - set(crates)):
+        text += f"| `{use}` | {', '.join(f'`{name}`' for name, crate in crates.items() if use in crate.uses)} |\n"
+    return text

@@ -108,7 +108,10 @@ int th_ptrace(th_host *h, th_caller caller, int request, th_pid pid, void *addr,
     case TH_PT_LWPINFO: return lwp_info(h, &step, addr, (size_t)data);
     case TH_PT_GET_EVENT_MASK: return get_event_mask(h, &step, addr);
     case TH_PT_SET_EVENT_MASK: return set_event_mask(h, &step, *(const int *)addr);
-    case TH_PT_GETNUMLWPS: return thp_call(h, &step, KIND(NUMBER), &reply, NULL) == 0 ? reply.number : -1;
+    /* tools/format requests for a number */
+    case TH_PT_GETNUMLWPS:
+        /* end */
+        return thp_call(h, &step, KIND(NUMBER), &reply, NULL) == 0 ? reply.number : -1;
     case TH_PT_GETLWPLIST: return lwp_list(h, &step, addr, data);
     default: step.data = (unsigned)data; return call_done(h, &step);
     }

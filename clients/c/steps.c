@@ -67,9 +67,12 @@ static void add_request(struct thp_text *text, const struct thp_step *step)
         return;
     add(text, ",\"target\":%u", (unsigned)step->target);
     switch (step->request) {
+    /* tools/format requests without data */
     case TH_PT_LWPINFO:
     case TH_PT_GETNUMLWPS:
-    case TH_PT_GET_EVENT_MASK: break;
+    case TH_PT_GET_EVENT_MASK:
+        /* end */
+        break;
     case TH_PT_SET_EVENT_MASK: add_names(text, "mask", &thp_events, (int)step->data); break;
     default: add(text, ",\"data\":%u", step->data);
     }

@@ -1,5 +1,5 @@
 /*
- * Sessions next to each other: two whose calls alternate answer as each does alone.
+ * Sessions next to each other: two whose calls alternate answer as each does by itself.
  *
  *     sessions [RUNS [SEED]]
  */

@@ -1,5 +1,5 @@
 /*
- * Sessions in threads: each answers as it does alone. A session is opened in one thread, used in another, and closed in the
+ * Sessions in threads: each answers as it does by itself. A session is opened in one thread, used in another, and closed in the
  * first.
  *
  *     threads [CALLS]
@@ -9,7 +9,7 @@
 
 enum { THREADS = 8 };
 
-/* The calls of a thread, and the replies to them: first of the session alone, then of the one in the thread. */
+/* The calls of a thread, and the replies to them: first of the session by itself, then of the one in the thread. */
 struct worker {
     tracehost h;
     struct call *calls;

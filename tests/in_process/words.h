@@ -1,4 +1,4 @@
-/* Replies in the words of docs/FORMAT.md, section 7, made of the struct alone. */
+/* Replies in the words of docs/FORMAT.md, section 7, made only of the struct. */
 #ifndef WORDS_H
 #define WORDS_H
 

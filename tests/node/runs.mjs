@@ -32,7 +32,7 @@ function read(path) {
     session: sessionOf(entries, files[1].killsTracees) };
 }
 
-/** What the viewer reads from a trace alone: its entries, its session, and what it reports. */
+/** What the viewer reads from only a trace: its entries, its session, and what it reports. */
 function readTrace(path, ...options) {
   const faults = [];
   const file = readFile({ name: "trace", text: linesOf(path, "--json=trace", ...options) });

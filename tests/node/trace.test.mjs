@@ -1,4 +1,4 @@
-/** Traces: a trace alone is read as the lines and their scenario are, in any order of its lines. */
+/** Traces: a trace by itself is read as the lines and their scenario are, in any order of its lines. */
 
 import assert from "node:assert/strict";
 import { test } from "node:test";

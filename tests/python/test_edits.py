@@ -20,8 +20,18 @@ import crates  # noqa: E402
 edits = load_script(TOP / "tools/edits")
 EDITS = sorted(path.relative_to(TOP / "crates") for path in TOP.glob("crates/*/must-fail*/*.edit"))
 WITH_FURTHER = sorted({path.parts[0] for path in EDITS if path.parts[1] == "must-fail-more"})
+LIB, SPEC, FURTHER = "crates/one/src/lib.rt", "crates/one/specs/Next.antt", "crates/one/must-fail-more/none.edit"
+REFUSED = "refused, as it must be: note: src/lib.rt:5:1"
 
-SOURCE = """\
+# the stand-in says of each edit what the comment in its last line says
+FILES = {
+    "HANDLES": "Handles allowed: none.\n",
+    "crates.txt": "low:\none: low\n",
+    "tests/edits_tried.tsv": "",
+    "crates/low/src/lib.rt": "pub fn least() -> u32 {\n    0\n}\n",
+    "crates/low/specs/Least.antt": "least = 0\n",
+    SPEC: "-- what comes after a number\nuse words.{plus}\n\nnext n = n + 1\n",
+    LIB: """\
 ghost use Rattle.one.specs.Next.{next};
 
 /// Returns the next number.
@@ -31,10 +41,8 @@ pub fn next(number: u32) -> Option<u32>
     let one = 1;
     number.checked_add(one)
 }
-"""
-
-# says of each edit what the comment in its last line says
-STAND_IN = """\
+""",
+    "bin/rt": """\
 #!/usr/bin/env python3
 import sys
 from pathlib import Path
@@ -46,8 +54,8 @@ for edit in sorted(Path('crates').glob('*/must-fail/*.edit')):
     kept |= said.startswith('NOT')
     print(f'rt: must-fail {edit.parts[1]}/{edit.name}: {said}')
 sys.exit(kept)
-"""
-REFUSED = "refused, as it must be: note: src/lib.rt:5:1"
+""",
+}
 
 
 class Repository:
@@ -55,24 +63,17 @@ class Repository:
 
     def __init__(self, top: Path) -> None:
         self.top = top
-        self.write("HANDLES", "Handles allowed: none.\n")
-        self.write("crates.txt", "low:\none: low\n")
-        self.write("tests/edits_tried.tsv", "")
-        self.write("crates/low/src/lib.rt", "pub fn least() -> u32 {\n    0\n}\n")
-        self.write("crates/low/specs/Least.antt", "least = 0\n")
-        self.write("crates/one/src/lib.rt", SOURCE)
-        self.write("crates/one/specs/Next.antt", "-- what comes after a number\nuse words.{plus}\n\nnext n = n + 1\n")
+        for path, text in FILES.items():
+            self.write(path, text)
         self.edit("must-fail/two", "one = 1", "one = 2", REFUSED)
         self.edit("must-fail-more/none", "(one)", "(0)", REFUSED)
-        self.write("bin/rt", STAND_IN)
         (top / "bin/rt").chmod(0o755)
         self.git("init", "-q")
         self.commit()
 
     def write(self, path: str, text: str) -> None:
-        file = self.top / path
-        file.parent.mkdir(parents=True, exist_ok=True)
-        file.write_text(text, encoding="utf-8")
+        (self.top / path).parent.mkdir(parents=True, exist_ok=True)
+        (self.top / path).write_text(text, encoding="utf-8")
 
     def replace(self, path: str, old: str, new: str) -> None:
         text = (self.top / path).read_text(encoding="utf-8")
@@ -112,31 +113,26 @@ def test_the_further_edits_were_tried_on_the_present_contracts(crate: str) -> No
 
 @pytest.fixture
 def tree(tmp_path: Path, monkeypatch: pytest.MonkeyPatch) -> Repository:
-    made = Repository(tmp_path)
     monkeypatch.setenv("PATH", f'{tmp_path}/bin:{os.environ["PATH"]}')
     for module in (crates, edits):
         monkeypatch.setattr(module, "TOP", tmp_path)
     monkeypatch.setattr(edits, "TABLE", tmp_path / "tests/edits_tried.tsv")
-    return made
+    return Repository(tmp_path)
 
 
 @pytest.fixture
 def tried(tree: Repository) -> Repository:
     """One whose further edit was tried on the present sources."""
+    assert edits.stale() == ["one"]
     assert edits.main(["one"]) == 0
     assert (edits.stale(), tree.complaints()) == ([], [])
     return tree
 
 
-def test_without_a_run_nothing_is_tried(tree: Repository) -> None:
-    assert edits.stale() == ["one"]
-
-
 def test_a_run_is_noted_with_its_commit(tried: Repository) -> None:
-    (row,) = tried.table()
-    assert row[:2] == ["one", "1"]
-    assert tried.git("rev-parse", "HEAD").startswith(row[3])
-    assert len(row[2]) == 16
+    ((name, count, digest, commit),) = tried.table()
+    assert (name, count, len(digest)) == ("one", "1", 16)
+    assert tried.git("rev-parse", "HEAD").startswith(commit)
 
 
 @pytest.mark.parametrize("names", [["one"], []], ids=["by name", "what is stale"])
@@ -152,15 +148,12 @@ def test_nothing_is_left_to_try(tried: Repository, capfd: pytest.CaptureFixture[
     assert capfd.readouterr().out == "edits: all were tried on the present contracts\n"
 
 
-@pytest.mark.parametrize(
-    "said",
-    [
-        "NOT REFUSED: the crate is still proved",
-        "BAD EDIT: it did not reach the prover",
-        "NOT TRIED: its check was killed",
-        "refused, as it must be (only because a proof file names what the edit took away",
-    ],
-)
+@pytest.mark.parametrize("said", [
+    "NOT REFUSED: the crate is still proved",
+    "BAD EDIT: it did not reach the prover",
+    "NOT TRIED: its check was killed",
+    "refused, as it must be (only because a proof file names what the edit took away",
+])  # fmt: skip
 def test_an_edit_that_is_not_refused_is_not_noted(tree: Repository, capfd: pytest.CaptureFixture[str], said: str) -> None:
     tree.edit("must-fail-more/none", "(one)", "(0)", said)
     tree.edit("must-fail-more/other", "(one)", "(3)", REFUSED)
@@ -170,52 +163,43 @@ def test_an_edit_that_is_not_refused_is_not_noted(tree: Repository, capfd: pytes
     assert tree.table() == []
 
 
-def test_sources_that_are_in_no_commit_are_not_tried(tree: Repository, capfd: pytest.CaptureFixture[str]) -> None:
+@pytest.mark.parametrize("name, why", [("one", "the sources are not those of a commit"), ("low", "low: no further edits")])
+def test_what_cannot_be_tried(tree: Repository, capfd: pytest.CaptureFixture[str], name: str, why: str) -> None:
     tree.replace("crates/low/specs/Least.antt", "0", "1")
-    with pytest.raises(SystemExit, match="edits: the sources are not those of a commit"):
-        edits.main(["one"])
+    with pytest.raises(SystemExit, match=f"^edits: {why}$"):
+        edits.main([name])
     assert (capfd.readouterr().out, tree.table()) == ("", [])
 
 
 def test_bodies_comments_and_imports_may_change(tried: Repository) -> None:
-    tried.replace("crates/one/src/lib.rt", "checked_add", "saturating_add")
-    tried.replace("crates/one/src/lib.rt", "the next", "the following")
-    tried.replace("crates/one/src/lib.rt", "Next.{next}", "Next.{following as next}")
+    tried.replace(LIB, "checked_add", "saturating_add")
+    tried.replace(LIB, "the next", "the following")
+    tried.replace(LIB, "Next.{next}", "Next.{following as next}")
     tried.replace("crates/low/src/lib.rt", "    0", "    1")
-    tried.replace("crates/one/specs/Next.antt", "comes after", "follows")
-    tried.replace("crates/one/specs/Next.antt", "use words.{plus}", "use words.{add as plus}")
+    tried.replace(SPEC, "comes after", "follows")
+    tried.replace(SPEC, "use words.{plus}", "use words.{add as plus}")
     assert (edits.stale(), tried.complaints()) == ([], [])
 
 
-@pytest.mark.parametrize(
-    ("path", "old", "new"),
-    [
-        ("crates/one/src/lib.rt", "result ≡ next number", "IfSome result (λ n. n ≡ next number)"),
-        ("crates/one/src/lib.rt", "number: u32", "number: u64"),
-        ("crates/one/specs/Next.antt", "1", "2"),
-        ("crates/one/must-fail-more/none.edit", "(0)", "(2)"),
-        ("crates/low/specs/Least.antt", "0", "1"),
-        ("crates/low/src/lib.rt", "-> u32", "-> u64"),
-    ],
-)
+@pytest.mark.parametrize("path, old, new", [
+    (LIB, "result ≡ next number", "IfSome result (λ n. n ≡ next number)"),
+    (LIB, "number: u32", "number: u64"),
+    (SPEC, "1", "2"),
+    (FURTHER, "(0)", "(2)"),
+    ("crates/low/specs/Least.antt", "0", "1"),
+    ("crates/low/src/lib.rt", "-> u32", "-> u64"),
+])  # fmt: skip
 def test_another_statement_makes_the_record_stale(tried: Repository, path: str, old: str, new: str) -> None:
     tried.replace(path, old, new)
     assert (edits.stale(), tried.complaints()) == (["one"], [])
 
 
-@pytest.mark.parametrize(
-    ("path", "old", "new", "why"),
-    [
-        ("crates/one/src/lib.rt", "let one", "let step", "its text is in src/lib.rt 0 times: one = 1"),
-        ("crates/one/must-fail/two.edit", f"one = 2 // {REFUSED}", "one = 1", "it changes nothing"),
-        ("crates/one/must-fail/two.edit", "file: src/lib", "file: src/main", "there is no file src/main.rt"),
-    ],
-)
+@pytest.mark.parametrize("path, old, new, why", [
+    (LIB, "let one", "let step", "its text is in src/lib.rt 0 times: one = 1"),
+    (FURTHER, "old: (one)", "old: ", f"its text is in src/lib.rt {len(FILES[LIB]) + 1} times: "),
+    ("crates/one/must-fail/two.edit", f"one = 2 // {REFUSED}", "one = 1", "it changes nothing"),
+    ("crates/one/must-fail/two.edit", "file: src/lib", "file: src/main", "there is no file src/main.rt"),
+])  # fmt: skip
 def test_an_edit_that_cannot_be_applied_fails(tried: Repository, path: str, old: str, new: str, why: str) -> None:
     tried.replace(path, old, new)
     assert tried.complaints() == [why]
-
-
-def test_a_crate_without_further_edits(tree: Repository) -> None:
-    with pytest.raises(SystemExit, match="edits: low: no further edits"):
-        edits.main(["low"])

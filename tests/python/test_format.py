@@ -20,11 +20,12 @@ from checking import TOP, run
 
 TABLES = ("format/scenario.toml", "format/refusals.toml")
 COPIED = (
-    "format tools crates schema include clients/c clients/posix/tracehost_posix clients/python clients/rust/src viewer"
-    " docs/FORMAT.md man"
+    "format tools crates schema include clients/c clients/posix/broker clients/posix/runtime clients/posix/tracehost_posix"
+    " clients/python clients/rust/src viewer docs/FORMAT.md man"
 )
 CLIENTS = (
     "clients/c/names.c clients/c/tracehost_client.h clients/python/tracehost/names.py clients/rust/src/steps.rs include/tracehost.h"
+    " clients/posix/broker/model.c clients/posix/runtime/trace.c"
 )
 NOT_IN_C = "clients/python/tracehost/conditions.py clients/rust/src/refusals.rs include/tracehost_explain.hpp"
 REFUSALS = f"clients/c/refusals.c {NOT_IN_C}"
@@ -52,6 +53,13 @@ CHANGES = [
         "^# A key has$",
         '[[key]]\nname = "spare"\nkind = "word"\n',
         " ".join([KEYS, *(f"crates/*/{file}" for file in KEY_SETS.split())]),
+    ),
+    Change(
+        "another reply",
+        '^answers = "`number`"',
+        'answers = "`info`"',
+        "clients/c/calls.c clients/python/tracehost/host.py clients/python/tracehost/replies.py clients/posix/runtime/trace.c"
+        " clients/rust/src/steps.rs docs/FORMAT.md",
     ),
     Change(
         "another name of a request",

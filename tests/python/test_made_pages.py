@@ -111,71 +111,41 @@ def test_a_change_makes_a_part_older(whole: Path, change: Change, name: str, fil
 # ---- the lists of TRUST.md
 
 
-def total(top: Path) -> int:
-    """The number of lines to read for the first part."""
-    found = re.search(r"^ *(\d+)$", pages("print", "definitions", top=top).out, re.MULTILINE)
+def lines(top: Path, of: str) -> int:
+    """The number of lines that the list prints for a file or for a part."""
+    found = re.search(rf"^ *(\d+){of}$", pages("print", "definitions", top=top).out, re.MULTILINE)
     assert found
     return int(found[1])
 
 
-@pytest.mark.parametrize(
-    ("more", "pattern", "new"),
-    [
-        (1, "^-- a step by a user$", "-- one\n-- a step by a user"),
-        (0, "^-- whether a step installs a handler$", "-- one\n-- whether a step installs a handler"),
-        (4, "^caller_of s = None$", "caller_of s = None ◌ installs"),
-    ],
-    ids=["a comment on a cited definition", "a comment on a definition that nothing cites", "a definition that cites one more"],
-)
-def test_the_list_follows_citations(whole: Path, change: Change, more: int, pattern: str, new: str) -> None:
-    before = total(whole)
-    change(file_with(pattern), pattern, new)
-    assert total(whole) - before == more
+@pytest.mark.parametrize("more, pattern, new, of", [
+    (1, "^-- a step by a user$", "-- one\n-- a step by a user", ""),
+    (0, "^-- whether a step installs a handler$", "-- one\n-- whether a step installs a handler", ""),  # that nothing cites
+    (4, "^caller_of s = None$", "caller_of s = None ◌ installs", ""),  # that cites one more
+    *((1, rf"^pub trait {name}\b", rf"/// More.\npub trait {name}", rf"  FILE: .*\b{name}\b.*") for name in ("Kept", "Report", "Scripted")),
+])  # fmt: skip
+def test_the_list_follows_citations(whole: Path, change: Change, more: int, pattern: str, new: str, of: str) -> None:
+    file = file_with(pattern)
+    before = lines(whole, of.replace("FILE", file))
+    change(file, pattern, new)
+    assert lines(whole, of.replace("FILE", file)) - before == more
 
 
-def says(whole: Path, error: str) -> bool:
-    made = pages("print", "definitions", top=whole)
-    return (made.status, made.out) == (1, "") and re.fullmatch(f"pages: {error}\n", made.err) is not None
+TYPES = r"^((?:pub(?:\(crate\))? )?(?:struct|enum)) {0}\b"
 
 
-@pytest.mark.parametrize("name", ["Keys", "Fields", "KeyError", "Request", "LwpData"])
-def test_a_cited_type_that_is_gone_is_an_error(whole: Path, change: Change, name: str) -> None:
-    pattern = rf"^((?:pub(?:\(crate\))? )?(?:struct|enum)) {name}\b"
-    change(file := file_with(pattern), pattern, r"\1 Elsewhere")
-    assert says(whole, rf".*\b{name} leads to no type of {file.split('/')[1]}")
-
-
-def test_a_cited_definition_that_is_gone_is_an_error(whole: Path, change: Change) -> None:
-    pattern = r"^(?:abbrev )?(?:pub )?max_lwps :"
-    change(file := file_with(pattern), pattern, "pub elsewhere :")
-    assert says(whole, f".*max_lwps leads to no definition of {file.split('/')[1]}")
-
-
-@pytest.mark.parametrize("name", ["Kept", "Report", "Scripted"])
-def test_a_trait_of_a_clause_is_in_the_list(whole: Path, change: Change, name: str) -> None:
-    file = file_with(rf"^pub trait {name}\b")
-
-    def lines() -> int:
-        row = re.search(rf"^ *(\d+)  {file}: .*\b{name}\b", pages("print", "definitions", top=whole).out, re.MULTILINE)
-        assert row
-        return int(row[1])
-
-    before = lines()
-    change(file, rf"^pub trait {name}\b", rf"/// More.\npub trait {name}")
-    assert lines() == before + 1
-
-
-@pytest.mark.parametrize(
-    ("name", "new", "error"),
-    [
-        ("run_list", "gone", "there is no function gone"),
-        (r"machine.rt \*", "machine.rt gone", "there is no function gone"),
-        ("machine.rt", "gone.rt", "No such file or directory: .*gone.rt'"),
-    ],
-)
-def test_a_contract_of_the_headline_that_is_gone_is_an_error(whole: Path, change: Change, name: str, new: str, error: str) -> None:
-    change("tools/trust.py", name, new)
-    assert says(whole, f".*{error}")
+@pytest.mark.parametrize("pattern, new, error", [
+    *((TYPES.format(it), r"\1 Elsewhere", rf"\b{it} leads to no type of CRATE") for it in ("Keys", "Fields", "KeyError", "Request", "LwpData")),
+    (r"^(?:abbrev )?(?:pub )?max_lwps :", "pub elsewhere :", "max_lwps leads to no definition of CRATE"),
+    ("run_list", "gone", "there is no function gone"),
+    (r"machine.rt \*", "machine.rt gone", "there is no function gone"),
+    ("machine.rt", "gone.rt", "No such file or directory: .*gone.rt'"),
+])  # fmt: skip
+def test_a_cited_name_that_is_gone_is_an_error(whole: Path, change: Change, pattern: str, new: str, error: str) -> None:
+    file = file_with(pattern) if "CRATE" in error else "tools/trust.py"
+    change(file, pattern, new)
+    error, made = error.replace("CRATE", file.split("/")[1]), pages("print", "definitions", top=whole)
+    assert (made.status, made.out) == (1, "") and re.fullmatch(f"pages: .*{error}\n", made.err)
 
 
 def test_each_module_of_tests_is_printed_with_its_head() -> None:

@@ -189,7 +189,7 @@ def test_all_have_the_results_of_the_table(results: dict[str, str]) -> None:
     rows = expected()
     wanted = {name: rows[name].result if name in rows else "pass" for name in results}
     differ = [
-        f"{name}: {found}, where {wanted[name]} was due" for name, found in results.items() if wanted[name] not in (found, "varies")
+        f"{name}: {found} instead of {wanted[name]}" for name, found in results.items() if wanted[name] not in (found, "varies")
     ]
     assert not differ, "\n".join(differ)
 

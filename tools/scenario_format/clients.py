@@ -103,7 +103,49 @@ def c_names(form: Format) -> str:
     )
 
 
+def c_cases(entries: list[Entry], prefix: str, indent: str) -> str:
+    return "".join(f"{indent}case {prefix}{entry.name}:\n" for entry in entries)
+
+
+def c_without_data(form: Format) -> str:
+    """The requests that are answered by a value, and whose data means nothing."""
+    found = [entry for entry in by_number(form.requests) if entry.data == "ignored" and entry.reply_names != ["ok"]]
+    return c_cases(found, "TH_", "    ")
+
+
+def c_for_a_number(form: Format) -> str:
+    return c_cases([entry for entry in by_number(form.requests) if entry.reply_names == ["number"]], "TH_", "    ")
+
+
+def broker_requests(form: Format) -> str:
+    rows = "".join(f'\t[TRACEHOST_{entry.name}] = "{entry.name}",\n' for entry in by_number(form.requests))
+    return f"static const char *const requests[] = {{\n{rows}}};\n"
+
+
+def runtime_requests(form: Format) -> str:
+    """The requests that take numbers only: no address of the debugger's."""
+    plain = [entry for entry in form.requests if "mask" not in entry.needed and entry.reply_names in (["ok"], ["number"])]
+    return c_cases(by_number(tuple(plain)), "", "\t")
+
+
 # ---- the client in Python
+
+
+def python_replies(form: Format) -> str:
+    """The reader of each request's reply, if that isn't `ok`."""
+    rows = [f'    Request.{entry.name}: "{entry.reply_names[0]}",\n' for entry in form.requests if entry.reply_names != ["ok"]]
+    return f"REQUESTS = {{\n{''.join(rows)}}}\n"
+
+
+def python_overloads(form: Format) -> str:
+    """The types of `Process.ptrace`."""
+    types = {"mask": "EventMask", "info": "LwpInfo", "number": "int", "lwps": "tuple[int, ...]"}
+    text = ""
+    for entry in form.requests:
+        if (returned := types.get(entry.reply_names[0])) is not None:
+            data = "data: int" if entry.data == "count" else "data: int = 0"
+            text += f"    @overload\n    def ptrace(self, request: Literal[Request.{entry.name}], target: int, {data}) -> {returned}: ...\n"
+    return text
 
 
 def python_class(head: str, about: str, members: list[str]) -> str:

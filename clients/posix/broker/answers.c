@@ -25,7 +25,7 @@ static int host_errno(uint32_t freebsd)
 	case 35: return EAGAIN;
 	case 45: return EOPNOTSUPP;
 	case 78: return ENOSYS;
-	default: return freebsd; /* the first 34 are the same but for these */
+	default: return freebsd; /* the first 34 are the same, except these */
 	}
 }
 

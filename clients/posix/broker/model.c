@@ -59,7 +59,9 @@ void write_last_reply(char *text, size_t room)
 
 /* ---- a step as text */
 
-static const char *const requests[] = {[TRACEHOST_PT_TRACE_ME] = "PT_TRACE_ME",
+/* tools/format requests */
+static const char *const requests[] = {
+	[TRACEHOST_PT_TRACE_ME] = "PT_TRACE_ME",
 	[TRACEHOST_PT_CONTINUE] = "PT_CONTINUE",
 	[TRACEHOST_PT_KILL] = "PT_KILL",
 	[TRACEHOST_PT_STEP] = "PT_STEP",
@@ -76,11 +78,19 @@ static const char *const requests[] = {[TRACEHOST_PT_TRACE_ME] = "PT_TRACE_ME",
 	[TRACEHOST_PT_FOLLOW_FORK] = "PT_FOLLOW_FORK",
 	[TRACEHOST_PT_LWP_EVENTS] = "PT_LWP_EVENTS",
 	[TRACEHOST_PT_GET_EVENT_MASK] = "PT_GET_EVENT_MASK",
-	[TRACEHOST_PT_SET_EVENT_MASK] = "PT_SET_EVENT_MASK"};
+	[TRACEHOST_PT_SET_EVENT_MASK] = "PT_SET_EVENT_MASK",
+};
+/* end */
 static const char *const call_names[] = {"fork", "vfork", "exec", "thr_new", "thr_exit", "exit", "other"};
 static const char *const actions[] = {"default", "ignore", "catch"};
 static const char *const option_names[] = {"WNOHANG", "WUNTRACED", "WCONTINUED"};
 static const char *const events[] = {"PTRACE_EXEC", "PTRACE_SCE", "PTRACE_SCX", "PTRACE_FORK", "PTRACE_LWP", "PTRACE_VFORK"};
+
+/* Whether the model has this request. */
+bool is_request(int64_t number)
+{
+	return number >= 0 && (size_t)number < sizeof requests / sizeof requests[0] && requests[number] != NULL;
+}
 
 struct text {
 	char *at;

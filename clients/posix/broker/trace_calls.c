@@ -5,13 +5,6 @@
 static const uint32_t events = TRACEHOST_PTRACE_EXEC | TRACEHOST_PTRACE_SCE | TRACEHOST_PTRACE_SCX | TRACEHOST_PTRACE_FORK |
 							   TRACEHOST_PTRACE_LWP | TRACEHOST_PTRACE_VFORK;
 
-static bool is_request(int64_t number)
-{
-	return number == TRACEHOST_PT_TRACE_ME || (number >= TRACEHOST_PT_CONTINUE && number <= TRACEHOST_PT_DETACH) ||
-		   (number >= TRACEHOST_PT_LWPINFO && number <= TRACEHOST_PT_GETLWPLIST) ||
-		   (number >= TRACEHOST_PT_SUSPEND && number <= TRACEHOST_PT_SET_EVENT_MASK);
-}
-
 static bool resumes(int64_t request)
 {
 	return request == TRACEHOST_PT_CONTINUE || request == TRACEHOST_PT_STEP || request == TRACEHOST_PT_DETACH ||

@@ -42,12 +42,12 @@ main(void)
 	if (waitpid(pid, &status, WUNTRACED) != pid)
 		err(1, "waitpid");
 	if (!WIFSTOPPED(status))
-		errx(1, "status %#x, where a stop was due", status);
+		errx(1, "status %#x instead of a stop", status);
 	kill(pid, SIGCONT);
 	if (waitpid(pid, &status, 0) != pid)
 		err(1, "waitpid");
 #endif
 	if (!WIFEXITED(status) || WEXITSTATUS(status) != 7)
-		errx(1, "status %#x, where exit 7 was due", status);
+		errx(1, "status %#x instead of exit 7", status);
 	return (waitpid(collector, &status, 0) == collector && status == 0 ? 0 : 1);
 }

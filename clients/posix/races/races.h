@@ -83,7 +83,7 @@ await_stop(pid_t pid, int sig)
 	int status = await(pid);
 
 	if (!WIFSTOPPED(status) || WSTOPSIG(status) != sig)
-		errx(1, "status %#x of %d, where a stop by %s was due", status, pid, strsignal(sig));
+		errx(1, "status %#x of %d instead of a stop by %s", status, pid, strsignal(sig));
 }
 
 #endif

@@ -73,6 +73,6 @@ main(void)
 	close(done[1]);
 	status = await(worker);
 	if (!WIFEXITED(status) || WEXITSTATUS(status) != 7)
-		errx(1, "status %#x of the worker, where exit 7 was due", status);
+		errx(1, "status %#x of the worker instead of exit 7", status);
 	return (0);
 }

@@ -351,6 +351,7 @@ int tracehost_ptrace(int request, pid_t target, char *address, int data)
 	case PT_GETLWPLIST: return list(HERE, target, (lwpid_t *)(void *)address, data);
 	case PT_GET_EVENT_MASK:
 	case PT_SET_EVENT_MASK: return event_mask(HERE, request, target, (int *)(void *)address, data);
+	/* tools/format requests */
 	case PT_TRACE_ME:
 	case PT_CONTINUE:
 	case PT_KILL:
@@ -364,7 +365,9 @@ int tracehost_ptrace(int request, pid_t target, char *address, int data)
 	case PT_TO_SCX:
 	case PT_SYSCALL:
 	case PT_FOLLOW_FORK:
-	case PT_LWP_EVENTS: return resume(HERE, request, target, address, data);
+	case PT_LWP_EVENTS:
+		/* end */
+		return resume(HERE, request, target, address, data);
 	default: return unknown(request);
 	}
 }

@@ -49,8 +49,8 @@ stopped_by(pid_t pid, int sig)
 	int status;
 
 	ATF_REQUIRE_EQ(waitpid(pid, &status, 0), pid);
-	ATF_REQUIRE_MSG(WIFSTOPPED(status), "status %#x, where a stop by %d was due", status, sig);
-	ATF_REQUIRE_MSG(WSTOPSIG(status) == sig, "stopped by %d, where %d was due", WSTOPSIG(status), sig);
+	ATF_REQUIRE_MSG(WIFSTOPPED(status), "status %#x instead of a stop by %d", status, sig);
+	ATF_REQUIRE_MSG(WSTOPSIG(status) == sig, "stopped by %d instead of %d", WSTOPSIG(status), sig);
 }
 
 /* A child that the caller traces, in its first stop: it does this when it goes on. */
@@ -93,7 +93,7 @@ go_on(pid_t pid)
 }
 
 /*
- * The next status but for stops by SIGCHLD. A traced process whose child stops or ends gets SIGCHLD; whether it stops for
+ * The next status, except stops by SIGCHLD. A traced process whose child stops or ends gets SIGCHLD; whether it stops for
  * that, with its action the default, isn't said in ptrace(2).
  */
 static inline int
@@ -115,7 +115,7 @@ exited(pid_t pid, int code)
 	int status;
 
 	status = status_past_sigchld(pid);
-	ATF_REQUIRE_MSG(WIFEXITED(status) && WEXITSTATUS(status) == code, "status %#x, where exit %d was due", status, code);
+	ATF_REQUIRE_MSG(WIFEXITED(status) && WEXITSTATUS(status) == code, "status %#x instead of exit %d", status, code);
 }
 
 static inline void
@@ -124,7 +124,7 @@ killed(pid_t pid, int sig)
 	int status;
 
 	status = status_past_sigchld(pid);
-	ATF_REQUIRE_MSG(WIFSIGNALED(status) && WTERMSIG(status) == sig, "status %#x, where signal %d was due", status, sig);
+	ATF_REQUIRE_MSG(WIFSIGNALED(status) && WTERMSIG(status) == sig, "status %#x instead of signal %d", status, sig);
 }
 
 /* No child is left. */

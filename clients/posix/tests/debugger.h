@@ -78,7 +78,7 @@ reports(pid_t pid, int wanted)
 
 	if (got == pid && status == wanted)
 		return (true);
-	fprintf(stderr, "waitpid of %d: %d with status %#x, where %#x is due (errno %d)\n", (int)pid, (int)got, status, wanted, errno);
+	fprintf(stderr, "waitpid of %d: %d with status %#x instead of %#x (errno %d)\n", (int)pid, (int)got, status, wanted, errno);
 	return (false);
 }
 

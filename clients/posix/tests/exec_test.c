@@ -4,8 +4,8 @@
 #include <pthread.h>
 
 /*
- * These programs are their own second image: with two arguments, of which the
- * first is "image", they look at one thing and exit before main.
+ * These programs are their own second image: with two arguments, the first
+ * being "image", they look at one thing and exit before main.
  */
 static char *program;
 

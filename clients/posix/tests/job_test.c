@@ -303,7 +303,7 @@ told_of(pid_t pid, int code, int status)
 	while (is_told == 0)
 		sigsuspend(&unblocked);
 	ATF_REQUIRE(told.si_signo == SIGCHLD && told.si_pid == pid && told.si_uid == getuid());
-	ATF_REQUIRE_MSG(told.si_code == code && told.si_status == status, "si_code %d with status %d, where %d with %d is due",
+	ATF_REQUIRE_MSG(told.si_code == code && told.si_status == status, "si_code %d with status %d instead of %d with %d",
 	    told.si_code, told.si_status, code, status);
 }
 

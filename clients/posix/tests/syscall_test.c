@@ -22,7 +22,7 @@ require_call(pid_t pid, int flag, unsigned code)
 	stopped_by(pid, SIGTRAP);
 	pl = information(pid);
 	ATF_REQUIRE_MSG((pl.pl_flags & (PL_FLAG_SCE | PL_FLAG_SCX)) == flag, "flags %#x", pl.pl_flags);
-	ATF_REQUIRE_MSG(pl.pl_syscall_code == code, "call %u, where %u was due", pl.pl_syscall_code, code);
+	ATF_REQUIRE_MSG(pl.pl_syscall_code == code, "call %u instead of %u", pl.pl_syscall_code, code);
 }
 
 /* Goes on until the entry of this call, or its exit. */

@@ -22,7 +22,7 @@ wait_call(pid_t pid, int flag, unsigned code)
 	pl = info(pid);
 	if ((pl.pl_flags & (PL_FLAG_SCE | PL_FLAG_SCX)) == flag && pl.pl_syscall_code == code)
 		return (true);
-	fprintf(stderr, "flags %#x and call %u, where %#x and %u are due\n", pl.pl_flags, pl.pl_syscall_code, flag, code);
+	fprintf(stderr, "flags %#x and call %u instead of %#x and %u\n", pl.pl_flags, pl.pl_syscall_code, flag, code);
 	return (false);
 }
 

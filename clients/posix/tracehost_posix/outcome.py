@@ -175,7 +175,7 @@ def fault(text: str) -> str:
     if name == "begins":
         return f"process {first} begins with {last!r}"
     if name == "number":
-        return f"the model has made {first}, where {last} was due"
+        return f"the model has made {first} instead of {last}"
     if name == "silent":
         tid, _, line = last.partition(" ")
         return f"{first}/{tid} doesn't answer {line!r}"

@@ -348,9 +348,9 @@ class User:
     def view(self) -> View:
         """The user's rows: processes by rising number, LWPs in order of birth. No step is made.
 
-        Over a pipe the library makes the steps of the session again, and has the rows. Raises ValueError if this is
-        no user, ProgramEnded and MemoryError. Over a pipe raises NotImplementedError if there is no library, or the
-        session had over 10,000 steps before its first view, and ProtocolError if the library isn't the program's.
+        Raises ValueError if this is no user, ProgramEnded and MemoryError. Over a pipe the library makes the steps of
+        the session again: NotImplementedError if there is none, or the session had over 10,000 steps before its first
+        view, and ProtocolError if the library isn't the program's.
         """
         if not 0 <= self.uid < 1 << 32:
             raise ValueError(f"{self.uid} is no user")
@@ -386,14 +386,16 @@ class Process:
         return f"Process({self.pid} of {self.user.uid})"
 
     # fmt: off
-    @overload
-    def ptrace(self, request: Literal[Request.PT_LWPINFO], target: int, data: int = 0) -> LwpInfo: ...
+    # tools/format requests
     @overload
     def ptrace(self, request: Literal[Request.PT_GET_EVENT_MASK], target: int, data: int = 0) -> EventMask: ...
+    @overload
+    def ptrace(self, request: Literal[Request.PT_LWPINFO], target: int, data: int = 0) -> LwpInfo: ...
     @overload
     def ptrace(self, request: Literal[Request.PT_GETNUMLWPS], target: int, data: int = 0) -> int: ...
     @overload
     def ptrace(self, request: Literal[Request.PT_GETLWPLIST], target: int, data: int) -> tuple[int, ...]: ...
+    # end
     @overload
     def ptrace(self, request: Request, target: int = 0, data: int = 0) -> Any: ...
     # fmt: on
@@ -407,8 +409,7 @@ class Process:
         - the number of LWPs that PT_GETLWPLIST asks for.
 
         PT_LWPINFO returns an `LwpInfo`, PT_GET_EVENT_MASK an `EventMask`, PT_GETNUMLWPS a number, PT_GETLWPLIST the
-        numbers of LWPs in order of birth, and every other request None. EBUSY mostly means that wait4 hasn't
-        reported the stop yet; docs/ERRNOS.md explains each errno.
+        numbers of LWPs in order of birth, and every other request None. docs/ERRNOS.md explains each errno.
         """
         of_kind("request", Request, request)
         if request == Request.PT_TRACE_ME:
@@ -478,10 +479,9 @@ class Process:
     ) -> None | Waited | Handled:
         """As `handle`. If the caller's rules leave or decline the stop, a function decides.
 
-        The function gets the stop, with the system call's number in `code`, and may make calls itself. It returns a
-        `Decision`, or a pair of Decision.CONTINUE or Decision.DETACH and the signal to pass on. Then the request is
-        made, a step of its own: another thread's step may come before it, and it may raise what `ptrace` raises. The
-        reply has that decision, and None for its handler.
+        The function gets the stop, and may make calls itself. It returns a `Decision`, or a pair of Decision.CONTINUE
+        or Decision.DETACH and the signal to pass on. Then the request is made, a step of its own: another thread's step
+        may come before it, and it may raise what `ptrace` raises. The reply has that decision, and None for its handler.
         """
         handled = self.handle(block=True, timeout=timeout) if block else self.handle(timeout=timeout)
         if not isinstance(handled, Handled) or handled.decision not in (Decision.LEAVE, Decision.DECLINE):

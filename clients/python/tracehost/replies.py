@@ -225,7 +225,7 @@ _Reply = TypeVar("_Reply")
 
 def answer(words: Sequence[str], kind: str, reader: Callable[[Sequence[str]], _Reply]) -> _Reply:
     if words[0] != kind:
-        raise ProtocolError(f"{' '.join(words)!r} where a reply `{kind}` is due")
+        raise ProtocolError(f"{' '.join(words)!r} instead of a reply `{kind}`")
     return read(words, reader)
 
 
@@ -355,11 +355,20 @@ def _ended(words: Sequence[str]) -> Ended:
     return Ended(_status(words[1]))
 
 
-PTRACE: dict[Request, tuple[str, Callable[[Sequence[str]], Any]]] = {
-    Request.PT_LWPINFO: ("info", _info),
-    Request.PT_GET_EVENT_MASK: ("mask", _mask),
-    Request.PT_GETNUMLWPS: ("number", number),
-    Request.PT_GETLWPLIST: ("lwps", numbers),
+# tools/format requests
+REQUESTS = {
+    Request.PT_GET_EVENT_MASK: "mask",
+    Request.PT_LWPINFO: "info",
+    Request.PT_GETNUMLWPS: "number",
+    Request.PT_GETLWPLIST: "lwps",
+}
+# end
+PTRACE: dict[str, Callable[[Sequence[str]], Any]] = {
+    "ok": done,
+    "info": _info,
+    "mask": _mask,
+    "number": number,
+    "lwps": numbers,
 }
 
 TURNED: dict[str, Callable[[Sequence[str]], Turned]] = {

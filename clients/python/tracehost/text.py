@@ -111,8 +111,8 @@ class TextCalls:
             more = f',"target":{target},"mask":{names_of(data, EVENTS)}'
         else:
             more = f',"target":{target},"data":{data}'
-        kind, reader = replies.PTRACE.get(request, ("ok", replies.done))
-        return answer(self._by(uid, pid, "ptrace", f',"request":"{request.name}"{more}'), kind, reader)
+        kind = replies.REQUESTS.get(request, "ok")
+        return answer(self._by(uid, pid, "ptrace", f',"request":"{request.name}"{more}'), kind, replies.PTRACE[kind])
 
     def wait4(self, uid: int, pid: int, which: int, options: int) -> Waited:
         named = f',"options":{names_of(options, OPTIONS)}' if options else ""

@@ -1,4 +1,4 @@
-/* The host's <sys/wait.h>, with FreeBSD's options. Statuses have the same form, but for a process that was continued. */
+/* The host's <sys/wait.h>, with FreeBSD's options. Statuses have the same form, except of a process that was continued. */
 #include_next <sys/wait.h>
 #ifndef TRACEHOST_SYS_WAIT_H
 #define TRACEHOST_SYS_WAIT_H
