@@ -33,10 +33,10 @@ _tracehost()
     *)
         if [[ $word == -* ]]; then
             local given=" ${COMP_WORDS[*]:1:COMP_CWORD - 1} "
-            local scenario="--user --threads --expect" lines="--lines --kill-on-debugger-exit"
+            local scenario="--user --threads --expect --bless" lines="--lines --kill-on-debugger-exit"
             local all="--json --explain --help -h --version -V"
             [[ $given =~ \ --(lines|kill-on-debugger-exit)\  ]] && scenario=''
-            [[ $given =~ \ --(user|threads|expect)\  ]] && lines=''
+            [[ $given =~ \ --(user|threads|expect|bless)\  ]] && lines=''
             mapfile -t COMPREPLY < <(compgen -W "$scenario $lines $all" -- "$word")
             return
         fi
