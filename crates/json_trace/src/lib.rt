@@ -7,7 +7,7 @@
 //!
 //! No clause speaks of the members. The tests named schema and trace compare them with the schema and the scenario.
 //!
-//! Begin with `writing`.
+//! Begin with `writing`, then with `states`.
 #![tactic(auto)]
 
 mod changes;

@@ -1,6 +1,6 @@
 -- What the options and the operand of a command line ask for.
 use Rattle.std.specs.{Prelude.{ℕ, ◌==◌, Bool, true, false, not, List, Option, Some, None, is_some, bytes_eq, codes, if◌then◌else◌}, Borrow.Bor}
-use Rattle.{pid_blocks.specs.Users.IsUser, tracehost.specs.declared.asking.{Arguments.Arguments, Expectation.Expectation, RunRequest.RunRequest, Mode.{Mode, TheVariants.{Scenario, Lines}}, Selection.Selection, Terminals.Terminals}}
+use Rattle.{pid_blocks.specs.Users.IsUser, tracehost.specs.declared.asking.{Arguments.Arguments, Expectation.Expectation, RunRequest.RunRequest, Mode.{Mode, TheVariants.{Scenario, Lines, List as ListMode}}, Selection.Selection, Terminals.Terminals}}
 use Rattle.scenario_runs.specs.declared.style.Style.{Style, TheVariants.{Text, Json}}
 
 -- whether a word is given, and is this one
@@ -47,11 +47,16 @@ abbrev pub expectation_by : Option (Bor (List ℕ)) → Bool → Option Expectat
 expectation_by None bless = None
 expectation_by (Some path) bless = Some (record { path = path; blesses = bless })
 
--- with --lines a session line by line, and else a scenario
+-- with --expect-list the scenarios of a list, and else one
+abbrev pub run_by : Option (Bor (List ℕ)) → Selection → Option Expectation → Mode
+run_by None shown expected = Scenario shown expected
+run_by (Some path) shown expected = ListMode path shown
+
+-- with --lines a session line by line, and else scenarios
 abbrev pub mode_by : Arguments → Option ℕ → Mode
 mode_by arguments user = if arguments.lines
     then Lines (kills_by arguments.kill_on_debugger_exit) (style_by arguments.json)
-    else Scenario (shown_by arguments user) (expectation_by arguments.expect arguments.bless)
+    else run_by arguments.list (shown_by arguments user) (expectation_by arguments.expect arguments.bless)
 
 abbrev pub asked_by : Arguments → Terminals → RunRequest
 asked_by arguments terminals = record {

@@ -15,6 +15,7 @@ pub record IsIn (found : Found) (arguments : Arguments) : Type 0 where
   pub file : IsWord found (codes "FILE") arguments.file
   pub explain : IsWord found (codes "WHEN") arguments.explain
   pub expect : IsWord found (codes "expect") arguments.expect
+  pub list : IsWord found (codes "LIST") arguments.list
   pub json : IsWord found (codes "json") arguments.json
   pub user : IsNumber (one_text found (codes "UID")) arguments.user
   pub threads : one_text found (codes "threads") ≡ Some (codes "true") → arguments.threads ≡ true

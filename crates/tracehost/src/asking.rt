@@ -22,6 +22,8 @@ pub(crate) struct Arguments<'a> {
     pub(crate) expect: Option<&'a str>,
     /// Whether `--bless` is there.
     pub(crate) bless: bool,
+    /// The file of `--expect-list`.
+    pub(crate) list: Option<&'a str>,
     /// The word of `--json`: `replies`, `trace` or `trace+rows`.
     pub(crate) json: Option<&'a str>,
     /// Whether `--lines` is there.
@@ -60,6 +62,11 @@ pub(crate) enum Mode<'a> {
     Scenario {
         shown: Selection,
         expected: Option<Expectation<'a>>,
+    },
+    /// As a list of scenarios, each with the file of its expected lines.
+    List {
+        path: &'a str,
+        shown: Selection,
     },
     /// As lines with a step each, which a host answers one by one.
     Lines {
@@ -156,15 +163,19 @@ fn mode_of<'a>(arguments: Arguments<'a>, user: Option<Uid>) -> Mode<'a>
             style,
         };
     }
-    Mode::Scenario {
-        shown: Selection {
-            user,
-            style,
-            threads: arguments.threads,
-            trace: has_value(arguments.json, "trace"),
-            rows: has_value(arguments.json, "trace+rows"),
+    let shown = Selection {
+        user,
+        style,
+        threads: arguments.threads,
+        trace: has_value(arguments.json, "trace"),
+        rows: has_value(arguments.json, "trace+rows"),
+    };
+    match arguments.list {
+        Some(path) => Mode::List { path, shown },
+        None => Mode::Scenario {
+            shown,
+            expected: expectation_of(arguments.expect, arguments.bless),
         },
-        expected: expectation_of(arguments.expect, arguments.bless),
     }
 }
 

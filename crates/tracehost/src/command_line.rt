@@ -87,7 +87,7 @@ const LONG_OPTIONS: [(&str, &str); 7] = [
     ("-b", "--bless"),
     ("-u", "--user UID"),
     ("-t", "--threads"),
-    ("-e", "--expect FILE or --explain"),
+    ("-e", "--expect FILE, --expect-list LIST or --explain"),
     ("-j", "--json"),
     ("-l", "--lines"),
     ("-k", "--kill-on-debugger-exit 0 or 1"),
@@ -121,6 +121,15 @@ fn with_scenario_options<'a>(
         .requires_arg("expect")?
         .help("With --expect: write the lines to its file if they are different");
     let command = command.arg(bless)?;
+    let list = Arg::new(alloc, "LIST")
+        .long("expect-list")
+        .action(ArgAction::Set)
+        .conflicts_with("FILE")?
+        .conflicts_with("expect")?
+        .help(
+            "Run the scenario of each line of this file, and compare its lines with the file after the tab",
+        );
+    let command = command.arg(list)?;
     let json = Arg::new(alloc, "json")
         .long("json")
         .value_name("WHAT")
@@ -144,6 +153,7 @@ fn with_line_options<'a>(alloc: Global, command: Command<'a>) -> Result<Command<
         .conflicts_with("threads")?
         .conflicts_with("expect")?
         .conflicts_with("bless")?
+        .conflicts_with("LIST")?
         .help("Read one step a line, and answer each before the next one is read");
     let command = command.arg(lines)?;
     let kill = Arg::new(alloc, "0|1")
@@ -307,6 +317,7 @@ fn arguments_of<'a>(matches: &ArgMatches<'a>) -> Result<Arguments<'a>, Refusal>
         threads: matches.get_flag("threads"),
         expect: matches.get_str("expect"),
         bless: matches.get_flag("bless"),
+        list: matches.get_str("LIST"),
         json: matches.get_str("json"),
         lines: matches.get_flag("lines"),
         kill_on_debugger_exit: matches.get_one("0|1"),

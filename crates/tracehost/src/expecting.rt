@@ -83,26 +83,34 @@ pub(crate) fn compare<R: Files + Print + AllocGlobal>(
     };
     let answered = Answered::new(rt.alloc(), run.scenario, run.shown)?;
     let rows = rows_of(rt.alloc(), wanted.as_slice(), run.text)?;
-    if write_diff(rt, expected.path, run.scenario, &answered, rows.as_slice()).is_err() {
+    let written = write_diff(
+        rt.alloc(),
+        &mut io::writer(rt),
+        expected.path,
+        run.scenario,
+        &answered,
+        rows.as_slice(),
+    );
+    if written.is_err() {
         return Err(CommandError::Run(RunFault::Write));
     }
     if expected.blesses {
         return bless(rt, expected.path, run.text, explains);
     }
-    let line = line_of_difference(rt.alloc(), expected.path, &answered, difference)?;
+    let line = line_of_difference(rt.alloc(), expected.path, &answered, &difference)?;
     Err(CommandError::Different(line))
 }
 
 /// Writes the rows as a unified diff.
-fn write_diff<R: Print + AllocGlobal>(
-    rt: &R,
+fn write_diff<W: Write + Drop>(
+    alloc: Global,
+    out: W,
     path: &str,
     scenario: &Scenario,
     answered: &Answered<'_>,
     rows: &[Row<'_>],
 ) -> io::Result<()> {
-    let alloc = rt.alloc();
-    let mut out = BufWriter::new(alloc, io::writer(&*rt))?;
+    let mut out = BufWriter::new(alloc, out)?;
     let name = FileName { name: path };
     let head = format!(in alloc; "--- {name}\texpected\n+++ {name}\tgot\n")?;
     out.write_all(head.as_bytes())?;
@@ -111,13 +119,19 @@ fn write_diff<R: Print + AllocGlobal>(
     for hunk in &hunks {
         let head = hunk_head(alloc, &steps, answered, rows, hunk)?;
         out.write_all(head.as_slice())?;
-        for row in hunk.rows(rows) {
-            out.write_all(row.sign())?;
-            out.write_all(row.line)?;
-            out.write_all(row.end())?;
-        }
+        write_rows(&mut out, hunk.rows(&*rows))?;
     }
     out.flush()
+}
+
+/// Writes the rows of a hunk.
+fn write_rows<W: Write>(out: &mut W, rows: &[Row<'_>]) -> io::Result<()> {
+    for row in rows {
+        out.write_all(row.sign())?;
+        out.write_all(row.line)?;
+        out.write_all(row.end())?;
+    }
+    Ok(())
 }
 
 /// Returns the line before a hunk: its places in both texts, and the step at its first change.
@@ -171,18 +185,17 @@ fn replace<R: Files + AllocGlobal>(rt: &R, path: &str, text: &[u8]) -> io::Resul
     written
 }
 
-/// The line about a difference, and one about the step that the differing line answers.
-fn line_of_difference(
+/// The line about a difference.
+pub(crate) fn first_line(
     alloc: Global,
     path: &str,
-    answered: &Answered<'_>,
-    difference: Difference<'_>,
+    difference: &Difference<'_>,
 ) -> Result<String, AllocError> {
     let Difference {
         line,
         expected,
         got,
-    } = difference;
+    } = *difference;
     let wanted = Quoted {
         line: expected,
         other: got,
@@ -194,14 +207,32 @@ fn line_of_difference(
         end: "no more lines",
     };
     let name = FileName { name: path };
-    let mut text = format!(in alloc; "{name}:{line}: expected {wanted}, got {had}")?;
-    if let Some(step) = answered.step(line.saturating_sub(1)) {
+    format!(in alloc; "{name}:{line}: expected {wanted}, got {had}")
+}
+
+/// The line about a difference, and one about the step that the differing line answers.
+fn line_of_difference(
+    alloc: Global,
+    path: &str,
+    answered: &Answered<'_>,
+    difference: &Difference<'_>,
+) -> Result<String, AllocError> {
+    let mut text = first_line(alloc, path, difference)?;
+    if let Some(step) = answered.step(difference.line.saturating_sub(1)) {
         write!(text, "\n  it answers {step}")?;
     }
-    if expected.is_some_and(|line| line.iter().any(|byte| b"*?$<%\\".contains(byte))) {
+    if has_pattern(difference.expected) {
         text.push_str(NO_PATTERNS)?;
     }
     Ok(text)
+}
+
+/// Whether an expected line has a character that no line of a run has.
+fn has_pattern(line: Option<&[u8]>) -> bool {
+    match line {
+        Some(line) => line.iter().any(|byte| b"*?$<%\\".contains(byte)),
+        None => false,
+    }
 }
 
 /// What is said of an expected line with a character that no line of a run has.

@@ -122,7 +122,7 @@ pub(crate) fn explained_scenario<R: Files + Input + Eprint + AllocGlobal>(
 /// Says on the terminal what is read from it.
 pub(crate) fn prompt<R: Eprint>(rt: &R, mode: &Mode<'_>) {
     let expected = match mode {
-        Mode::Scenario { .. } => SCENARIO_PROMPT,
+        Mode::Scenario { .. } | Mode::List { .. } => SCENARIO_PROMPT,
         Mode::Lines { .. } => LINES_PROMPT,
     };
     let _ = eprintln!(rt; "{expected}");

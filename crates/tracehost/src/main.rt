@@ -1,6 +1,7 @@
 //! `tracehost [FILE] [--user UID] [--threads]` runs a scenario, and prints its lines, or only those of one user. With `--threads` each
 //! user's steps are made by a thread of their own, and the lines come user by user. With `--expect FILE` the lines are compared with the
-//! file's, and only what is different is printed. With `--bless` the file then gets the lines.
+//! file's, and only what is different is printed. With `--bless` the file then gets the lines. `--expect-list LIST`
+//! compares those of many scenarios.
 //!
 //! `tracehost --lines [FILE] [--kill-on-debugger-exit 0|1]` makes the step of each line, and prints its reply before it reads the next
 //! one.
@@ -19,11 +20,13 @@ mod command_line;
 mod differing;
 mod expecting;
 mod explaining;
+mod listing;
 
 use crate::asking::{Expectation, Mode, RunRequest, Selection, Terminals};
 use crate::command_line::{Message, Refusal, asked_of};
 use crate::expecting::{RunLines, compare, read_expected};
 use crate::explaining::{Explained, explain_empty_run, explained_scenario, prompt, unread};
+use crate::listing::compare_list;
 use json_trace::{TraceWriter, write_states};
 use open_sessions::{ServeError, serve};
 use scenario::run_threads_with;
@@ -64,6 +67,8 @@ enum CommandError {
     Unwritten(String),
     /// The run's lines aren't the expected ones; and a line about the first difference.
     Different(String),
+    /// Rows of a list weren't as expected; and a line that counts them, and the status.
+    List(String, u8),
 }
 
 impl From<io::Error> for CommandError {
@@ -145,7 +150,7 @@ fn open_input<R: Files + AllocGlobal>(
 }
 
 /// The scenario of the file, or of standard input.
-fn scenario_of<R: Files + Input + AllocGlobal>(
+pub(crate) fn scenario_of<R: Files + Input + AllocGlobal>(
     rt: &R,
     file: Option<&str>,
 ) -> Result<Scenario, Fault> {
@@ -263,7 +268,7 @@ fn write_run<R: AllocGlobal + Threads + Wait + Sync, F: Decider + Send + Drop, W
 }
 
 /// Makes the steps of the scenario, and returns the lines that are asked for.
-fn text_of_run<R: AllocGlobal + Threads + Wait + Sync, F: Decider + Send + Drop>(
+pub(crate) fn text_of_run<R: AllocGlobal + Threads + Wait + Sync, F: Decider + Send + Drop>(
     rt: &R,
     scenario: &Scenario,
     handlers: Vec<Handler<F>>,
@@ -338,6 +343,7 @@ fn go<R: Files + Input + Print + Eprint + Env + AllocGlobal + Threads + Wait + S
     }
     match mode {
         Mode::Scenario { shown, expected } => read_and_run(rt, file, explains, &shown, expected),
+        Mode::List { path, shown } => compare_list(rt, path, &shown, explains),
         Mode::Lines {
             kills_on_exit,
             style,
@@ -391,6 +397,10 @@ fn report<R: Print + Eprint>(rt: &R, trouble: &CommandError) -> u8 {
         CommandError::Unwritten(reason) => {
             let _ = eprint!(rt; "{}\n{reason}", RunFault::Write);
             RunFault::Write.status()
+        }
+        CommandError::List(line, status) => {
+            let _ = eprintln!(rt; "{line}");
+            *status
         }
         CommandError::Different(line) => {
             let _ = eprintln!(rt; "{line}");

@@ -73,9 +73,9 @@ flat (Reply.Ended w) = record (blank 12) { status = w }
 flat Reply.Held = blank 13
 flat (Reply.Errno e) = record (blank 14) { error = errno_number e }
 
--- ---- what a flat reply tells
+-- ---- what a flat reply says
 
--- two replies are the same, but that a list counts by its length, in 32 bits, and a status by its word
+-- two replies are the same, except that a list counts by its length, in 32 bits, and a status by its word
 pub data Alike : Reply → Reply → Type 0 where
   same : (r : Reply) → Alike r r
   lwps : (xs ys : List ℕ) → length xs % 2 ^ 32 ≡ length ys % 2 ^ 32 → Alike (Reply.Lwps xs) (Reply.Lwps ys)

@@ -13,7 +13,7 @@ pub fn handle_calls_are_private()
     calls_are_private();
 }
 
-/// Two replies with the same flat form are the same reply, but that a list counts by its length, and a status by its
+/// Two replies with the same flat form are the same reply, except that a list counts by its length, and a status by its
 /// word. Since no two statuses have the same word, they are the same reply if they are no lists.
 pub fn flat_forms_differ()
     ensures alike { FlatFormsDiffer }
