@@ -1,0 +1,107 @@
+"""The same failing test in Python, C, C++ and Rust: four records that the program replays with the same lines, and four pages
+that show the same test, step and state.
+"""
+
+from __future__ import annotations
+
+import os
+import subprocess
+import sys
+from pathlib import Path
+from typing import Any
+
+import pytest
+from checking import TOP, needs, run
+from failing_programs import in_c, in_catch2, in_cpp, in_gtest, in_rust, page_of
+from test_viewer_state import SHOWN
+from viewer_browser import Tab
+from viewer_pages import browser, needs_browser, viewed
+
+__all__ = ["viewed"]  # a fixture
+pytestmark = [needs("cc"), needs("c++"), needs("cargo")]
+STEPS = 8
+PYTHON = """
+import os
+from tracehost import Compute, Host, Raise, Request, Signal
+
+
+def test_fails(tracehost: Host) -> None:
+    user = tracehost.user(1001)
+    debugger, target = user.process(user.spawn()), user.spawn()
+    debugger.ptrace(Request.PT_ATTACH, target.pid)
+    debugger.wait4()
+    debugger.ptrace(Request.PT_STEP, target.pid)
+    user.turn(target.tid, Raise(Signal.SIGSEGV))
+    user.turn(target.tid, Compute())
+    assert os.WSTOPSIG(debugger.wait4().status) == Signal.SIGTRAP
+"""
+
+
+def by_pytest(room: Path, program: Path) -> Path:
+    """Where the failing test in Python has left its session."""
+    (room / "test_debugger.py").write_text(PYTHON)
+    words = ["-q", "-p", "tracehost.pytest_plugin", "-p", "no:cacheprovider", f"--basetemp={room / 'base'}"]
+    environment = {
+        **os.environ,
+        "PYTHONPATH": str(TOP / "clients/python"),
+        "TRACEHOST": str(program),
+        "TRACEHOST_ARTIFACTS": str(room / "left"),
+    }
+    ran = subprocess.run(
+        [sys.executable, "-m", "pytest", *words, "test_debugger.py"], cwd=room, env=environment, check=False, stdout=subprocess.PIPE
+    )
+    assert ran.returncode == 1, ran.stdout
+    (scenario,) = (room / "left").glob("*/session.json")
+    return scenario
+
+
+@pytest.fixture(scope="module")
+def records(library: Path, program: Path, tmp_path_factory: pytest.TempPathFactory) -> dict[str, Path]:
+    """The scenario that the failing test has left, for each way to write it."""
+    room = tmp_path_factory.mktemp("alike")
+    (room / "python").mkdir()
+    left = {"python": by_pytest(room / "python", program)}
+    made = {
+        "c": (in_c(room, library, program, "in process"), "fails"),
+        "c over a pipe": (in_c(room, library, program, "pipe"), "fails"),
+        "c++": (in_cpp(room, library), "fails"),
+        "googletest": (in_gtest(room, library), "debugger.fails"),
+        "catch2": (in_catch2(room, library), "fails"),
+        "rust": (in_rust(room, library), "fails"),
+    }
+    for name, (failing, case) in made.items():
+        failing.environment = {"TRACEHOST": str(program), "TRACEHOST_VIEW": str(TOP / "viewer/make")}
+        ran = failing(case, room / name)
+        assert ran.status not in (0, 2), (name, ran)
+        left[name] = room / name / f"{case}.json"
+    return left
+
+
+def test_the_records_have_the_same_lines(records: dict[str, Path], program: Path) -> None:
+    printed = {name: run(program, scenario) for name, scenario in records.items()}
+    assert all(ran.status == 0 for ran in printed.values())
+    assert len({ran.out for ran in printed.values()}) == 1
+    assert len(printed["python"].out.splitlines()) == STEPS
+    for scenario in records.values():
+        assert scenario.with_suffix(".out").read_text() == printed["python"].out
+
+
+def test_the_pages_are_of_the_same_step(records: dict[str, Path]) -> None:
+    failures: dict[str, Any] = {name: page_of(scenario.with_suffix(".html"))["failure"] for name, scenario in records.items()}
+    assert {failure["step"] for failure in failures.values()} == {STEPS}
+    assert all("fails" in failure["test"] and failure["message"] for failure in failures.values())
+
+
+@needs_browser
+def test_the_pages_show_the_same_state(records: dict[str, Path]) -> None:
+    """They open at the step: the stopped target, its debugger, and that the last wait has reported the stop."""
+    shown = {}
+    for name, scenario in records.items():
+        tab = Tab(browser(), scenario.with_suffix(".html"), "")
+        tab.settle()
+        shown[name] = tab.value(SHOWN)
+        assert "fails" in tab.value("document.getElementById('failure').textContent"), name
+        tab.close()
+    assert all(state == shown["python"] for state in shown.values()), shown
+    facts = {row["name"]: row["facts"] for row in shown["python"]}
+    assert facts["1001"][:3] == ["trace stop SIGSEGV of LWP 100001", "reported", "traced by 1000"]
