@@ -7,7 +7,7 @@ Each module has one thought:
 - `describe`: who waits in which call, and for whom;
 - `pool`: brokers on several processors;
 - `search`: many schedules, and the shortest that fails; `many`: a search as a command, `tally`: what its runs come to,
-  `ledger`: a file that keeps that;
+  `ledger`: a file that keeps that, `farm`: workers on other machines;
 - `record`: a run as a scenario, and as a schedule to run again;
 - `report`: a failing run, with its places in the program;
 - `options`, `command`: the command line.

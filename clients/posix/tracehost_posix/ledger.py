@@ -154,8 +154,12 @@ class Ledger:
             self._block = Block(seed)
         self._block.add(seed, result, new)
         if stops or _ends(seed, self._seeds):
-            self._write(self._block.line())
+            self.keep(self._block)
             self._block = Block(seed + 1)
+
+    def keep(self, block: Block) -> None:
+        """Keeps a block that has ended."""
+        self._write(block.line())
 
     def _write(self, line: str) -> None:
         text = f"{line}\n".encode()

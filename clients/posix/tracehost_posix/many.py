@@ -73,7 +73,10 @@ class Search:
         for block in ledger.blocks if ledger is not None else ():
             self._tally.take(block)
             first = block.last + 1
-        if self._stops():
+        if self._stops() or first == seeds.stop:
+            return
+        if self._given.workers is not None:
+            self._run_on_workers(range(first, seeds.stop), ledger)
             return
         for seed, result in search.seeds(pool, range(first, seeds.stop), self._task):
             new = self._heard(seed, result)
@@ -82,31 +85,70 @@ class Search:
             if self._stops():
                 return
 
+    def _run_on_workers(self, seeds: range, ledger: Ledger | None) -> None:
+        from .farm import Farm, Order
+
+        setting, given = self._command.setting, self._given
+        program, *arguments = setting.command
+        farm = Farm(given.workers, Order(program, arguments, self._options(), self._identity(seeds), given.keep_going))
+        try:
+            for block in farm.blocks(seeds):
+                self._tally.recount(block)
+                self._tally.take(block)
+                if ledger is not None:
+                    ledger.keep(block)
+                if self._stops():
+                    return
+        finally:
+            farm.close()
+
+    def _options(self) -> list[str]:
+        """Those that the workers have to know."""
+        given, task = self._given, self._task
+        words = [
+            "--sleeps",
+            given.sleeps,
+            "--limit",
+            given.limit,
+            "--patience",
+            given.patience,
+            "--output-limit",
+            given.output_limit,
+        ]
+        if task.depth is not None:
+            words += ["--strategy", "pct", "--depth", task.depth, "--length", task.length]
+        if given.kill_on_debugger_exit is not None:
+            words += ["--kill-on-debugger-exit", given.kill_on_debugger_exit]
+        flags = {"calls": given.calls, "strict": given.strict, "keep-going": given.keep_going, "verify": given.verify}
+        return [*map(str, words), *(f"--{name}" for name, is_given in flags.items() if is_given)]
+
     def _ledger(self, path: str, seeds: range) -> Ledger:
-        from .ledger import Ledger, digest_of
+        from .ledger import Ledger
+
+        return Ledger(path, self._identity(seeds), seeds)
+
+    def _identity(self, seeds: range) -> dict[str, object]:
+        """What a search is, for ledgers and workers."""
+        from .ledger import digest_of
 
         setting, given = self._command.setting, self._given
         program, *arguments = setting.command
         files = {"program": program, "model": setting.model, "broker": setting.broker}
         options = setting.options._asdict()
         del options["coverage"]
-        return Ledger(
-            path,
-            {
-                **{name: digest_of(path) for name, path in files.items()},
-                "arguments": arguments,
-                "seeds": [seeds.start, seeds.stop - 1],
-                "strategy": given.strategy,
-                "depth": self._task.depth,
-                "length": self._task.length,
-                "sleeps": given.sleeps,
-                "keep_going": given.keep_going,
-                "verify": setting.verify,
-                "kill_on_debugger_exit": setting.kill_on_debugger_exit,
-                **options,
-            },
-            seeds,
-        )
+        return {
+            **{name: digest_of(path) for name, path in files.items()},
+            "arguments": arguments,
+            "seeds": [seeds.start, seeds.stop - 1],
+            "strategy": given.strategy,
+            "depth": self._task.depth,
+            "length": self._task.length,
+            "sleeps": given.sleeps,
+            "keep_going": given.keep_going,
+            "verify": setting.verify,
+            "kill_on_debugger_exit": setting.kill_on_debugger_exit,
+            **options,
+        }
 
     def _run_preemptions(self, pool: Pool) -> None:
         given = self._given

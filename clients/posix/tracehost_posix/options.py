@@ -127,6 +127,7 @@ def parser() -> Parser:
     add("--jobs", type=_count, default=1, metavar="N", help="makes N runs at a time (1)")
     add("--keep-going", action="store_true", help="runs all of --schedules or --seeds; failures in the same words count as one")
     add("--ledger", metavar="FILE", help="keeps what they come to, for each 256 seeds; a search that has ended goes on from there")
+    add("--workers", metavar="URL", help="runs them on the workers of a scheduler of Dask distributed: tcp://.. or tls://..")
     add("--json", action="store_true", help="prints what a search comes to as a JSON object")
     add("--record", metavar="FILE", help="the run, or the one that fails: FILE (scenario), FILE.lines, FILE.schedule, FILE.html")
     add("--gdb", action="store_true", help="starts gdb on the process that fails, before it ends")
@@ -187,14 +188,16 @@ def one_of(given: argparse.Namespace, made: Parser) -> None:
 def _of_searches(given: argparse.Namespace, made: Parser) -> None:
     """Options that only a search has."""
     seeds = given.seeds is not None or (given.schedules is not None and given.preemptions is None)
-    for name, is_given in (("keep-going", given.keep_going), ("ledger", given.ledger is not None)):
+    tasks = {"keep-going": given.keep_going, "ledger": given.ledger is not None, "workers": given.workers is not None}
+    for name, is_given in tasks.items():
         if is_given and not seeds:
             made.error(f"--{name} needs --schedules or --seeds")
     if given.json and not seeds and given.preemptions is None:
         made.error("--json needs --schedules, --seeds or --preemptions")
-    for name in ("digest", "coverage"):
-        if getattr(given, name) and (given.ledger is not None or (given.json and name == "digest")):
-            made.error(f"--{'ledger' if given.ledger is not None else 'json'} and --{name} don't go together")
+    for task, names in {"ledger": ("digest", "coverage"), "workers": ("digest", "coverage"), "json": ("digest",)}.items():
+        for name in names:
+            if getattr(given, task) and getattr(given, name):
+                made.error(f"--{task} and --{name} don't go together")
 
 
 def _tool(command: str, made: Parser) -> None:

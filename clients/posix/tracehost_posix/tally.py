@@ -80,6 +80,13 @@ class Tally:
         self.news.append(new)
         return new
 
+    def recount(self, block: Block) -> None:
+        """What is new of a block that was counted without those before it."""
+        numbers = iter(block.different)
+        legs = [next(numbers) if new else None for new in block.new]
+        block.new = [number is not None and number not in self.schedules for number in legs]
+        block.different = [number for number in block.different if number not in self.schedules]
+
     def take(self, block: Block) -> None:
         """Adds the runs of a block."""
         self.sums.add(block.sums)
