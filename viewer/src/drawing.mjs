@@ -48,7 +48,7 @@ export class Drawing {
 
   // ---- the frame
 
-  /** Every how many columns a number has room. */
+  /** Every how many steps a number has room. */
   every() {
     const { plan } = this;
     const least = (String(plan.all.length).length * LETTER + 10) / plan.step;
@@ -56,21 +56,36 @@ export class Drawing {
     return [1, 2, 5, 10].map((part) => part * ten).find((count) => count >= least);
   }
 
-  /** The columns with a number that is a multiple of so many, or the first one of the plan. */
-  *columnsEvery(every, withFirst) {
-    const start = Math.max(0, Math.ceil((this.first + 1) / every) * every - 1);
-    if (withFirst && this.first === 0 && start > 0) yield 0;
-    for (let column = start; column <= this.last; column += every) yield column;
+  /**
+   * The places of the numbers that are multiples of so many: in the middle of their steps' columns, or where the step
+   * would be if it is left out. The first one that is shown has a place too.
+   */
+  *roundNumbers(every, withFirst) {
+    const { plan } = this;
+    const { entries, numberOf } = plan;
+    if (plan.columns === 0) return;
+    const numberIn = (column) => numberOf[entries[column].index];
+    const least = numberIn(this.first);
+    const first = Math.ceil(least / every) * every;
+    if (withFirst && this.first === 0 && first > least) yield { number: least, x: plan.x(0) };
+    for (let number = first; number <= numberIn(this.last); number += every) {
+      const column = firstFrom(entries, ({ index }) => numberOf[index], number);
+      yield { number, x: numberIn(column) === number ? plan.x(column) : column * plan.step };
+    }
   }
 
   ticks() {
     const { plan } = this;
-    return [...this.columnsEvery(this.every(), true)].map((column) => {
-      const number = String(plan.numberOf[plan.entries[column].index]);
-      const isFailed = plan.entries[column].index === this.failedAt;
-      const text = shape("text", { ...(isFailed ? { class: "failed" } : {}), x: Math.max(plan.x(column), number.length * LETTER / 2 + 2), y: 16 });
-      text.textContent = number;
-      return text;
+    const failed = this.failedAt === null ? -1 : plan.numberOf[this.failedAt];
+    let end = -Infinity;
+    return [...this.roundNumbers(this.every(), true)].flatMap(({ number, x }) => {
+      const half = String(number).length * LETTER / 2 + 2;
+      const middle = Math.max(x, half);
+      if (middle - half < end) return [];
+      end = middle + half;
+      const text = shape("text", { ...(number === failed ? { class: "failed" } : {}), x: middle, y: 16 });
+      text.textContent = String(number);
+      return [text];
     });
   }
 
@@ -84,8 +99,7 @@ export class Drawing {
       shapes.push(shape("line", { class: "separator", x1, x2, y1: y, y2: y }));
     }
     const every = Math.max(this.every(), plan.step < 20 ? 10 : 5);
-    for (const column of this.columnsEvery(every, false)) {
-      const x = plan.x(column);
+    for (const { x } of this.roundNumbers(every, false)) {
       shapes.push(shape("line", { class: "gridline", x1: x, x2: x, y1: part.top, y2: part.bottom }));
     }
     if (this.failedAt !== null && this.failedAt < plan.columnOf.length) shapes.push(...this.failed());
@@ -110,9 +124,9 @@ export class Drawing {
     group.style.setProperty("--user", colourOf(lane.user));
     if (lane.kind === "process" || lane.kind === "lwp") group.append(...this.life(lane));
     if (plan.isDense) group.append(...this.denseBands(lane));
-    else for (const band of lane.bands) group.append(...this.band(band, lane));
+    else for (const band of lane.bandsOn) group.append(...this.band(band, lane));
     for (const span of lane.spans) group.append(...this.span(span, lane));
-    group.append(...(plan.isDense ? this.dense(lane) : this.marks(lane)));
+    group.append(...(plan.isInBars(lane) ? this.dense(lane) : this.marks(lane)));
     for (const label of plan.labels(lane)) {
       if (label.end >= part.left && label.x <= part.right) group.append(this.label(label, lane));
     }
@@ -177,7 +191,7 @@ export class Drawing {
   /** The bands of a lane as one path for each class. */
   denseBands(lane) {
     const paths = new Map();
-    for (const band of lane.bands) {
+    for (const band of lane.bandsOn) {
       const half = band.kind === "stopped" ? 6 : 4;
       for (const [name, from, to] of this.pieces(band)) {
         const stretch = this.stretch(from, to);
@@ -217,7 +231,7 @@ export class Drawing {
   mark(mark) {
     const { path, classes } = SIGNS.get(mark.kind);
     const { plan } = this;
-    const { entry, lane } = mark;
+    const { entry, lane: { on: lane } } = mark;
     const data = { "aria-label": sentence(mark), "data-mark": mark.kind, "data-line": entry.index + 1 };
     if (!mark.primary) data["data-more"] = "";
     if (entry.reply.user) Object.assign(data, { "data-user": entry.reply.user, "data-step": entry.reply.step });
@@ -250,9 +264,9 @@ export class Drawing {
   }
 
   /** A line from the lane of who acts to that of who is meant, with a head there. */
-  link({ kind, from, to }, column) {
+  link({ kind, from: { on: from }, to: { on: to } }, column) {
     const { part } = this;
-    if (!from.isShown || !to.isShown) return [];
+    if (!from.isShown || !to.isShown || from === to) return [];
     const x = this.plan.x(column);
     const down = to.base > from.base;
     const [begin, end] = [from.base, to.base + (down ? -6 : 6)];

@@ -54,8 +54,22 @@ export class Lane {
     this.maker = null; // the LWP whose fork or vfork made a process
     this.exiting = false;
     this.isZombie = false;
-    /** @type {Mark[]} by the plan */
+    // by the plan
+    /** @type {Mark[]} those on it that are shown */
     this.seen = [];
+    /** @type {Band[]} */
+    this.bandsOn = [];
+    this.spans = [];
+    this.labels = null;
+    /** @type {Lane} the lane that its marks are on */
+    this.on = this;
+    /** @type {Lane[]} the lanes whose marks are on it too */
+    this.others = [];
+    this.depth = 0;
+    this.isFolded = false;
+    this.canFold = false;
+    this.isShown = false;
+    this.top = this.height = this.base = 0;
   }
 
   get name() {
