@@ -124,7 +124,7 @@ export class Drawing {
     group.style.setProperty("--user", colourOf(lane.user));
     if (lane.kind === "process" || lane.kind === "lwp") group.append(...this.life(lane));
     if (plan.isDense) group.append(...this.denseBands(lane));
-    else for (const band of lane.bandsOn) group.append(...this.band(band, lane));
+    else for (const band of this.bandsIn(lane)) group.append(...this.band(band, lane));
     for (const span of lane.spans) group.append(...this.span(span, lane));
     group.append(...(plan.isInBars(lane) ? this.dense(lane) : this.marks(lane)));
     for (const label of plan.labels(lane)) {
@@ -176,6 +176,17 @@ export class Drawing {
     return [["stopped", from, reported], ["reported", reported, to]];
   }
 
+  /** The bands of a lane that are at least partly in what is drawn. */
+  *bandsIn({ bandsOn }) {
+    const { entries, columns } = this.plan;
+    if (columns === 0) return;
+    const [first, last] = [entries[this.first].index, this.last === columns - 1 ? Infinity : entries[this.last].index];
+    for (const bands of bandsOn) {
+      let place = firstFrom(bands, ({ to }) => to ?? Infinity, this.first === 0 ? 0 : first);
+      for (; place < bands.length && bands[place].from <= last; place++) yield bands[place];
+    }
+  }
+
   band(band, lane) {
     const half = band.kind === "stopped" ? 6 : 4;
     return this.pieces(band).flatMap(([name, from, to]) => {
@@ -191,7 +202,7 @@ export class Drawing {
   /** The bands of a lane as one path for each class. */
   denseBands(lane) {
     const paths = new Map();
-    for (const band of lane.bandsOn) {
+    for (const band of this.bandsIn(lane)) {
       const half = band.kind === "stopped" ? 6 : 4;
       for (const [name, from, to] of this.pieces(band)) {
         const stretch = this.stretch(from, to);

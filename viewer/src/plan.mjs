@@ -43,6 +43,16 @@ function childrenOf({ lanes, users }) {
   return found;
 }
 
+/** The bands of each kind, which begin and end one after the other. */
+function byKind(bands) {
+  const found = new Map();
+  for (const band of bands) {
+    if (!found.has(band.kind)) found.set(band.kind, []);
+    found.get(band.kind).push(band);
+  }
+  return found;
+}
+
 /** Where the lanes, marks, labels and links of a session are, in a view. */
 export class Plan {
   /**
@@ -193,7 +203,8 @@ export class Plan {
   place(lane) {
     const own = [lane, ...lane.others].map((one) => this.visible(one.marks));
     lane.seen = own.length === 1 ? own[0] : own.flat().sort((one, other) => one.at - other.at);
-    lane.bandsOn = [lane, ...lane.others.filter((one) => this.isMerged(one) && one.owner === lane)].flatMap(({ bands }) => bands);
+    const merged = lane.others.filter((one) => this.isMerged(one) && one.owner === lane);
+    lane.bandsOn = [lane, ...merged].flatMap(({ bands }) => [...byKind(bands).values()]);
     let before = null;
     for (const mark of lane.seen) {
       mark.column = this.columnOf[mark.at];
