@@ -81,7 +81,8 @@ export function listenToFields(page) {
 /** A menu closes when the pointer is used elsewhere, and by Escape. */
 function listenToMenus() {
   const close = (except = null) => {
-    for (const menu of document.querySelectorAll(".menu[open]")) if (!menu.contains(except)) menu.removeAttribute("open");
+    const menus = [...document.querySelectorAll(".menu[open]")].filter((menu) => !menu.contains(except));
+    for (const menu of menus) menu.removeAttribute("open");
   };
   addEventListener("pointerdown", (event) => close(event.target));
   addEventListener("keydown", (event) => event.key === "Escape" && close());

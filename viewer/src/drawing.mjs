@@ -25,12 +25,14 @@ export class Drawing {
   /**
    * @param {import("./plan.mjs").Plan} plan
    * @param {Part} part
-   * @param {number | null} failedAt  the index of the entry that a test failed after
+   * @param {{failedAt: number | null, noticed: Set<number>}} marked  the indices of the entry that a test
+   *   failed after, and of those to look at
    */
-  constructor(plan, part, failedAt = null) {
+  constructor(plan, part, { failedAt, noticed } = { failedAt: null, noticed: new Set() }) {
     this.plan = plan;
     this.part = part;
     this.failedAt = failedAt;
+    this.noticed = noticed;
     const [first, last] = columnsBetween(plan, part);
     this.first = Math.max(0, first - 1);
     this.last = Math.min(plan.columns - 1, last + 1);
@@ -248,7 +250,8 @@ export class Drawing {
     if (entry.reply.user) Object.assign(data, { "data-user": entry.reply.user, "data-step": entry.reply.step });
     const width = Math.max(8, Math.min(plan.step, 26));
     const tall = Math.min(lane.height - 4, 20);
-    const made = shape("g", { class: "mark", role: "img", ...data, transform: `translate(${mark.x} ${lane.base})` },
+    const name = this.noticed.has(entry.index) ? "mark noticed" : "mark";
+    const made = shape("g", { class: name, role: "img", ...data, transform: `translate(${mark.x} ${lane.base})` },
       shape("rect", { class: "hit", x: -width / 2, y: -tall / 2, width, height: tall, rx: 3 }),
       shape("path", { class: `shape ${classes}`, d: path, "fill-rule": "evenodd",
         ...(plan.scale < 1 ? { transform: `scale(${plan.scale})` } : {}) }));

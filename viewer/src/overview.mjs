@@ -28,9 +28,9 @@ export class Overview {
     const bars = [["own", own], ["stop", stops]].map(([name, d]) => shape("path", { class: `bars ${name}`, d,
       transform: `translate(0 ${HEIGHT / 2})` }));
     const { failedAt } = this.picture;
-    const failed = failedAt === null ? [] : [shape("rect", { class: "failed-line", x: step * (plan.columnOf[failedAt] + 0.5) - 1,
-      y: 0, width: 2, height: HEIGHT })];
-    this.current = shape("rect", { class: "current-line", y: 0, width: 2, height: HEIGHT });
+    const line = (name, x) => shape("rect", { class: name, x, y: 0, width: 2, height: HEIGHT });
+    const failed = failedAt === null ? [] : [line("failed-line", step * (plan.columnOf[failedAt] + 0.5) - 1)];
+    this.current = line("current-line", 0);
     this.window = shape("rect", { class: "window", y: 0.5, height: HEIGHT - 1, rx: 3 });
     this.svg.replaceChildren(...bars, ...failed, this.current, this.window);
     this.scale = this.width / (plan.columns * plan.step);

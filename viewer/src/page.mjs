@@ -18,6 +18,7 @@ const NARROWEST = 0.01;
 const FIRST_WIDTH = [26, 110];
 const MANY_LANES = 12; // more are shown only if they have something in the window
 const MOST_FAULTS = 50;
+const MOST_NOTICES = 40;
 /** The parts of the window that the picture has at most if the list is shown. */
 const MOST_OF_WINDOW = 0.62;
 const ADDRESS_DELAY = 300; // milliseconds
@@ -81,9 +82,24 @@ export class Page {
     Object.assign(this, { step: 0, fits: false, folded: new Set(), chosen: null });
     this.picture.current = null;
     this.list.current = null;
+    this.showNotices();
     document.body.classList.add("open");
     this.show();
     this.goToAddress();
+  }
+
+  /** Buttons that go to what an author of a debugger may want to look at. */
+  showNotices() {
+    const { notices } = this.session;
+    const shown = notices.slice(0, MOST_NOTICES).map(({ at, text }) => {
+      const button = tag("button", { type: "button", textContent: `${at + 1}: ${text}` });
+      button.addEventListener("click", () => this.goToEntry(at));
+      return button;
+    });
+    const more = notices.length - shown.length;
+    const rest = more > 0 ? [`and ${more} more`] : [];
+    element("notices").replaceChildren(tag("b", { textContent: "Look at" }), ...shown, ...rest);
+    element("notices").hidden = notices.length === 0;
   }
 
   showFaults(faults) {
@@ -373,8 +389,8 @@ export class Page {
   showChoices({ hidden, allLwps }) {
     const counts = new Map();
     for (const { reply } of this.picture.plan.all) counts.set(reply.reply, (counts.get(reply.reply) ?? 0) + 1);
-    for (const [id, reply, words] of [["held", "held", "held"], ["errors", "error", "errors"], ["nothing", "nothing", "nothing"]]) {
-      element(id).textContent = `${words} ${counts.get(reply) ?? 0}`;
+    for (const [id, reply] of [["held", "held"], ["errors", "error"], ["nothing", "nothing"]]) {
+      element(id).textContent = `${id} ${counts.get(reply) ?? 0}`;
       element(id).setAttribute("aria-pressed", !hidden.has(reply));
     }
     element("others").setAttribute("aria-pressed", this.picture.hidesOthers);

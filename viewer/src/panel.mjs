@@ -110,9 +110,10 @@ export class StatePanel {
 
 /** Whose rows these are, and after which step. */
 function headOf({ user, steps }, count, entry, { processes, lwps }) {
-  const of = [tag("b", { textContent: `user ${user}` }), count === 0 ? " before the first step" : ` after step ${count}`,
-    ` of ${steps.length}`];
+  const when = count === 0 ? " before the first step" : ` after step ${count}`;
+  const of = [tag("b", { textContent: `user ${user}` }), when, ` of ${steps.length}`];
   const asked = entry?.asked ? `${action(entry.asked)}${objectText(entry.asked)}` : "";
-  const said = `${processes.size} ${processes.size === 1 ? "process" : "processes"}, ${lwps.size} LWPs`;
+  const said = `${processes.size} ${processes.size === 1 ? "process" : "processes"}, `
+    + `${lwps.size} ${lwps.size === 1 ? "LWP" : "LWPs"}`;
   return [tag("p", {}, ...of), tag("p", { className: "pale", textContent: asked ? `${asked} · ${said}` : said })];
 }

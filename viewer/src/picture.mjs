@@ -30,8 +30,11 @@ export class Picture {
     this.onMark = onMark;
     this.onFold = onFold;
     this.onMoved = onMoved;
+    /** @type {Set<number>} the indices of entries to look at */
+    this.noticed = new Set();
     this.hidesOthers = false; // whether lanes without anything in the window are left out
     this.plan = null;
+    /** @type {number | null} */
     this.failedAt = null; // the index of the entry that a test failed after
     /** @type {Mark | null} */
     this.current = null;
@@ -53,6 +56,7 @@ export class Picture {
 
   show(plan) {
     this.plan = plan;
+    this.noticed = new Set(plan.session.notices.map(({ at }) => at));
     if (!plan.steps.includes(this.current)) this.current = null;
     this.drawn = null;
     this.resize();
@@ -115,7 +119,7 @@ export class Picture {
   }
 
   draw(part) {
-    this.drawing = new Drawing(this.plan, part, this.failedAt);
+    this.drawing = new Drawing(this.plan, part, this);
     this.extra = null;
     element("axis").replaceChildren(...this.drawing.ticks());
     element("names").replaceChildren(...this.drawing.lanes.map((lane) => this.laneName(lane)));
@@ -235,7 +239,8 @@ export class Picture {
     const box = this.svg.getBoundingClientRect();
     const [x, y] = [event.clientX - box.left, event.clientY - box.top];
     const lane = this.plan.lanesBetween(y, y + 1)[0];
-    const mark = lane && this.plan.isInBars(lane) && Math.abs(lane.base - y) < 12 ? this.plan.nearest(lane, x) : undefined;
+    const isNear = lane && this.plan.isInBars(lane) && Math.abs(lane.base - y) < 12;
+    const mark = isNear ? this.plan.nearest(lane, x) : undefined;
     return mark && Math.abs(mark.x - x) <= NEAR ? mark : undefined;
   }
 

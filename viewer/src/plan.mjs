@@ -59,8 +59,8 @@ export class Plan {
    * @param {import("./session.mjs").Session} session
    * @param {View} view
    */
-  constructor(session, { user = null, step, hidden = new Set(), only = null, allLwps = true, folded = new Set(), room = 0,
-    letter = 6.6 }) {
+  constructor(session, { user = null, step, hidden = new Set(), only = null, allLwps = true, folded = new Set(),
+    room = 0, letter = 6.6 }) {
     this.session = session;
     this.user = user;
     this.step = step;
@@ -87,7 +87,10 @@ export class Plan {
       if (!this.linksAt.has(column)) this.linksAt.set(column, []);
       this.linksAt.get(column).push(link);
     }
-    for (const span of session.spans) if (isOf(span.tracee) && span.tracee.on === span.tracee) span.tracee.spans.push(span);
+    for (const span of session.spans) {
+      const { tracee } = span;
+      if (isOf(tracee) && tracee.on === tracee) tracee.spans.push(span);
+    }
     this.steps = session.marks.filter(({ primary, at, lane }) => primary && isOf(lane) && this.isVisible[at])
       .sort((one, other) => one.at - other.at);
   }
@@ -136,7 +139,8 @@ export class Plan {
   roots() {
     const { session, user } = this;
     const users = session.userNumbers().filter((number) => user === null || number === user);
-    return [...(session.input && user === null ? [session.input] : []), ...users.map((number) => session.users.get(number))];
+    const input = session.input && user === null ? [session.input] : [];
+    return [...input, ...users.map((number) => session.users.get(number))];
   }
 
   /** The lanes right below a lane: LWPs by birth, then processes, below those that have made them. */
@@ -162,8 +166,9 @@ export class Plan {
   addTree(lane, fold, depth) {
     const isMerged = this.isMerged(lane);
     const below = this.below(lane);
-    Object.assign(lane, { on: fold ?? (isMerged ? lane.owner : lane), others: [], spans: [], labels: null, depth,
-      isFolded: !fold && this.folded.has(lane) && below.length > 0, canFold: !isMerged && below.some((one) => !this.isMerged(one)) });
+    const canFold = !isMerged && below.some((one) => !this.isMerged(one));
+    Object.assign(lane, { on: fold ?? (isMerged ? lane.owner : lane), others: [], spans: [], labels: null, depth, canFold,
+      isFolded: canFold && !fold && this.folded.has(lane) });
     if (lane.on === lane) this.order.push(lane);
     else lane.on.others.push(lane);
     const inside = fold ?? (lane.isFolded ? lane : null);
@@ -185,7 +190,7 @@ export class Plan {
     }
   }
 
-  /** The lanes that live, or have a mark, in some columns; and the users of these. If steps are left out, by marks only. */
+  /** The lanes that live, or have a mark, in some columns, and their users; of those with a mark, if only some are shown. */
   lanesIn(first, last) {
     const isIn = (lane) => {
       if (this.only && lane.seen.length === 0) return false;
