@@ -111,7 +111,7 @@ export function listenToPrinting(page) {
     if (!page.session) return;
     const { theme } = dataset;
     dataset.theme = "light";
-    element("print").replaceChildren(svgFile(page.picture));
+    element("print").replaceChildren(svgFile(page.picture), ...page.panel.printed());
     if (theme) dataset.theme = theme;
     else delete dataset.theme;
   });

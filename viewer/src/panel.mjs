@@ -64,6 +64,15 @@ export class StatePanel {
     if (box.top < window.top || box.bottom > window.bottom) tree.scrollTop += box.top - window.top - window.height / 3;
   }
 
+  /** What is printed of it: a copy, if it is shown. */
+  printed() {
+    if (this.element.hidden || !this.shown) return [];
+    const copy = tag("div", { className: "state" }, ...[this.head, this.tree].map((part) => part.cloneNode(true)));
+    copy.style.setProperty("--user", colourOf(this.shown.history.user));
+    for (const part of copy.querySelectorAll("[id]")) part.removeAttribute("id");
+    return [copy];
+  }
+
   // ---- by hand
 
   activate(place) {

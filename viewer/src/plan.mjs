@@ -167,8 +167,9 @@ export class Plan {
     const isMerged = this.isMerged(lane);
     const below = this.below(lane);
     const canFold = !isMerged && below.some((one) => !this.isMerged(one));
-    Object.assign(lane, { on: fold ?? (isMerged ? lane.owner : lane), others: [], spans: [], labels: null, depth, canFold,
-      isFolded: canFold && !fold && this.folded.has(lane) });
+    const isFolded = canFold && !fold && this.folded.has(lane);
+    const on = fold ?? (isMerged ? lane.owner : lane);
+    Object.assign(lane, { on, others: [], spans: [], labels: null, depth, canFold, isFolded });
     if (lane.on === lane) this.order.push(lane);
     else lane.on.others.push(lane);
     const inside = fold ?? (lane.isFolded ? lane : null);
@@ -190,7 +191,7 @@ export class Plan {
     }
   }
 
-  /** The lanes that live, or have a mark, in some columns, and their users; of those with a mark, if only some are shown. */
+  /** The lanes that live, or have a mark, in some columns, and their users. If only some steps are shown, by marks. */
   lanesIn(first, last) {
     const isIn = (lane) => {
       if (this.only && lane.seen.length === 0) return false;
