@@ -66,6 +66,10 @@ def stop(lwp: int, signal: int) -> list[Step]:
     return [turn(lwp, "raise", signal=signal), turn(lwp)]
 
 
+def kill(signal: int) -> Step:
+    return {"op": "kill", "caller": 1000, "which": 1001, "signal": signal}
+
+
 def scenario(pages: Pages, steps: list[Step]) -> Path:
     return pages.file("steps.json", json.dumps({"steps": [{"user": 1001, **step} for step in steps]}).encode())
 
@@ -140,8 +144,11 @@ LOST = [*stop(100001, 30), *stop(100002, 31), WAIT, WAIT, ptrace("PT_CONTINUE", 
 UNSEEN = [*stop(100001, 30), *stop(100002, 31), WAIT, ptrace("PT_CONTINUE", 1001, data=30)]
 WRONG = [*stop(100001, 15), WAIT, ptrace("PT_CONTINUE", 1001, data=16)]
 DROPPED = [*stop(100001, 15), WAIT, ptrace("PT_CONTINUE", 1001)]
-TRAP = [turn(100001, "raise", signal=5), *stop(100001, 2), WAIT, ptrace("PT_DETACH", 1001, data=2 * 0), turn(100001)]
-RIGHT = [*stop(100001, 15), WAIT, ptrace("PT_CONTINUE", 1001, data=15), *stop(100002, 5), WAIT, ptrace("PT_CONTINUE", 1002)]
+TRAP = [kill(5), kill(2), turn(100001), WAIT, ptrace("PT_DETACH", 1001), turn(100001)]
+RIGHT = [
+    *[*stop(100001, 15), WAIT, ptrace("PT_CONTINUE", 1001, data=15), WAIT],
+    *[*stop(100002, 5), WAIT, ptrace("PT_CONTINUE", 1002), WAIT],
+]
 
 
 @needs_browser
@@ -152,7 +159,7 @@ RIGHT = [*stop(100001, 15), WAIT, ptrace("PT_CONTINUE", 1001, data=15), *stop(10
         (UNSEEN, ["13: no wait of 1000 reports this SIGUSR2 of 1002"]),
         (WRONG, ["13: PT_CONTINUE of 1001 passes SIGURG for its SIGTERM"]),
         (DROPPED, ["13: PT_CONTINUE of 1001 drops its SIGTERM"]),
-        (TRAP, ["14: PT_DETACH of 1001 drops its SIGINT", "14: 1001 is detached with a pending SIGTRAP"]),
+        (TRAP, ["13: PT_DETACH of 1001 drops its SIGINT", "13: 1001 is detached with a pending SIGTRAP"]),
         (RIGHT, []),
     ],
     ids=["lost", "unseen", "wrong", "dropped", "trap", "right"],
