@@ -159,7 +159,7 @@ RIGHT = [
         (UNSEEN, ["13: no wait of 1000 reports this SIGUSR2 of 1002"]),
         (WRONG, ["13: PT_CONTINUE of 1001 passes SIGURG for its SIGTERM"]),
         (DROPPED, ["13: PT_CONTINUE of 1001 drops its SIGTERM"]),
-        (TRAP, ["13: PT_DETACH of 1001 drops its SIGINT", "13: 1001 is detached with a pending SIGTRAP"]),
+        (TRAP, ["14: PT_DETACH of 1001 drops its SIGINT", "14: 1001 is detached with a pending SIGTRAP"]),
         (RIGHT, []),
     ],
     ids=["lost", "unseen", "wrong", "dropped", "trap", "right"],

@@ -220,7 +220,7 @@ def test_a_file_of_png(tabs: list[Tab], some: Run) -> None:
             const file = svgFile(page.picture);
             const png = await pngFile(file);
             const bytes = new Uint8Array(await png.arrayBuffer());
-            return [file.getAttribute("width"), file.getAttribute("height"), btoa(String.fromCharCode(...bytes))];
+            return [file.getAttribute("width"), file.getAttribute("height"), btoa(bytes.reduce((text, byte) => text + String.fromCharCode(byte), ""))];
         })()"""
     )
     width, height, colours = pixels(base64.b64decode(url[2]))
