@@ -21,7 +21,7 @@ export class Failure {
     const where = tag("button", { type: "button", textContent, title: "go to this step (f)" });
     where.addEventListener("click", () => this.onStep(this.at));
     const test = tag("strong", { textContent: told.test });
-    this.element.replaceChildren(tag("b", { textContent: "failed" }), " ", test, " ",
+    this.element.replaceChildren(tag("span", { className: "note", textContent: "failed" }), " ", test, " ",
       ...(this.at === null ? [] : [where]), tag("pre", { textContent: told.message }));
     this.element.hidden = false;
   }

@@ -98,7 +98,7 @@ export class Page {
     });
     const more = notices.length - shown.length;
     const rest = more > 0 ? [`and ${more} more`] : [];
-    element("notices").replaceChildren(tag("b", { textContent: "Look at" }), ...shown, ...rest);
+    element("notices").replaceChildren(tag("strong", { textContent: "Look at" }), ...shown, ...rest);
     element("notices").hidden = notices.length === 0;
   }
 

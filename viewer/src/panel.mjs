@@ -25,7 +25,7 @@ export class StatePanel {
       const row = event.target.closest("[role=treeitem]");
       if (!row || !getSelection().isCollapsed) return;
       this.activate([...this.tree.children].indexOf(row));
-      if (event.target.closest("b") && row.hasAttribute("aria-expanded")) this.fold(row, !this.isFolded(row));
+      if (event.target.closest(".name") && row.hasAttribute("aria-expanded")) this.fold(row, !this.isFolded(row));
       else this.enter(row);
     });
     this.tree.addEventListener("keydown", (event) => this.key(event));
@@ -120,7 +120,7 @@ export class StatePanel {
 /** Whose rows these are, and after which step. */
 function headOf({ user, steps }, count, entry, { processes, lwps }) {
   const when = count === 0 ? " before the first step" : ` after step ${count}`;
-  const of = [tag("b", { textContent: `user ${user}` }), when, ` of ${steps.length}`];
+  const of = [tag("strong", { textContent: `user ${user}` }), when, ` of ${steps.length}`];
   const asked = entry?.asked ? `${action(entry.asked)}${objectText(entry.asked)}` : "";
   const said = `${processes.size} ${processes.size === 1 ? "process" : "processes"}, `
     + `${lwps.size} ${lwps.size === 1 ? "LWP" : "LWPs"}`;

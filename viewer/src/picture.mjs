@@ -7,9 +7,9 @@ import { firstFrom } from "./sorted.mjs";
 
 const TOP_HEIGHT = 25;
 const BOTTOM_ROOM = 12;
-/** The part that is drawn around the window, of its size; less if other lanes may come with each scroll. */
-const AROUND = 0.4;
-const AROUND_LANES_IN_VIEW = 0.12;
+/** The part that is drawn around the window, of its size; less while other lanes come with each scroll. */
+const AROUND = 0.6;
+const AROUND_CHANGING = 0.12;
 /** How far a pointer may be from a mark that is drawn as a bar, in pixels. */
 const NEAR = 8;
 const MOST_DEPTH = 6; // deeper lanes are indented no more
@@ -38,6 +38,7 @@ export class Picture {
     this.failedAt = null; // the index of the entry that a test failed after
     /** @type {Mark | null} */
     this.current = null;
+    this.isChanging = false; // whether other lanes have come since the last drawing
     this.drawn = null; // the part that is drawn
     this.drawing = null;
     this.extra = null; // the current mark's shape if its lane is drawn as bars
@@ -89,7 +90,8 @@ export class Picture {
     const seen = this.window();
     if (this.isDrawn(seen)) return;
     const { width, height } = this.plan;
-    const around = this.hidesOthers ? AROUND_LANES_IN_VIEW : AROUND;
+    const around = this.isChanging ? AROUND_CHANGING : AROUND;
+    this.isChanging = false;
     const wide = (seen.right - seen.left) * around;
     const tall = (seen.bottom - seen.top) * around;
     this.drawn = { left: Math.max(0, seen.left - wide), right: Math.min(Math.max(width, seen.right), seen.right + wide),
@@ -107,6 +109,7 @@ export class Picture {
     const anchor = plan.lanesBetween(scrollTop, Infinity).find((lane) => kept.has(lane));
     const offset = anchor ? anchor.top - scrollTop : 0;
     plan.arrange(lanes);
+    this.isChanging = true;
     this.resize();
     if (anchor && scrollTop > 0) scroller.scrollTop = anchor.top - offset;
     this.drawn = null;
