@@ -208,12 +208,22 @@ def step_in(reply: Object) -> Object:
     return {"user": reply["user"], **reply["asked"]}
 
 
+def _refuse(word: str) -> None:
+    raise ValueError(f"{word} is no JSON")
+
+
 def parsed(text: str) -> Any:
     """The value of a JSON text; NO_JSON if it is none."""
     try:
-        return json.loads(text)
+        return json.loads(text, parse_constant=_refuse)
     except (ValueError, RecursionError):
         return NO_JSON
+
+
+def has_replies(text: str) -> bool:
+    """Whether the first line that isn't blank is a reply, or what was said of a refused line."""
+    first = parsed(next((line for line in text.split("\n") if line.strip()), ""))
+    return is_object(first) and ("reply" in first or "refused" in first)
 
 
 class Read:
@@ -224,6 +234,7 @@ class Read:
         self.faults: list[str] = []
         self.replies: list[Object] = []
         self.steps: Optional[list[Optional[Object]]] = None
+        self.is_blank = not text.strip()
         whole = parsed(text)
         lines = [(number, line, parsed(line)) for number, line in enumerate(text.split("\n"), 1) if line.strip()]
         first = next((value for _, _, value in lines if is_object(value)), None)

@@ -104,12 +104,12 @@ class Make(unittest.TestCase):
         self.assertEqual((done.returncode, done.stdout, done.stderr), (0, b"", b""))
         data, _ = self.embedded(page.read_bytes())
         self.assertEqual(data["title"], "A <b> title")
-        self.assertEqual(data["files"], [{"name": "standard input", "text": '{"refused":"BadJson"}\n'}])
+        self.assertEqual(data["files"], [{"name": "standard input", "lines": [{"refused": "BadJson"}]}])
 
     def test_bytes_that_are_no_text_are_replaced(self) -> None:
         line = b'{"user":1001,"step":1,"reply":"ok","a":"\xff\xfe"}\n'
         data, _ = self.embedded(run_make(self.pages.file("a.lines", line), check=True).stdout)
-        self.assertEqual(data["files"][0]["text"], '{"user":1001,"step":1,"reply":"ok","a":"\ufffd\ufffd"}\n')
+        self.assertEqual(data["files"][0]["lines"], [{"user": 1001, "step": 1, "reply": "ok", "a": "\ufffd\ufffd"}])
 
     def test_a_missing_file(self) -> None:
         page = self.pages.room / "page.html"
@@ -226,7 +226,7 @@ class Examples(unittest.TestCase):
         page, opened = cls.pages.page, cls.pages.open
         pages: dict[str, pathlib.Path] = {path.stem: page(path.stem, cls.lines[path.stem], path) for path in EXAMPLES}
         two = TOP / "examples" / "two_users.json"
-        alone: dict[str | int, Document] = {user: opened(pages["two_users"], f"draw=all&user={user}") for user in (1001, 1002)}
+        alone: dict[str | int, Document] = {user: opened(pages["two_users"], f"draw=all&lwps=all&user={user}") for user in (1001, 1002)}
         pages |= {f"only {user}": page(f"only{user}", lines_of(two, "--user", user), two) for user in alone}
         pages["threads"] = page("threads", lines_of(two, "--threads"), two)
         pages["alone"] = page("alone", cls.lines["follow_a_fork"])

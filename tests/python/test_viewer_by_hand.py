@@ -205,6 +205,7 @@ class ByHand(unittest.TestCase):
             left_out = self.numbers(300, *replies)
             lines = [int(mark["data-line"]) for mark in tab.document().primary()]
             self.assertEqual(lines, [number for number in range(1, 301) if number not in left_out])
+        tab.point("#view summary", click=True)
         tab.point("#errors", click=True)
         tab.settle()
         self.assertEqual(tab.value("location.hash"), "#draw=all&hide=held")
@@ -232,7 +233,7 @@ class ByHand(unittest.TestCase):
         self.assertEqual(tab.value(ACTIVE), str(self.numbers(5000, "stopped")[0]))
 
     def test_lanes_in_view(self) -> None:
-        tab = self.open(self.random[300])
+        tab = self.open(self.random[300], "lwps=all")
         tab.value("page.picture.hidesOthers || page.toggleOthers()")
         exact = """(() => {
             const { plan } = page.picture, { left, right } = page.picture.window();
@@ -260,7 +261,7 @@ class ByHand(unittest.TestCase):
         self.assertGreater(tab.value("scroller.clientHeight"), 300)
 
     def test_a_file_of_svg_and_printing(self) -> None:
-        tab = self.open(self.page, "theme=dark")
+        tab = self.open(self.page, "theme=dark&lwps=all")
         tab.value("dispatchEvent(new Event('beforeprint'))")
         ground = tab.value("document.querySelector('#print > svg > rect').getAttribute('fill')")
         self.assertEqual(ground, "rgb(255, 255, 255)")

@@ -45,6 +45,11 @@ class Page(unittest.TestCase):
             '{"user":"__proto__","step":2,"reply":"ok"}',
             '{"user":1001,"step":2,"reply":"constructor"}',
             '{"refused":"<script>"}',
+            cls.row_line(2, {"processes": [{"pid": 1000, "parent": 1, "state": f"<img onerror='{ALARM}'>"}]}),
+            cls.row_line(2, {"processes": [{"pid": 1000, "parent": 1, "state": "runs", "pending": ["<b>"]}]}),
+            cls.row_line(2, {"lwps": [{"lwp": 100000, "pid": 1000, "mode": "in_call", "call": "<script>"}]}),
+            cls.row_line(2, {"lwps": {"__proto__": []}}),
+            cls.row_line(2, []),
             "[]",
             "null",
             "1001 2 ok",
@@ -64,7 +69,33 @@ class Page(unittest.TestCase):
             "injected": cls.injected(page("injected", cls.lines, cls.example)),
             "refused": page("refused", good + b'{"refused":"BadName"}\n{"user":1001,"step":2,"reply":"ok"}\n'),
             "empty": cls.pages.empty(),
+            "odd rows": page("odd", "\n".join(cls.odd_rows()).encode()),
         }
+
+    @classmethod
+    def row_line(cls, step: int, rows: object) -> str:
+        asked = {"op": "list", "caller": 1000}
+        line = {"user": 1001, "step": step, "index": step, "asked": asked, "reply": "pids", "pids": [1000], "rows": rows}
+        return json.dumps(line)
+
+    @classmethod
+    def odd_rows(cls) -> list[str]:
+        """Rows of the right form that no host has: without their processes, in circles, gone before they came."""
+        runs_now = {"parent": 1, "state": "runs"}
+        odd: list[object] = [
+            {"removed_processes": [7], "removed_lwps": [8]},
+            {"lwps": [{"lwp": 100000, "pid": 77, "mode": "waits_for_vfork", "vfork_child": 99}]},
+            {"processes": [{"pid": 1000, "tracer": 1001, **runs_now}, {"pid": 1001, "tracer": 1000, **runs_now}]},
+            {"processes": [{"pid": 1000, "parent": 1000, "state": "trace_stop", "stop_signal": "SIGHUP", "stop_lwp": 5}]},
+            {"processes": [{"pid": 1000, "parent": 1001, "state": "zombie", "status": 4294967295}]},
+            {"processes": [{"pid": 1000, **runs_now}], "removed_lwps": [100000], "removed_processes": [1000]},
+        ]
+        return [cls.row_line(step, rows) for step, rows in enumerate(odd, 1)]
+
+    def test_odd_rows_are_drawn(self) -> None:
+        document = self.documents["odd rows"]
+        self.assertEqual((document.faults, len(document.primary())), ([], 6))
+        self.assertIn("data-milliseconds", document.body)
 
     def test_bad_lines_are_shown_and_not_executed(self) -> None:
         document = self.documents["bad"]

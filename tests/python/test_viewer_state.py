@@ -32,7 +32,7 @@ pytestmark = needs_browser
 
 # what the page shows: of each row its level, kind, name, mark and facts; of a changed fact what it is now
 SHOWN = """(() => [...document.getElementById("state-rows").children].map((row) => ({
-    level: Number(row.getAttribute("aria-level")), kind: row.classList[0], name: row.querySelector("b").textContent,
+    level: Number(row.getAttribute("aria-level")), kind: row.classList[0], name: row.querySelector(".name").textContent,
     mark: ["changed", "new", "gone"].find((word) => row.classList.contains(word)) ?? "",
     facts: [...row.querySelectorAll(".fact")].map((fact) => fact.querySelector("del") && !fact.querySelector("ins") ? ""
         : (fact.querySelector("ins") ?? fact).textContent).filter(Boolean) })))()"""

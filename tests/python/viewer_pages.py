@@ -48,8 +48,8 @@ def run_make(*words: object, make: pathlib.Path = MAKE, **how: Any) -> subproces
 
 
 def lines_of(*words: object) -> bytes:
-    """What the program prints with --json, or with `--json=trace` if the words say so."""
-    options = [] if "--json=trace" in words else ["--json"]
+    """What the program prints with --json, or as a trace if the words say so."""
+    options = [] if {"--json=trace", "--json=trace+rows"} & set(words) else ["--json"]
     return subprocess.run([os.environ["TRACEHOST"], *options, *map(str, words)], capture_output=True, check=True).stdout
 
 
@@ -81,8 +81,8 @@ class Pages:
         files = [(name + ".lines", text)]
         return self.file(name + ".html", MAKER.filled(MAKER.empty_page(), name, files).encode())
 
-    def open(self, page: pathlib.Path, address: str = "draw=all") -> Document:
-        """What the browser makes of a page."""
+    def open(self, page: pathlib.Path, address: str = "draw=all&lwps=all") -> Document:
+        """What the browser makes of a page, with a lane for each LWP."""
         tab = Tab(browser(), page, address)
         document = tab.document()
         tab.close()

@@ -41,7 +41,8 @@ export class Card {
 
   /** After another plan: a kept card stays where its mark does. */
   again(plan) {
-    if (!this.kept || !this.kept.lane.seen.includes(this.kept) || !plan.order.includes(this.kept.lane)) this.close();
+    const on = this.kept?.lane.on;
+    if (!on || !plan.order.includes(on) || !on.seen.includes(this.kept)) this.close();
     else this.moved();
   }
 

@@ -2,6 +2,7 @@
 
 import { element, shape, tag } from "./dom.mjs";
 import { colourOf, SIGNS, STRETCHES } from "./signs.mjs";
+import { pngFile } from "./png_file.mjs";
 import { svgFile } from "./svg_file.mjs";
 
 const ZOOM = 1.3;
@@ -45,11 +46,15 @@ export function listenToButtons(page) {
   const buttons = {
     wider: () => page.zoom(page.step * ZOOM), narrower: () => page.zoom(page.step / ZOOM), fit: () => page.fit(),
     others: () => page.toggleOthers(), held: () => page.toggleHidden("held"), errors: () => page.toggleHidden("error"),
-    listed: () => page.toggleList(), stated: () => page.toggleState(), save: () => page.session && save(page),
+    nothing: () => page.toggleHidden("nothing"), only: () => page.toggleOnly(), lwps: () => page.toggleLwps(),
+    theme: () => page.toggleTheme(), listed: () => page.toggleList(), stated: () => page.toggleState(),
+    save: () => page.session && save(svgText(page), "timeline.svg"),
+    "save-png": async () => page.session && save(await pngFile(svgFile(page.picture)), "timeline.png"),
     "next-stop": ({ shiftKey }) => page.session && page.goToNext("stop", shiftKey ? -1 : 1),
     "next-error": ({ shiftKey }) => page.session && page.goToNext("error", shiftKey ? -1 : 1),
   };
   for (const [id, does] of Object.entries(buttons)) element(id).addEventListener("click", does);
+  listenToMenus();
   addEventListener("hashchange", () => {
     if (!page.session) return;
     const { current } = page.picture;
@@ -73,11 +78,24 @@ export function listenToFields(page) {
   });
 }
 
-/** Saves what the window shows as a file of SVG. */
-function save(page) {
+/** A menu closes when the pointer is used elsewhere, and by Escape. */
+function listenToMenus() {
+  const close = (except = null) => {
+    const menus = [...document.querySelectorAll(".menu[open]")].filter((menu) => !menu.contains(except));
+    for (const menu of menus) menu.removeAttribute("open");
+  };
+  addEventListener("pointerdown", (event) => close(event.target));
+  addEventListener("keydown", (event) => event.key === "Escape" && close());
+}
+
+function svgText(page) {
   const text = new XMLSerializer().serializeToString(svgFile(page.picture));
-  const file = new Blob([text], { type: "image/svg+xml" });
-  const link = tag("a", { download: "timeline.svg", href: URL.createObjectURL(file) });
+  return new Blob([text], { type: "image/svg+xml" });
+}
+
+/** Saves what the window shows as a file. */
+function save(file, name) {
+  const link = tag("a", { download: name, href: URL.createObjectURL(file) });
   link.click();
   setTimeout(() => URL.revokeObjectURL(link.href), 1000);
 }
@@ -93,7 +111,7 @@ export function listenToPrinting(page) {
     if (!page.session) return;
     const { theme } = dataset;
     dataset.theme = "light";
-    element("print").replaceChildren(svgFile(page.picture));
+    element("print").replaceChildren(svgFile(page.picture), ...page.panel.printed());
     if (theme) dataset.theme = theme;
     else delete dataset.theme;
   });
@@ -167,6 +185,7 @@ export function listenToKeys(page) {
     n: () => page.goToFound(1), N: () => page.goToFound(-1), l: () => page.toggleList(), t: () => page.toggleState(),
     f: () => page.failure.at !== null && page.goToEntry(page.failure.at),
     v: () => page.toggleOthers(),
+    o: () => page.toggleOnly(), w: () => page.toggleLwps(), d: () => page.toggleTheme(),
     "/": () => element("find").select(), g: () => element("number").select(), Escape: () => page.card.close(),
   };
   addEventListener("keydown", (event) => {

@@ -25,12 +25,14 @@ export class Drawing {
   /**
    * @param {import("./plan.mjs").Plan} plan
    * @param {Part} part
-   * @param {number | null} failedAt  the index of the entry that a test failed after
+   * @param {{failedAt: number | null, noticed: Set<number>}} marked  the indices of the entry that a test
+   *   failed after, and of those to look at
    */
-  constructor(plan, part, failedAt = null) {
+  constructor(plan, part, { failedAt, noticed } = { failedAt: null, noticed: new Set() }) {
     this.plan = plan;
     this.part = part;
     this.failedAt = failedAt;
+    this.noticed = noticed;
     const [first, last] = columnsBetween(plan, part);
     this.first = Math.max(0, first - 1);
     this.last = Math.min(plan.columns - 1, last + 1);
@@ -48,7 +50,7 @@ export class Drawing {
 
   // ---- the frame
 
-  /** Every how many columns a number has room. */
+  /** Every how many steps a number has room. */
   every() {
     const { plan } = this;
     const least = (String(plan.all.length).length * LETTER + 10) / plan.step;
@@ -56,21 +58,36 @@ export class Drawing {
     return [1, 2, 5, 10].map((part) => part * ten).find((count) => count >= least);
   }
 
-  /** The columns with a number that is a multiple of so many, or the first one of the plan. */
-  *columnsEvery(every, withFirst) {
-    const start = Math.max(0, Math.ceil((this.first + 1) / every) * every - 1);
-    if (withFirst && this.first === 0 && start > 0) yield 0;
-    for (let column = start; column <= this.last; column += every) yield column;
+  /**
+   * The places of the numbers that are multiples of so many: in the middle of their steps' columns, or where the step
+   * would be if it is left out. The first one that is shown has a place too.
+   */
+  *roundNumbers(every, withFirst) {
+    const { plan } = this;
+    const { entries, numberOf } = plan;
+    if (plan.columns === 0) return;
+    const numberIn = (column) => numberOf[entries[column].index];
+    const least = numberIn(this.first);
+    const first = Math.ceil(least / every) * every;
+    if (withFirst && this.first === 0 && first > least) yield { number: least, x: plan.x(0) };
+    for (let number = first; number <= numberIn(this.last); number += every) {
+      const column = firstFrom(entries, ({ index }) => numberOf[index], number);
+      yield { number, x: numberIn(column) === number ? plan.x(column) : column * plan.step };
+    }
   }
 
   ticks() {
     const { plan } = this;
-    return [...this.columnsEvery(this.every(), true)].map((column) => {
-      const number = String(plan.numberOf[plan.entries[column].index]);
-      const isFailed = plan.entries[column].index === this.failedAt;
-      const text = shape("text", { ...(isFailed ? { class: "failed" } : {}), x: Math.max(plan.x(column), number.length * LETTER / 2 + 2), y: 16 });
-      text.textContent = number;
-      return text;
+    const failed = this.failedAt === null ? -1 : plan.numberOf[this.failedAt];
+    let end = -Infinity;
+    return [...this.roundNumbers(this.every(), true)].flatMap(({ number, x }) => {
+      const half = String(number).length * LETTER / 2 + 2;
+      const middle = Math.max(x, half);
+      if (middle - half < end) return [];
+      end = middle + half;
+      const text = shape("text", { ...(number === failed ? { class: "failed" } : {}), x: middle, y: 16 });
+      text.textContent = String(number);
+      return [text];
     });
   }
 
@@ -84,8 +101,7 @@ export class Drawing {
       shapes.push(shape("line", { class: "separator", x1, x2, y1: y, y2: y }));
     }
     const every = Math.max(this.every(), plan.step < 20 ? 10 : 5);
-    for (const column of this.columnsEvery(every, false)) {
-      const x = plan.x(column);
+    for (const { x } of this.roundNumbers(every, false)) {
       shapes.push(shape("line", { class: "gridline", x1: x, x2: x, y1: part.top, y2: part.bottom }));
     }
     if (this.failedAt !== null && this.failedAt < plan.columnOf.length) shapes.push(...this.failed());
@@ -110,9 +126,9 @@ export class Drawing {
     group.style.setProperty("--user", colourOf(lane.user));
     if (lane.kind === "process" || lane.kind === "lwp") group.append(...this.life(lane));
     if (plan.isDense) group.append(...this.denseBands(lane));
-    else for (const band of lane.bands) group.append(...this.band(band, lane));
+    else for (const band of this.bandsIn(lane)) group.append(...this.band(band, lane));
     for (const span of lane.spans) group.append(...this.span(span, lane));
-    group.append(...(plan.isDense ? this.dense(lane) : this.marks(lane)));
+    group.append(...(plan.isInBars(lane) ? this.dense(lane) : this.marks(lane)));
     for (const label of plan.labels(lane)) {
       if (label.end >= part.left && label.x <= part.right) group.append(this.label(label, lane));
     }
@@ -162,6 +178,17 @@ export class Drawing {
     return [["stopped", from, reported], ["reported", reported, to]];
   }
 
+  /** The bands of a lane that are at least partly in what is drawn. */
+  *bandsIn({ bandsOn }) {
+    const { entries, columns } = this.plan;
+    if (columns === 0) return;
+    const [first, last] = [entries[this.first].index, this.last === columns - 1 ? Infinity : entries[this.last].index];
+    for (const bands of bandsOn) {
+      let place = firstFrom(bands, ({ to }) => to ?? Infinity, this.first === 0 ? 0 : first);
+      for (; place < bands.length && bands[place].from <= last; place++) yield bands[place];
+    }
+  }
+
   band(band, lane) {
     const half = band.kind === "stopped" ? 6 : 4;
     return this.pieces(band).flatMap(([name, from, to]) => {
@@ -177,7 +204,7 @@ export class Drawing {
   /** The bands of a lane as one path for each class. */
   denseBands(lane) {
     const paths = new Map();
-    for (const band of lane.bands) {
+    for (const band of this.bandsIn(lane)) {
       const half = band.kind === "stopped" ? 6 : 4;
       for (const [name, from, to] of this.pieces(band)) {
         const stretch = this.stretch(from, to);
@@ -217,13 +244,14 @@ export class Drawing {
   mark(mark) {
     const { path, classes } = SIGNS.get(mark.kind);
     const { plan } = this;
-    const { entry, lane } = mark;
+    const { entry, lane: { on: lane } } = mark;
     const data = { "aria-label": sentence(mark), "data-mark": mark.kind, "data-line": entry.index + 1 };
     if (!mark.primary) data["data-more"] = "";
     if (entry.reply.user) Object.assign(data, { "data-user": entry.reply.user, "data-step": entry.reply.step });
     const width = Math.max(8, Math.min(plan.step, 26));
     const tall = Math.min(lane.height - 4, 20);
-    const made = shape("g", { class: "mark", role: "img", ...data, transform: `translate(${mark.x} ${lane.base})` },
+    const name = this.noticed.has(entry.index) ? "mark noticed" : "mark";
+    const made = shape("g", { class: name, role: "img", ...data, transform: `translate(${mark.x} ${lane.base})` },
       shape("rect", { class: "hit", x: -width / 2, y: -tall / 2, width, height: tall, rx: 3 }),
       shape("path", { class: `shape ${classes}`, d: path, "fill-rule": "evenodd",
         ...(plan.scale < 1 ? { transform: `scale(${plan.scale})` } : {}) }));
@@ -250,9 +278,9 @@ export class Drawing {
   }
 
   /** A line from the lane of who acts to that of who is meant, with a head there. */
-  link({ kind, from, to }, column) {
+  link({ kind, from: { on: from }, to: { on: to } }, column) {
     const { part } = this;
-    if (!from.isShown || !to.isShown) return [];
+    if (!from.isShown || !to.isShown || from === to) return [];
     const x = this.plan.x(column);
     const down = to.base > from.base;
     const [begin, end] = [from.base, to.base + (down ? -6 : 6)];

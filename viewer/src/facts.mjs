@@ -33,8 +33,13 @@ function stateText({ state, stop_signal: signal, stop_lwp: lwp, status = 0 }) {
   }
 }
 
+/** A call with its argument; a row leaves out 0. */
+function callOf({ call, argument = 0 }) {
+  return argument || call === "exit" || call === "other" ? `${call} ${argument}` : call;
+}
+
 function modeText({ mode, call, argument, vfork_child: child }) {
-  if (mode === "in_call") return `in ${call}${argument || call === "exit" || call === "other" ? ` ${argument ?? 0}` : ""}`;
+  if (mode === "in_call") return `in ${callOf({ call, argument })}`;
   return mode === "waits_for_vfork" ? `waits for vfork child ${child}` : mode;
 }
 

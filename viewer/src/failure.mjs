@@ -17,9 +17,11 @@ export class Failure {
   show(told) {
     if (!told) return;
     this.at = told.step === null ? null : told.step - 1;
-    const where = tag("button", { type: "button", textContent: `after step ${told.step}`, title: "go to this step (f)" });
+    const textContent = `after step ${told.step}`;
+    const where = tag("button", { type: "button", textContent, title: "go to this step (f)" });
     where.addEventListener("click", () => this.onStep(this.at));
-    this.element.replaceChildren(tag("b", { textContent: "failed" }), " ", tag("strong", { textContent: told.test }), " ",
+    const test = tag("strong", { textContent: told.test });
+    this.element.replaceChildren(tag("span", { className: "note", textContent: "failed" }), " ", test, " ",
       ...(this.at === null ? [] : [where]), tag("pre", { textContent: told.message }));
     this.element.hidden = false;
   }

@@ -2,6 +2,7 @@
 
 import { ConcludedSession } from "./concluded.mjs";
 import { endText } from "./facts.mjs";
+import { noticesOf } from "./notices.mjs";
 import { Session } from "./session.mjs";
 import { History } from "./state.mjs";
 import { bare, callText } from "./words.mjs";
@@ -20,6 +21,7 @@ export class KnownSession extends Session {
   constructor(entries) {
     super(entries);
     this.readAll();
+    this.notices = noticesOf(entries);
     const last = entries.length - 1;
     for (const lane of this.lanes) if (lane.isZombie) lane.seenTo = last;
   }

@@ -27,6 +27,12 @@ import { firstFrom } from "./sorted.mjs";
  * @typedef {{kind: string, from: number, to: number | null, reported?: number | null}} Band
  */
 
+// there are many lanes, so those without any share these, which stay empty
+/** @type {Set<any>} */
+const NO_LANES = new Set();
+/** @type {any[]} */
+const NOTHING = [];
+
 /** A row of the picture: a user, a process, an LWP, or the lines that were no step. */
 export class Lane {
   constructor(kind, number, user, from, owner = null) {
@@ -40,9 +46,11 @@ export class Lane {
     this.concluded = false; // whether its end follows from a step, without `ended`
     this.marks = [];
     this.bands = [];
-    this.live = new Set(); // of a user: the processes that haven't ended
+    /** @type {Set<Lane>} of a user: the processes that haven't ended */
+    this.live = kind === "user" ? new Set() : NO_LANES;
     this.lwps = []; // of a process
-    this.tracees = new Set();
+    /** @type {Set<Lane>} */
+    this.tracees = kind === "process" ? new Set() : NO_LANES;
     this.parent = null;
     this.tracer = null;
     this.span = null; // the span in which it is traced now
@@ -54,8 +62,22 @@ export class Lane {
     this.maker = null; // the LWP whose fork or vfork made a process
     this.exiting = false;
     this.isZombie = false;
-    /** @type {Mark[]} by the plan */
-    this.seen = [];
+    // by the plan
+    /** @type {Mark[]} those on it that are shown */
+    this.seen = NOTHING;
+    /** @type {Band[][]} of each kind those on it */
+    this.bandsOn = NOTHING;
+    this.spans = NOTHING;
+    this.labels = null;
+    /** @type {Lane} the lane that its marks are on */
+    this.on = this;
+    /** @type {Lane[]} the lanes whose marks are on it too */
+    this.others = NOTHING;
+    this.depth = 0;
+    this.isFolded = false;
+    this.canFold = false;
+    this.isShown = false;
+    this.top = this.height = this.base = 0;
   }
 
   get name() {

@@ -17,6 +17,8 @@ export class StepList {
     this.element = element("list");
     this.rows = element("rows");
     this.plan = null;
+    /** @type {Mark[]} */
+    this.steps = [];
     /** @type {Mark | null} */
     this.current = null;
     this.failedAt = null; // the index of the entry that a test failed after
@@ -29,10 +31,13 @@ export class StepList {
     });
   }
 
-  /** @param {import("./plan.mjs").Plan} plan */
-  show(plan) {
-    this.plan = plan;
-    this.rows.style.height = `${plan.steps.length * ROW_HEIGHT}px`;
+  /**
+   * @param {import("./plan.mjs").Plan} plan
+   * @param {Mark[]} steps  the marks of those steps that are listed
+   */
+  show(plan, steps) {
+    Object.assign(this, { plan, steps });
+    this.rows.style.height = `${steps.length * ROW_HEIGHT}px`;
     this.again();
   }
 
@@ -45,7 +50,7 @@ export class StepList {
   refresh() {
     if (!this.plan || this.element.hidden) return;
     const { scrollTop, clientHeight } = this.element;
-    const { steps } = this.plan;
+    const { steps } = this;
     const first = Math.max(0, Math.floor(scrollTop / ROW_HEIGHT) - ROWS_AROUND);
     const last = Math.min(steps.length, Math.ceil((scrollTop + clientHeight) / ROW_HEIGHT) + ROWS_AROUND);
     if (this.drawn === `${first} ${last}`) return;
@@ -67,7 +72,7 @@ export class StepList {
     row.style.top = `${place * ROW_HEIGHT}px`;
     row.style.setProperty("--user", colourOf(reply.user));
     for (const [name, value] of [["role", "option"], ["aria-posinset", place + 1], ["data-line", entry.index + 1],
-      ["aria-setsize", this.plan.steps.length]]) row.setAttribute(name, value);
+      ["aria-setsize", this.steps.length]]) row.setAttribute(name, value);
     return row;
   }
 
@@ -93,7 +98,7 @@ export class StepList {
   select(mark) {
     this.current = mark;
     if (!this.plan || this.element.hidden) return;
-    if (mark) this.reveal(firstFrom(this.plan.steps, ({ at }) => at, mark.entry.index) * ROW_HEIGHT);
+    if (mark) this.reveal(firstFrom(this.steps, ({ at }) => at, mark.entry.index) * ROW_HEIGHT);
     this.refresh();
     this.mark();
   }

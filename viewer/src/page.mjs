@@ -7,6 +7,7 @@ import { isError, isStop, matcher, nextMark } from "./find.mjs";
 import { sessionOf } from "./known.mjs";
 import { StepList } from "./list.mjs";
 import { StatePanel } from "./panel.mjs";
+import { Overview } from "./overview.mjs";
 import { Picture } from "./picture.mjs";
 import { Plan, RIGHT_ROOM } from "./plan.mjs";
 import { pair, readFile } from "./read.mjs";
@@ -15,13 +16,23 @@ import { colourOf } from "./signs.mjs";
 const WIDEST = 160;
 const NARROWEST = 0.01;
 const FIRST_WIDTH = [26, 110];
-const MANY_LANES = 40; // more are shown only if they have something in the window
+const MANY_LANES = 12; // more are shown only if they have something in the window
 const MOST_FAULTS = 50;
+const MOST_NOTICES = 40;
 /** The parts of the window that the picture has at most if the list is shown. */
 const MOST_OF_WINDOW = 0.62;
 const ADDRESS_DELAY = 300; // milliseconds
 
 /** @typedef {import("./lanes.mjs").Mark} Mark */
+
+/** The replies whose steps can be left out. */
+const HIDDEN = ["held", "error", "nothing"];
+
+/** Whether the colours are dark, by choice or by the system. */
+function isDark() {
+  const { theme } = document.documentElement.dataset;
+  return theme ? theme === "dark" : matchMedia("(prefers-color-scheme: dark)").matches;
+}
 
 const many = (number, word, words) => `${number} ${number === 1 ? word : words}`;
 const between = (least, value, most) => Math.min(most, Math.max(least, value));
@@ -30,7 +41,9 @@ export class Page {
   constructor() {
     const drawsAll = this.address().get("draw") === "all";
     const onMark = (mark) => this.go(mark);
-    this.picture = new Picture({ drawsAll, onUser: (user) => this.choose("user", user), onMark });
+    this.picture = new Picture({ drawsAll, onUser: (user) => this.choose("user", user), onMark,
+      onFold: (lane) => this.fold(lane), onMoved: () => this.overview.moved() });
+    this.overview = new Overview(this.picture);
     this.list = new StepList({ onMark });
     this.card = new Card(this.picture);
     this.panel = new StatePanel({ onProcess: (_user, pid, index) => this.goToProcess(pid, index) });
@@ -41,6 +54,8 @@ export class Page {
     this.step = 0; // the width of a step, 0 if none is chosen yet
     this.fits = false; // whether the whole session fits the window
     this.query = "";
+    /** @type {Set<import("./lanes.mjs").Lane>} the lanes without those below them */
+    this.folded = new Set();
   }
 
   // ---- files
@@ -64,12 +79,27 @@ export class Page {
     const entries = pair(replies.replies, scenario, faults);
     this.session = sessionOf(entries, scenario?.killsTracees ?? true);
     this.panel.element.hidden = this.session.histories.size === 0;
-    Object.assign(this, { step: 0, fits: false });
+    Object.assign(this, { step: 0, fits: false, folded: new Set(), chosen: null });
     this.picture.current = null;
     this.list.current = null;
+    this.showNotices();
     document.body.classList.add("open");
     this.show();
     this.goToAddress();
+  }
+
+  /** Buttons that go to what an author of a debugger may want to look at. */
+  showNotices() {
+    const { notices } = this.session;
+    const shown = notices.slice(0, MOST_NOTICES).map(({ at, text }) => {
+      const button = tag("button", { type: "button", textContent: `${at + 1}: ${text}` });
+      button.addEventListener("click", () => this.goToEntry(at));
+      return button;
+    });
+    const more = notices.length - shown.length;
+    const rest = more > 0 ? [`and ${more} more`] : [];
+    element("notices").replaceChildren(tag("strong", { textContent: "Look at" }), ...shown, ...rest);
+    element("notices").hidden = notices.length === 0;
   }
 
   showFaults(faults) {
@@ -93,7 +123,25 @@ export class Page {
 
   /** The replies whose steps are left out. */
   get hidden() {
-    return new Set((this.address().get("hide") ?? "").split(",").filter((word) => word === "held" || word === "error"));
+    return new Set((this.address().get("hide") ?? "").split(",").filter((word) => HIDDEN.includes(word)));
+  }
+
+  /** The indices of the only entries that are shown: those whose words the address has; null for all. */
+  get only() {
+    const words = this.address().get("only") ?? "";
+    if (!words.trim()) return null;
+    if (this.chosen?.words !== words) {
+      const isChosen = matcher(words);
+      const marks = this.session.marks.filter((mark) => mark.primary && isChosen(mark));
+      this.chosen = { words, indices: new Set(marks.map(({ at }) => at)) };
+    }
+    return this.chosen.indices;
+  }
+
+  /** What the address and the buttons leave out. */
+  get view() {
+    const allLwps = this.address().get("lwps") === "all";
+    return { user: this.user, hidden: this.hidden, only: this.only, allLwps, folded: this.folded };
   }
 
   /** Puts a choice into the address, and so shows it; the current step stays the same one. */
@@ -125,7 +173,7 @@ export class Page {
   // ---- what is shown
 
   show() {
-    const { picture, session, user, hidden } = this;
+    const { picture, session, view } = this;
     if (this.step === 0) {
       picture.hidesOthers = session.lanes.length > MANY_LANES;
       const width = this.address().get("width");
@@ -134,14 +182,14 @@ export class Page {
     }
     if (this.fits) this.step = this.fitting();
     this.step = between(NARROWEST, this.step, Math.max(WIDEST, this.step));
-    const plan = new Plan(session, { user, step: this.step, hidden, room: picture.room, letter: LETTER });
-    this.divide(plan);
+    const plan = new Plan(session, { ...view, step: this.step, room: picture.room, letter: LETTER });
     picture.failedAt = this.list.failedAt = this.failure.at;
+    this.divide(plan);
     picture.show(plan);
-    this.list.show(plan);
+    this.overview.show();
     this.find(this.query);
-    this.showUsers(user);
-    this.showChoices(hidden);
+    this.showUsers(view.user);
+    this.showChoices(view);
     this.showCounts();
     this.showState();
     this.card.again(plan);
@@ -160,14 +208,15 @@ export class Page {
     const { scroller } = this.picture;
     const room = element("run").clientHeight;
     const wanted = plan.height + 60;
-    const isListed = !this.list.element.hidden;
+    const isListed = this.list.element.offsetParent !== null; // it isn't either if the panel has its room
     scroller.style.flex = isListed ? `0 0 ${Math.min(wanted, room * MOST_OF_WINDOW)}px` : "1";
   }
 
   /** The width of a step with which the whole session fits the window. */
   fitting() {
-    const { user, hidden } = this;
-    const isShown = ({ reply }) => (user === null || reply.user === user) && !hidden.has(reply.reply);
+    const { user, hidden, only } = this.view;
+    const isShown = ({ reply, index }) => (user === null || reply.user === user) && !hidden.has(reply.reply)
+      && (!only || only.has(index));
     const columns = this.session.entries.filter(isShown).length;
     return (this.picture.room - RIGHT_ROOM) / Math.max(1, columns);
   }
@@ -193,6 +242,28 @@ export class Page {
   toggleOthers() {
     this.picture.hidesOthers = !this.picture.hidesOthers;
     if (this.session) this.show();
+  }
+
+  fold(lane) {
+    if (!this.folded.delete(lane)) this.folded.add(lane);
+    this.show();
+  }
+
+  /** A lane for each LWP, or only for those of processes that have more than one. */
+  toggleLwps() {
+    this.choose("lwps", this.view.allLwps ? null : "all");
+  }
+
+  /** Leaves out all steps that the search hasn't found, or shows them again. */
+  toggleOnly() {
+    this.choose("only", this.only ? null : this.query.trim());
+  }
+
+  /** Light colours, or dark ones. */
+  toggleTheme() {
+    const { dataset } = document.documentElement;
+    dataset.theme = isDark() ? "light" : "dark";
+    this.choose("theme", dataset.theme);
   }
 
   toggleList() {
@@ -221,6 +292,7 @@ export class Page {
     this.picture.go(mark);
     this.list.select(mark);
     this.card.keep(mark);
+    this.overview.moved();
     this.showState();
     this.remember(mark);
   }
@@ -267,9 +339,10 @@ export class Page {
   find(query) {
     this.query = query;
     const { plan } = this.picture;
-    this.found = query.trim() ? plan.steps.filter(matcher(query)) : [];
+    const isSearched = query.trim() !== "";
+    this.found = isSearched ? plan.steps.filter(matcher(query)) : [];
     this.list.found = new Set(this.found);
-    this.list.again();
+    this.list.show(plan, isSearched ? this.found : plan.steps);
     this.showFound();
   }
 
@@ -284,6 +357,10 @@ export class Page {
   showFound() {
     const place = this.found.findIndex(({ entry }) => entry === this.picture.current?.entry) + 1;
     const count = this.found.length;
+    const isOnly = this.only !== null;
+    element("only").hidden = count === 0 && !isOnly;
+    element("only").setAttribute("aria-pressed", String(isOnly));
+    element("only").textContent = isOnly ? `Only “${this.address().get("only")}”` : "Only these";
     element("found").textContent = !this.query.trim() ? "" : !count ? "not found" : place ? `${place} of ${count}`
       : many(count, "step", "steps");
   }
@@ -309,14 +386,16 @@ export class Page {
     element("users").replaceChildren(...(users.length > 1 ? [choice(null, "all users"), ...users] : users));
   }
 
-  showChoices(hidden) {
+  showChoices({ hidden, allLwps }) {
     const counts = new Map();
     for (const { reply } of this.picture.plan.all) counts.set(reply.reply, (counts.get(reply.reply) ?? 0) + 1);
-    for (const [id, reply, words] of [["held", "held", "held"], ["errors", "error", "errors"]]) {
-      element(id).textContent = `${words} ${counts.get(reply) ?? 0}`;
+    for (const [id, reply] of [["held", "held"], ["errors", "error"], ["nothing", "nothing"]]) {
+      element(id).textContent = `${id} ${counts.get(reply) ?? 0}`;
       element(id).setAttribute("aria-pressed", !hidden.has(reply));
     }
     element("others").setAttribute("aria-pressed", this.picture.hidesOthers);
+    element("lwps").setAttribute("aria-pressed", String(allLwps));
+    element("theme").textContent = isDark() ? "Light" : "Dark";
     element("fit").setAttribute("aria-pressed", this.fits);
     element("listed").setAttribute("aria-pressed", !this.list.element.hidden);
     element("stated").setAttribute("aria-pressed", !this.panel.element.hidden);
@@ -324,7 +403,8 @@ export class Page {
 
   showCounts() {
     const { plan } = this.picture;
-    const count = (kind) => plan.order.filter((lane) => lane.kind === kind).length;
+    const isShown = ({ user }) => plan.user === null || plan.user === user;
+    const count = (kind) => this.session.lanes.filter((lane) => lane.kind === kind && isShown(lane)).length;
     const isAsked = plan.all.some(({ asked }) => asked);
     const counts = { steps: plan.columns, processes: count("process"), lwps: count("lwp") };
     element("about").textContent = [many(counts.steps, "step", "steps"), many(counts.processes, "process", "processes"),

@@ -25,7 +25,7 @@ export class StatePanel {
       const row = event.target.closest("[role=treeitem]");
       if (!row || !getSelection().isCollapsed) return;
       this.activate([...this.tree.children].indexOf(row));
-      if (event.target.closest("b") && row.hasAttribute("aria-expanded")) this.fold(row, !this.isFolded(row));
+      if (event.target.closest(".name") && row.hasAttribute("aria-expanded")) this.fold(row, !this.isFolded(row));
       else this.enter(row);
     });
     this.tree.addEventListener("keydown", (event) => this.key(event));
@@ -62,6 +62,15 @@ export class StatePanel {
     if (!changed) return;
     const [box, window] = [changed.getBoundingClientRect(), tree.getBoundingClientRect()];
     if (box.top < window.top || box.bottom > window.bottom) tree.scrollTop += box.top - window.top - window.height / 3;
+  }
+
+  /** What is printed of it: a copy, if it is shown. */
+  printed() {
+    if (this.element.hidden || !this.shown) return [];
+    const copy = tag("div", { className: "state" }, ...[this.head, this.tree].map((part) => part.cloneNode(true)));
+    copy.style.setProperty("--user", colourOf(this.shown.history.user));
+    for (const part of copy.querySelectorAll("[id]")) part.removeAttribute("id");
+    return [copy];
   }
 
   // ---- by hand
@@ -110,9 +119,10 @@ export class StatePanel {
 
 /** Whose rows these are, and after which step. */
 function headOf({ user, steps }, count, entry, { processes, lwps }) {
-  const of = [tag("b", { textContent: `user ${user}` }), count === 0 ? " before the first step" : ` after step ${count}`,
-    ` of ${steps.length}`];
+  const when = count === 0 ? " before the first step" : ` after step ${count}`;
+  const of = [tag("strong", { textContent: `user ${user}` }), when, ` of ${steps.length}`];
   const asked = entry?.asked ? `${action(entry.asked)}${objectText(entry.asked)}` : "";
-  const said = `${processes.size} ${processes.size === 1 ? "process" : "processes"}, ${lwps.size} LWPs`;
+  const said = `${processes.size} ${processes.size === 1 ? "process" : "processes"}, `
+    + `${lwps.size} ${lwps.size === 1 ? "LWP" : "LWPs"}`;
   return [tag("p", {}, ...of), tag("p", { className: "pale", textContent: asked ? `${asked} · ${said}` : said })];
 }

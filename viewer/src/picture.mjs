@@ -7,11 +7,12 @@ import { firstFrom } from "./sorted.mjs";
 
 const TOP_HEIGHT = 25;
 const BOTTOM_ROOM = 12;
-/** The part that is drawn around the window, of its size; less if other lanes may come with each scroll. */
-const AROUND = 0.4;
-const AROUND_LANES_IN_VIEW = 0.12;
+/** The part that is drawn around the window, of its size; less while other lanes come with each scroll. */
+const AROUND = 0.6;
+const AROUND_CHANGING = 0.12;
 /** How far a pointer may be from a mark that is drawn as a bar, in pixels. */
 const NEAR = 8;
+const MOST_DEPTH = 6; // deeper lanes are indented no more
 
 /** @typedef {import("./lanes.mjs").Mark} Mark */
 
@@ -20,23 +21,33 @@ const isSame = (one, other) => one.length === other.length && one.every((item, p
 /** Draws what can be seen of a plan, and a part around it, again whenever the window leaves that part. */
 export class Picture {
   /**
-   * @param {{drawsAll: boolean, onUser: (user: number) => void, onMark: (mark: Mark) => void}} how
+   * @param {{drawsAll: boolean, onUser: (user: number) => void, onMark: (mark: Mark) => void,
+   *   onFold: (lane: import("./lanes.mjs").Lane) => void, onMoved: () => void}} how
    */
-  constructor({ drawsAll, onUser, onMark }) {
+  constructor({ drawsAll, onUser, onMark, onFold, onMoved }) {
     this.drawsAll = drawsAll;
     this.onUser = onUser;
     this.onMark = onMark;
+    this.onFold = onFold;
+    this.onMoved = onMoved;
+    /** @type {Set<number>} the indices of entries to look at */
+    this.noticed = new Set();
     this.hidesOthers = false; // whether lanes without anything in the window are left out
     this.plan = null;
+    /** @type {number | null} */
     this.failedAt = null; // the index of the entry that a test failed after
     /** @type {Mark | null} */
     this.current = null;
+    this.isChanging = false; // whether other lanes have come since the last drawing
     this.drawn = null; // the part that is drawn
     this.drawing = null;
     this.extra = null; // the current mark's shape if its lane is drawn as bars
     this.scroller = element("scroller");
     this.svg = element("picture");
-    this.scroller.addEventListener("scroll", () => this.refresh());
+    this.scroller.addEventListener("scroll", () => {
+      this.refresh();
+      this.onMoved();
+    });
   }
 
   /** The width of the window's part for the picture. */
@@ -46,6 +57,7 @@ export class Picture {
 
   show(plan) {
     this.plan = plan;
+    this.noticed = new Set(plan.session.notices.map(({ at }) => at));
     if (!plan.steps.includes(this.current)) this.current = null;
     this.drawn = null;
     this.resize();
@@ -78,7 +90,8 @@ export class Picture {
     const seen = this.window();
     if (this.isDrawn(seen)) return;
     const { width, height } = this.plan;
-    const around = this.hidesOthers ? AROUND_LANES_IN_VIEW : AROUND;
+    const around = this.isChanging ? AROUND_CHANGING : AROUND;
+    this.isChanging = false;
     const wide = (seen.right - seen.left) * around;
     const tall = (seen.bottom - seen.top) * around;
     this.drawn = { left: Math.max(0, seen.left - wide), right: Math.min(Math.max(width, seen.right), seen.right + wide),
@@ -96,6 +109,7 @@ export class Picture {
     const anchor = plan.lanesBetween(scrollTop, Infinity).find((lane) => kept.has(lane));
     const offset = anchor ? anchor.top - scrollTop : 0;
     plan.arrange(lanes);
+    this.isChanging = true;
     this.resize();
     if (anchor && scrollTop > 0) scroller.scrollTop = anchor.top - offset;
     this.drawn = null;
@@ -108,7 +122,7 @@ export class Picture {
   }
 
   draw(part) {
-    this.drawing = new Drawing(this.plan, part, this.failedAt);
+    this.drawing = new Drawing(this.plan, part, this);
     this.extra = null;
     element("axis").replaceChildren(...this.drawing.ticks());
     element("names").replaceChildren(...this.drawing.lanes.map((lane) => this.laneName(lane)));
@@ -118,10 +132,12 @@ export class Picture {
 
   laneName(lane) {
     const row = tag("div", { className: lane.kind });
-    row.title = lane.owner ? `${lane.name} of process ${lane.owner.number}` : lane.name;
-    row.style.top = `${lane.top}px`;
-    row.style.height = `${lane.height}px`;
+    const below = lane.isFolded ? ` and ${lane.others.length} lanes below it` : "";
+    row.title = (lane.owner ? `${lane.name} of process ${lane.owner.number}` : lane.name) + below;
+    Object.assign(row.style, { top: `${lane.top}px`, height: `${lane.height}px` });
     row.style.setProperty("--user", colourOf(lane.user));
+    row.style.setProperty("--depth", String(Math.min(lane.depth, MOST_DEPTH)));
+    if (lane.canFold) row.append(this.foldButton(lane));
     const words = lane.number ? [tag("span", { className: "word" }, `${lane.kind === "lwp" ? "LWP" : lane.kind} `),
       String(lane.number)] : [lane.name];
     if (lane.kind !== "user") {
@@ -134,6 +150,18 @@ export class Picture {
     button.addEventListener("click", () => this.onUser(alone ? null : lane.user));
     row.append(button);
     return row;
+  }
+
+  foldButton(lane) {
+    const button = tag("button", { type: "button", className: "fold", textContent: lane.isFolded ? "▸" : "▾",
+      title: lane.isFolded ? "show the lanes below" : "fold the lanes below" });
+    button.setAttribute("aria-expanded", String(!lane.isFolded));
+    button.setAttribute("aria-label", `lanes below ${lane.name}`);
+    button.addEventListener("click", (event) => {
+      event.stopPropagation();
+      this.onFold(lane);
+    });
+    return button;
   }
 
   // ---- the current mark
@@ -154,7 +182,8 @@ export class Picture {
       this.extra = null;
     }
     if (!mark || !this.drawing) return;
-    if (this.plan.isDense && !this.shapeOf(mark) && mark.lane.isShown) this.extra = this.drawExtra(mark);
+    const { on } = mark.lane;
+    if (this.plan.isInBars(on) && !this.shapeOf(mark) && on.isShown) this.extra = this.drawExtra(mark);
     const made = this.shapeOf(mark);
     this.showColumn(mark);
     if (!made) return;
@@ -184,7 +213,7 @@ export class Picture {
     const { x } = mark;
     if (x < seen.left + 40 || x > seen.right - 60) scroller.scrollLeft = x - (seen.right - seen.left) / 2;
     this.refresh();
-    const y = mark.lane.base;
+    const y = mark.lane.on.base;
     const { top, bottom } = this.window();
     if (y < top + 30 || y > bottom - 50) scroller.scrollTop = y - (bottom - top) / 2;
     this.current = mark;
@@ -201,7 +230,7 @@ export class Picture {
     if (key === "ArrowRight") return steps[firstFrom(steps, (mark) => mark.at, current.at + 1)];
     if (key === "ArrowLeft") return steps[firstFrom(steps, (mark) => mark.at, current.at) - 1];
     const way = key === "ArrowDown" ? 1 : -1;
-    let place = plan.lanes.indexOf(current.lane) + way;
+    let place = plan.lanes.indexOf(current.lane.on) + way;
     while (plan.lanes[place]?.seen.length === 0) place += way;
     return plan.lanes[place] && plan.nearest(plan.lanes[place], current.x);
   }
@@ -209,26 +238,26 @@ export class Picture {
   /** The mark under the pointer, or the nearest one if lanes are drawn as bars. */
   markAt(event) {
     const made = event.target.closest?.(".mark")?.mark;
-    if (made || !this.plan?.isDense) return made;
+    if (made || !this.plan) return made;
     const box = this.svg.getBoundingClientRect();
     const [x, y] = [event.clientX - box.left, event.clientY - box.top];
     const lane = this.plan.lanesBetween(y, y + 1)[0];
-    const mark = lane && Math.abs(lane.base - y) < 12 ? this.plan.nearest(lane, x) : undefined;
+    const isNear = lane && this.plan.isInBars(lane) && Math.abs(lane.base - y) < 12;
+    const mark = isNear ? this.plan.nearest(lane, x) : undefined;
     return mark && Math.abs(mark.x - x) <= NEAR ? mark : undefined;
   }
 
   /** Where a mark is in the browser's window. */
   boxOf(mark) {
     const box = this.svg.getBoundingClientRect();
-    const [x, y] = [box.left + mark.x, box.top + mark.lane.base];
+    const [x, y] = [box.left + mark.x, box.top + mark.lane.on.base];
     return { left: x, right: x, top: y - 8, bottom: y + 8 };
   }
 
   /** Whether the window shows a mark. */
   shows(mark) {
     const seen = this.window();
-    const { x, lane } = mark;
-    const { base } = lane;
-    return lane.isShown && x >= seen.left && x <= seen.right && base >= seen.top && base <= seen.bottom - TOP_HEIGHT;
+    const { x, lane: { on: { base, isShown } } } = mark;
+    return isShown && x >= seen.left && x <= seen.right && base >= seen.top && base <= seen.bottom - TOP_HEIGHT;
   }
 }

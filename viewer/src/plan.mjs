@@ -9,7 +9,12 @@ export const NARROWEST_MARK = 4;
 export const RIGHT_ROOM = 20;
 const SPAN_LABEL_EVERY = 1400; // pixels
 const BASE = 22; // the middle of a lane's marks, from its top
+const HEIGHTS = { process: 47, lwp: 34, user: 47, input: 34 };
+const QUIET_HEIGHTS = { lwp: 18, user: 26 };
+const DENSE_HEIGHTS = { process: 26, lwp: 20, user: 26, input: 20 };
 const WIDTH_OF_FULL_SIGNS = 13;
+
+/** @typedef {import("./lanes.mjs").Lane} Lane */
 
 /**
  * What is shown, and how.
@@ -17,10 +22,36 @@ const WIDTH_OF_FULL_SIGNS = 13;
  * @typedef {object} View
  * @property {number | null} [user]  only this user
  * @property {number} step  the width of a step
- * @property {Set<string>} [hidden]  the replies whose steps are left out: `held`, `error`
+ * @property {Set<string>} [hidden]  the replies whose steps are left out: `held`, `error`, `nothing`
+ * @property {Set<number> | null} [only]  the indices of the only entries that are shown
+ * @property {boolean} [allLwps]  whether the only LWP of a process has a lane too
+ * @property {Set<Lane>} [folded]  lanes without those below them
  * @property {number} [room]  the width of the window
  * @property {number} [letter]  the width of a letter
  */
+
+/** The lanes that are right below each lane. */
+function childrenOf({ lanes, users }) {
+  const found = new Map();
+  for (const lane of lanes) {
+    const owner = lane.kind === "process" ? lane.maker?.owner : lane.owner;
+    const upper = owner ?? users.get(lane.user);
+    if (upper === undefined || upper === lane) continue;
+    if (!found.has(upper)) found.set(upper, []);
+    found.get(upper).push(lane);
+  }
+  return found;
+}
+
+/** The bands of each kind, which begin and end one after the other. */
+function byKind(bands) {
+  const found = new Map();
+  for (const band of bands) {
+    if (!found.has(band.kind)) found.set(band.kind, []);
+    found.get(band.kind).push(band);
+  }
+  return found;
+}
 
 /** Where the lanes, marks, labels and links of a session are, in a view. */
 export class Plan {
@@ -28,19 +59,26 @@ export class Plan {
    * @param {import("./session.mjs").Session} session
    * @param {View} view
    */
-  constructor(session, { user = null, step, hidden = new Set(), room = 0, letter = 6.6 }) {
+  constructor(session, { user = null, step, hidden = new Set(), only = null, allLwps = true, folded = new Set(),
+    room = 0, letter = 6.6 }) {
     this.session = session;
     this.user = user;
     this.step = step;
     this.hidden = hidden;
+    this.only = only;
+    this.allLwps = allLwps;
+    this.folded = folded;
     this.room = room;
     this.letter = letter;
+    this.children = childrenOf(session);
     this.isDense = step < NARROWEST_MARK;
     this.scale = Math.min(1, Math.max(0.4, step / WIDTH_OF_FULL_SIGNS));
     this.all = session.entries.filter(({ reply }) => user === null || reply.user === user);
     this.count();
     const isOf = (lane) => user === null || lane.user === user;
-    this.order = this.rows();
+    /** @type {Lane[]} */
+    this.order = [];
+    for (const lane of this.roots()) this.addTree(lane, null, 0);
     for (const lane of this.order) this.place(lane);
     this.arrange(this.order);
     this.linksAt = new Map();
@@ -49,23 +87,30 @@ export class Plan {
       if (!this.linksAt.has(column)) this.linksAt.set(column, []);
       this.linksAt.get(column).push(link);
     }
-    for (const span of session.spans) if (isOf(span.tracee)) span.tracee.spans.push(span);
-    this.steps = this.order.flatMap((lane) => lane.seen.filter((mark) => mark.primary))
+    for (const span of session.spans) {
+      const { tracee } = span;
+      if (isOf(tracee) && tracee.on === tracee) tracee.spans.push(span);
+    }
+    this.steps = session.marks.filter(({ primary, at, lane }) => primary && isOf(lane) && this.isVisible[at])
       .sort((one, other) => one.at - other.at);
   }
 
   /** Gives each entry its number, which the user sees, and its column; what is left out has the next one's column. */
   count() {
-    const { session, all, hidden } = this;
-    this.entries = all.filter(({ reply }) => !hidden.has(reply.reply));
+    const { session, all, hidden, only } = this;
+    this.entries = all.filter(({ reply, index }) => !hidden.has(reply.reply) && (!only || only.has(index)));
     this.columns = this.entries.length;
-    this.numberOf = new Int32Array(session.entries.length);
+    const { length } = session.entries;
+    this.numberOf = new Int32Array(length);
     all.forEach((entry, place) => { this.numberOf[entry.index] = place + 1; });
-    this.columnOf = new Int32Array(session.entries.length);
+    this.columnOf = new Int32Array(length);
+    this.isVisible = new Uint8Array(length);
     let column = 0;
-    for (const { index } of session.entries) {
+    for (let index = 0; index < length; index++) {
       this.columnOf[index] = Math.min(column, Math.max(0, this.columns - 1));
-      if (this.entries[column]?.index === index) column++;
+      if (this.entries[column]?.index !== index) continue;
+      this.isVisible[index] = 1;
+      column++;
     }
   }
 
@@ -90,21 +135,45 @@ export class Plan {
     return mark?.entry === entry ? mark : undefined;
   }
 
-  /** The lanes from top to bottom: users by number, their processes by birth, each with its LWPs. */
-  rows() {
+  /** The lanes of the first level: users by number, before them the lines that were no step. */
+  roots() {
+    const { session, user } = this;
+    const users = session.userNumbers().filter((number) => user === null || number === user);
+    const input = session.input && user === null ? [session.input] : [];
+    return [...input, ...users.map((number) => session.users.get(number))];
+  }
+
+  /** The lanes right below a lane: LWPs by birth, then processes, below those that have made them. */
+  below(lane) {
     const byBirth = (one, other) => one.from - other.from || one.number - other.number;
-    const { session } = this;
-    const lanes = session.input && this.user === null ? [session.input] : [];
-    const own = new Map([...session.users.keys()].map((user) => [user, []]));
-    for (const lane of session.lanes) if (lane.owner === null && own.has(lane.user)) own.get(lane.user).push(lane);
-    for (const user of session.userNumbers()) {
-      if (this.user !== null && this.user !== user) continue;
-      const [rest, processes] = [[], []];
-      for (const lane of own.get(user)) (lane.kind === "process" ? processes : rest).push(lane);
-      lanes.push(...rest);
-      for (const process of processes.sort(byBirth)) lanes.push(process, ...process.lwps.sort(byBirth));
-    }
-    return lanes;
+    const children = this.children.get(lane) ?? [];
+    const of = (kind) => children.filter((one) => one.kind === kind).sort(byBirth);
+    return [...of("lwp"), ...of("process")];
+  }
+
+  /** Whether the marks of an LWP are on the lane of its process. */
+  isMerged({ kind, owner }) {
+    return kind === "lwp" && !this.allLwps && owner !== null && owner.lwps.length === 1;
+  }
+
+  /**
+   * Adds a lane and those below it. In a folded lane they are on that lane, as the only LWP of a process is.
+   *
+   * @param {Lane} lane
+   * @param {Lane | null} fold  the folded lane that it is in
+   * @param {number} depth
+   */
+  addTree(lane, fold, depth) {
+    const isMerged = this.isMerged(lane);
+    const below = this.below(lane);
+    const canFold = !isMerged && below.some((one) => !this.isMerged(one));
+    const isFolded = canFold && !fold && this.folded.has(lane);
+    const on = fold ?? (isMerged ? lane.owner : lane);
+    Object.assign(lane, { on, others: [], spans: [], labels: null, depth, canFold, isFolded });
+    if (lane.on === lane) this.order.push(lane);
+    else lane.on.others.push(lane);
+    const inside = fold ?? (lane.isFolded ? lane : null);
+    for (const one of below) this.addTree(one, inside, depth + 1);
   }
 
   /** Puts these lanes one under the other, and shows no others. */
@@ -113,18 +182,19 @@ export class Plan {
     this.height = 0;
     for (const lane of this.order) lane.isShown = false;
     for (const lane of lanes) {
-      const quiet = lane.seen.length === 0 && lane.bands.length === 0;
+      const isQuiet = lane.seen.length === 0 && lane.bandsOn.length === 0;
       lane.isShown = true;
-      lane.height = { process: 47, lwp: quiet ? 18 : 34, user: quiet ? 26 : 47, input: 34 }[lane.kind];
+      lane.height = (isQuiet && QUIET_HEIGHTS[lane.kind]) || (this.isDense ? DENSE_HEIGHTS : HEIGHTS)[lane.kind];
       lane.top = this.height;
-      lane.base = lane.top + (quiet ? lane.height / 2 : BASE);
+      lane.base = lane.top + (isQuiet || this.isDense ? Math.floor(lane.height / 2) : BASE);
       this.height += lane.height;
     }
   }
 
-  /** The lanes that live, or have a mark, in some columns; and the users of these. */
+  /** The lanes that live, or have a mark, in some columns, and their users. If only some steps are shown, by marks. */
   lanesIn(first, last) {
     const isIn = (lane) => {
+      if (this.only && lane.seen.length === 0) return false;
       const isLife = lane.kind === "process" || lane.kind === "lwp";
       const end = lane.to === null ? this.columns : this.columnOf[Math.max(lane.to, lane.seenTo ?? 0)];
       if (isLife && this.columnOf[lane.from] <= last && end >= first) return true;
@@ -135,13 +205,12 @@ export class Plan {
     return this.order.filter((lane) => kept.has(lane) || (lane.kind === "user" && users.has(lane.user)));
   }
 
-  /** Where the marks of a lane are. Those of one step are next to each other. */
+  /** Where the marks on a lane are. Those of one step are next to each other. */
   place(lane) {
-    const { hidden } = this;
-    lane.seen = hidden.size ? lane.marks.filter(({ primary, entry }) => !primary || !hidden.has(entry.reply.reply))
-      : lane.marks;
-    lane.spans = [];
-    lane.labels = null;
+    const own = [lane, ...lane.others].map((one) => this.visible(one.marks));
+    lane.seen = own.length === 1 ? own[0] : own.flat().sort((one, other) => one.at - other.at);
+    const merged = lane.others.filter((one) => this.isMerged(one) && one.owner === lane);
+    lane.bandsOn = [lane, ...merged].flatMap(({ bands }) => [...byKind(bands).values()]);
     let before = null;
     for (const mark of lane.seen) {
       mark.column = this.columnOf[mark.at];
@@ -149,6 +218,17 @@ export class Plan {
       mark.x = this.x(mark.column) + mark.shift;
       before = mark;
     }
+  }
+
+  /** The marks whose steps aren't left out; what else such a step did is shown, unless only some steps are. */
+  visible(marks) {
+    if (this.columns === this.all.length) return marks;
+    return marks.filter(({ primary, at }) => this.isVisible[at] || (!primary && !this.only));
+  }
+
+  /** Whether a lane is drawn as bars. */
+  isInBars(lane) {
+    return this.isDense || lane.isFolded;
   }
 
   /** The labels of a lane that have room. */
@@ -162,12 +242,12 @@ export class Plan {
 
   /** The labels that the marks and spans of a lane would have. */
   wanted(lane) {
-    const lowest = this.isDense ? 0 : this.step < 12 ? 1 : this.step < 20 ? 2 : 3;
+    const lowest = this.isInBars(lane) ? 0 : this.step < 12 ? 1 : this.step < 20 ? 2 : 3;
     const wanted = lowest === 0 ? [] : lane.seen.filter((mark) => mark.label).map(({ kind, x, label }) => {
       const { rank, classes } = SIGNS.get(kind);
       return { x: x + 4, text: label, rank, pale: classes === "pale" };
     }).filter(({ rank }) => rank <= lowest);
-    for (const span of lane.spans) wanted.push(...this.spanLabels(span));
+    if (!this.isDense) for (const span of lane.spans) wanted.push(...this.spanLabels(span));
     return wanted;
   }
 

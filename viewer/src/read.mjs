@@ -120,8 +120,14 @@ function linesOf(text) {
     .map((line, index) => ({ number: index + 1, text: line, value: parsed(line) }));
 }
 
-/** What a file holds, by its form: the replies of a run, or a scenario (also as a line for each step). */
-export function readFile({ name, text }) {
+/**
+ * What a file holds, by its form: the replies of a run, or a scenario (also as a line for each step). `lines` are what
+ * viewer/make has read and checked.
+ *
+ * @param {{name: string, text?: string, lines?: object[]}} file
+ */
+export function readFile({ name, text, lines: checked }) {
+  if (checked) return { replies: checked, faults: [], name };
   const whole = parsed(text);
   if (isObject(whole) && Object.hasOwn(whole, "steps")) return readScenario(name, whole);
   const lines = linesOf(text);

@@ -23,6 +23,8 @@ export class Session {
     this.input = null;
     /** @type {Map<number, import("./state.mjs").History>} what each user sees, if the lines say it */
     this.histories = new Map();
+    /** @type {import("./notices.mjs").Notice[]} what to look at, if the lines say it */
+    this.notices = [];
   }
 
   /** Reads all steps. */

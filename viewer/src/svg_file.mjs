@@ -26,7 +26,7 @@ function copied(original) {
 }
 
 function laneName(lane, ink) {
-  const made = shape("text", { x: { user: 6, process: 14, lwp: 24 }[lane.kind] ?? 6, y: lane.base + 4, fill: ink,
+  const made = shape("text", { x: 6 + 10 * Math.min(lane.depth, 6), y: lane.base + 4, fill: ink,
     "font-size": 11, "font-family": "monospace", ...(lane.kind === "lwp" ? {} : { "font-weight": 700 }) });
   made.textContent = lane.name;
   return made;

@@ -28,7 +28,8 @@ function markOf(row, other, isCompared) {
 /** One row of the tree: a name and its facts. */
 function rowTag(kind, name, facts, { level, mark = "", states = "" }) {
   const made = tag("div", { className: `${kind} ${states} ${mark}`.trim().replaceAll(/ +/g, " ") },
-    tag("b", { textContent: name }), ...(mark === "new" || mark === "gone" ? [tag("i", { textContent: mark })] : []),
+    tag("span", { className: "name", textContent: name }),
+    ...(mark === "new" || mark === "gone" ? [tag("span", { className: "note", textContent: mark })] : []),
     ...facts.map(factTag));
   made.setAttribute("role", "treeitem");
   made.setAttribute("aria-level", level);
