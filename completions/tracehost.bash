@@ -29,14 +29,14 @@ _tracehost()
         mapfile -t COMPREPLY < <(compgen -P "$front" -W "auto always never" -- "$word")
         return
         ;;
-    --expect | --expect=) ;;
+    --expect | --expect= | --expect-list | --expect-list=) ;;
     *)
         if [[ $word == -* ]]; then
             local given=" ${COMP_WORDS[*]:1:COMP_CWORD - 1} "
-            local scenario="--user --threads --expect --bless" lines="--lines --kill-on-debugger-exit"
+            local scenario="--user --threads --expect --bless --expect-list" lines="--lines --kill-on-debugger-exit"
             local all="--json --explain --help -h --version -V"
             [[ $given =~ \ --(lines|kill-on-debugger-exit)\  ]] && scenario=''
-            [[ $given =~ \ --(user|threads|expect|bless)\  ]] && lines=''
+            [[ $given =~ \ --(user|threads|expect|bless|expect-list)\  ]] && lines=''
             mapfile -t COMPREPLY < <(compgen -W "$scenario $lines $all" -- "$word")
             return
         fi
