@@ -50,7 +50,7 @@ class Room:
 
     def prove(self, gate: str = "") -> Ended:
         with self.start(gate) as run:
-            out, err = run.communicate(timeout=120)
+            out, err = run.communicate(timeout=600)
         assert not any(self.tmp.iterdir())
         return Ended(run.returncode, out, err)
 
@@ -96,11 +96,12 @@ def test_a_failed_proof(room: Room) -> None:
 
 @pytest.mark.parametrize("number", [signal.SIGINT, signal.SIGTERM])
 def test_an_interrupt_leaves_nothing(room: Room, number: signal.Signals) -> None:
+    signal.signal(signal.SIGINT, signal.default_int_handler)  # a background job of a shell ignores it
     with room.start("waits") as run:
         while not room.given.with_name("waits").exists():
             time.sleep(0.05)
         os.killpg(run.pid, number)
-        run.communicate(timeout=60)
+        run.communicate(timeout=300)
     assert run.returncode != 0
     assert not (room.built / "tracehost").exists() and not any(room.tmp.iterdir())
 
