@@ -35,6 +35,8 @@ SONAME = libtracehost.so.1
 PAGES = tracehost.1 tracehost-view.1 tracehost-perfetto.1
 DATA = schema/scenario.schema.json viewer/src/* viewer/*.py
 DOCUMENTS = LICENSE README.md CHANGELOG.md SECURITY.md docs/*.* docs/internals/* examples/*
+# of the library
+HEADERS = include/tracehost.h $(patsubst %,include/tracehost%.hpp,_catch2 _explain _gtest _record _test) include/tracehost.hpp
 # the client in C: tracehost_client.c includes the others
 CLIENT = tracehost_client.c internal.h artifacts.c calls.c failing.c in_process.c names.c pipe.c record.c refusals.c rows.c \
   session.c steps.c threads.c
@@ -93,7 +95,7 @@ install-files:
 # the library of the present sources, from the folder that tools/library prints
 install-library:
 	$(INSTALL) -d "$(DESTDIR)$(includedir)" "$(DESTDIR)$(libpkgconfigdir)"
-	$(INSTALL_DATA) include/*.h include/*.hpp "$(DESTDIR)$(includedir)"
+	$(INSTALL_DATA) $(HEADERS) "$(DESTDIR)$(includedir)"
 	$(INSTALL_DATA) "$(library)/libtracehost.a" "$(DESTDIR)$(libdir)"
 	$(INSTALL_DATA) "$(library)/libtracehost.so" "$(DESTDIR)$(libdir)/$(SONAME)"
 	ln -sf $(SONAME) "$(DESTDIR)$(libdir)/libtracehost.so"
@@ -110,7 +112,7 @@ install-strip:
 # folders that other programs may share stay
 uninstall:
 	for file in "$(bindir)/tracehost" "$(bindir)/tracehost-view" "$(bindir)/tracehost-perfetto" \
-	  "$(includedir)/tracehost_client.h" "$(includedir)/tracehost.h" "$(includedir)/tracehost.hpp" \
+	  "$(includedir)/tracehost_client.h" $(HEADERS:include/%="$(includedir)/%") \
 	  "$(libdir)/libtracehost.a" "$(libdir)/libtracehost.so" "$(libdir)/$(SONAME)" \
 	  "$(libpkgconfigdir)/tracehost.pc" "$(pkgconfigdir)/tracehost-client.pc" \
 	  "$(pkgdatadir)/viewer/make" "$(pkgdatadir)/viewer/perfetto" "$(bashcompletiondir)/tracehost" \

@@ -12,8 +12,8 @@ from pathlib import Path
 from typing import NamedTuple
 
 import pytest
-from c_programs import HEADERS, STRICT, WARNINGS, compiled, output, sanitized
-from checking import TOP
+from c_programs import HEADERS, NONE, STRICT, WARNINGS, compiled, output, sanitized
+from checking import TOP, Word
 from client_programs import CLIENT, IN_PROCESS, SOURCE
 
 CPP = TOP / "clients/cpp/tests"
@@ -34,7 +34,9 @@ class Failing:
         self.name, self._command, self.stem = name, command, stem
         self.environment: Mapping[str, str] = {}
 
-    def __call__(self, case: str, folder: Path | None, named: str | None = None, *, room: int = 0, **environment: str) -> Ran:
+    def __call__(
+        self, case: str, folder: Path | None, named: str | None = None, room: int = 0, environment: Mapping[str, str] = NONE
+    ) -> Ran:
         """Runs a case that leaves its files in the folder. `room` is the most bytes of a file, 0 for no limit."""
         surroundings = {**os.environ, **self.environment, **environment}
         surroundings.pop("TRACEHOST_ARTIFACTS", None)
@@ -50,14 +52,14 @@ class Failing:
 
 
 def in_c(room: Path, library: Path, program: Path, way: str) -> Failing:
-    flags = ["-std=c11", *WARNINGS, "-Wconversion", "-g", "-pthread", *sanitized(), "-I", CLIENT]
-    more = [*IN_PROCESS, SOURCE, library / "libtracehost.a"] if way == "in process" else [SOURCE]
+    flags: list[Word] = ["-std=c11", *WARNINGS, "-Wconversion", "-g", "-pthread", *sanitized(), "-I", CLIENT]
+    more: list[Word] = [*IN_PROCESS, SOURCE, library / "libtracehost.a"] if way == "in process" else [SOURCE]
     made = compiled(room / f"c-{way.replace(' ', '-')}", *flags, CLIENT / "tests/failing.c", *more)
     return Failing(f"c {way}", lambda case, named: [str(made), str(program), case, *([named] if named else [])], lambda case: case)
 
 
 def in_cpp(room: Path, library: Path) -> Failing:
-    flags = ["-std=c++17", *STRICT, "-g", "-pthread", *sanitized(), *HEADERS]
+    flags: list[Word] = ["-std=c++17", *STRICT, "-g", "-pthread", *sanitized(), *HEADERS]
     made = compiled(room / "cpp", *flags, CPP / "failing.cpp", library / "libtracehost.a", compiler="c++")
     return Failing("cpp", lambda case, named: [str(made), case, *([named] if named else [])], lambda case: case)
 
@@ -65,7 +67,7 @@ def in_cpp(room: Path, library: Path) -> Failing:
 def in_gtest(room: Path, library: Path) -> Failing:
     if not Path("/usr/include/gtest/gtest.h").exists():
         pytest.skip("not installed: libgtest-dev")
-    words = ["-std=c++17", *STRICT, "-g", "-pthread", *sanitized(), *HEADERS, CPP / "failing_gtest.cpp"]
+    words: list[Word] = ["-std=c++17", *STRICT, "-g", "-pthread", *sanitized(), *HEADERS, CPP / "failing_gtest.cpp"]
     words += [library / "libtracehost.a", "-lgtest_main", "-lgtest"]
     made = compiled(room / "gtest", *words, compiler="c++")
     return Failing("gtest", lambda case, named: [str(made), f"--gtest_filter={case}"], lambda case: case)
@@ -75,7 +77,7 @@ def in_catch2(room: Path, library: Path) -> Failing:
     three, two = Path("/usr/include/catch2/catch_all.hpp"), Path("/usr/include/catch2/catch.hpp")
     if not three.exists() and not two.exists():
         pytest.skip("not installed: catch2")
-    words = ["-std=c++17", *STRICT, "-g", "-pthread", *sanitized(), *HEADERS, CPP / "failing_catch2.cpp"]
+    words: list[Word] = ["-std=c++17", *STRICT, "-g", "-pthread", *sanitized(), *HEADERS, CPP / "failing_catch2.cpp"]
     words += [library / "libtracehost.a", *(["-lCatch2Main", "-lCatch2"] if three.exists() else [])]
     made = compiled(room / "catch2", *words, compiler="c++")
     return Failing("catch2", lambda case, named: [str(made), case], lambda case: case)

@@ -17,6 +17,7 @@ from client_programs import CLIENT, FAKE, FLAGS, IN_PROCESS, PROGRAMS, SOURCE, W
 __all__ = ["programs"]  # a fixture
 CPP = ["11", "14", "17", "20"]
 CPP_HEADERS = ["include/tracehost.h", "include/tracehost.hpp", "clients/c/tracehost_client.h"]
+CPP_HEADERS += ["include/tracehost_explain.hpp", "include/tracehost_record.hpp"]
 
 pytestmark = needs("cc")
 needs_cpp = needs("c++")
@@ -74,6 +75,12 @@ def test_the_librarys_header_in_c99() -> None:
 @pytest.mark.parametrize("standard", CPP)
 def test_a_header_in_cpp(standard: str, header: str) -> None:
     reads(f"-std=c++{standard}", *STRICT, "-x", "c++", TOP / header, compiler="c++")
+
+
+@needs_cpp
+@pytest.mark.parametrize("standard", CPP[2:])
+def test_the_header_of_tests_in_cpp(standard: str) -> None:
+    reads(f"-std=c++{standard}", *STRICT, "-x", "c++", TOP / "include/tracehost_test.hpp", compiler="c++")
 
 
 @needs_cpp

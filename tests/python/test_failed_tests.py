@@ -6,6 +6,7 @@ A full disk, odd names, two tests of a name, threads, forks, aborts and a missin
 from __future__ import annotations
 
 import os
+from collections.abc import Callable
 from concurrent.futures import ThreadPoolExecutor
 from pathlib import Path
 
@@ -15,7 +16,7 @@ from failing_programs import Failing, in_c, in_catch2, in_cpp, in_gtest, in_rust
 
 pytestmark = [needs("cc"), needs("c++")]
 VIEWER = TOP / "viewer/make"
-MADE = {
+MADE: dict[str, Callable[[Path, Path, Path], Failing]] = {
     "c": lambda room, library, program: in_c(room, library, program, "in process"),
     "c over a pipe": lambda room, library, program: in_c(room, library, program, "pipe"),
     "cpp": lambda room, library, program: in_cpp(room, library),
@@ -106,13 +107,13 @@ def test_one_that_fails(failing: Failing, tmp_path: Path, program: Path) -> None
 def test_without_a_folder(failing: Failing, tmp_path: Path, program: Path) -> None:
     """Each test has its own, below the one for temporary files."""
     case = FAILS.get(key(failing), "fails")
-    ran = failing(case, None, TMPDIR=str(tmp_path))
+    ran = failing(case, None, environment={"TMPDIR": str(tmp_path)})
     (folder,) = tmp_path.iterdir()
     assert ran.status != 0 and folder.name.startswith(f"tracehost-{case}-")
     assert sorted(path.name for path in folder.iterdir()) == files(case)
     assert folder.stat().st_mode & 0o77 == 0
     check_record(folder, case, program)
-    assert failing(PASSES.get(key(failing), "passes"), None, TMPDIR=str(tmp_path)).status == 0
+    assert failing(PASSES.get(key(failing), "passes"), None, environment={"TMPDIR": str(tmp_path)}).status == 0
     assert [*tmp_path.iterdir()] == [folder]
 
 
@@ -170,7 +171,7 @@ def test_odd_names(failing: Failing, tmp_path: Path, program: Path) -> None:
     """A digest tells them apart, and nothing in them is a path or a command."""
     for number, (name, wanted) in enumerate(ODD.items()):
         folder = tmp_path / str(number)
-        ran = failing("fails", folder, name, TEST_NAME=name)
+        ran = failing("fails", folder, name, environment={"TEST_NAME": name})
         (stem,) = {file.rsplit(".", 1)[0] for file in ran.left}
         assert stem.startswith(wanted) and len(stem) <= 89 and ran.left == files(stem)
         check_record(folder, stem, program)
@@ -226,7 +227,7 @@ def test_a_link_in_place_of_the_scenario(failing: Failing, tmp_path: Path) -> No
 @pytest.mark.parametrize("missing", ["TRACEHOST", "TRACEHOST_VIEW"])
 def test_without_the_program_or_the_viewer(failing: Failing, tmp_path: Path, program: Path, missing: str) -> None:
     case = FAILS.get(key(failing), "fails")
-    ran = failing(case, tmp_path, **{missing: "/nowhere/program"})
+    ran = failing(case, tmp_path, environment={missing: "/nowhere/program"})
     assert ran.status != 0 and ran.left == files(case)[1:]
     assert "there is no /nowhere/program" in ran.said and "page:     none" in ran.said
     check_record(tmp_path, case, program)
@@ -234,7 +235,7 @@ def test_without_the_program_or_the_viewer(failing: Failing, tmp_path: Path, pro
 
 @languages("c", "cpp", "rust")
 def test_a_viewer_that_fails(failing: Failing, tmp_path: Path, program: Path) -> None:
-    ran = failing(FAILS.get(key(failing), "fails"), tmp_path, TRACEHOST_VIEW="/bin/false")
+    ran = failing(FAILS.get(key(failing), "fails"), tmp_path, environment={"TRACEHOST_VIEW": "/bin/false"})
     assert ran.status != 0 and len(ran.left) == 2 and "page:     none" in ran.said
 
 

@@ -6,17 +6,17 @@
  *       $(pkg-config --variable=source tracehost-client)
  *     ./test_suite [PROGRAM [FOLDER]]
  *
- * A test that fails leaves the session in the folder: TEST.json as a scenario, TEST.out as its lines, TEST.html as a picture,
- * made by tracehost-view or the program that $TRACEHOST_VIEW names. With PLANT=coalesce in the environment the debugger has
+ * A test that fails leaves its session in the folder (th_test_begin). With PLANT=coalesce in the environment the debugger has
  * a fault: it reports a signal that comes twice once.
  */
+#define _POSIX_C_SOURCE 200809L /* setenv(3) */
+
 #include "tracehost_client.h"
 
 #include <pthread.h>
 #include <stdio.h>
 #include <stdlib.h>
 #include <string.h>
-#include <unistd.h>
 
 enum { USER = 1001, SECONDS = 1000 };
 
@@ -222,30 +222,25 @@ static const struct test {
 
 /* ---------------------------------------------------------------- running them */
 
-/* The page of a session, next to its scenario; if there is no viewer, the scenario is enough. */
-static void make_page(const char *program, const char *stem)
+/* What the debugger should have logged, and what it has. */
+static void compare(struct world *w, const struct test *test)
 {
-    char command[4096];
-    const char *viewer = getenv("TRACEHOST_VIEW");
-    snprintf(command, sizeof command, "'%s' --json '%s.json' | '%s' - '%s.json' -o '%s.html'", program, stem,
-        viewer == NULL ? "tracehost-view" : viewer, stem, stem);
-    if (system(command) == 0)
-        printf("    page: %s.html\n", stem);
-    printf("    again: %s %s.json --expect %s.out\n", program, stem, stem);
+    char message[1200];
+    struct debugger *d = &w->debugger;
+    if (w->trouble[0] == '\0' && d->error == 0 && strcmp(d->log, test->log) == 0)
+        return;
+    snprintf(message, sizeof message, "wanted: %s\n    got: %s%s%s%s", test->log, d->log, w->trouble[0] != '\0' ? "\n    " : "",
+        w->trouble, d->error != 0 ? th_strerror(d->error) : "");
+    th_test_fail(w->host, __FILE__, __LINE__, message);
 }
 
-static int run_test(const struct test *test, const char *program, const char *folder)
+static int run_test(const struct test *test, const char *program)
 {
-    char stem[1024], scenario[1040], lines[1040], page[1040];
     const char *plant = getenv("PLANT");
     struct world w = {.debugger = {.self = {USER, 0}, .events = test->events}};
     struct debugger *d = &w.debugger;
-    snprintf(stem, sizeof stem, "%s/%s", folder, test->name);
-    snprintf(scenario, sizeof scenario, "%s.json", stem);
-    snprintf(lines, sizeof lines, "%s.out", stem);
-    snprintf(page, sizeof page, "%s.html", stem);
     d->host = w.host = th_start(program, NULL);
-    if (w.host == NULL || th_record(w.host, scenario, lines) != 0) {
+    if (w.host == NULL || th_test_begin(w.host, test->name) != 0) {
         fprintf(stderr, "%s: %s\n", program, th_strerror(errno));
         exit(2);
     }
@@ -256,28 +251,21 @@ static int run_test(const struct test *test, const char *program, const char *fo
         abort();
     test->run(&w);
     pthread_join(w.thread, NULL);
-    check(&w, "th_close", th_close(w.host));
-    int passed = w.trouble[0] == '\0' && d->error == 0 && strcmp(d->log, test->log) == 0;
-    printf("%s %s\n", passed ? "ok" : "FAILED", test->name);
-    if (passed) {
-        unlink(scenario);
-        unlink(lines);
-        unlink(page);
-        return 0;
-    }
-    printf("    wanted: %s\n    got: %s\n", test->log, d->log);
-    if (w.trouble[0] != '\0' || d->error != 0)
-        printf("    %s%s\n", w.trouble, d->error != 0 ? th_strerror(d->error) : "");
-    make_page(program, stem);
-    return 1;
+    compare(&w, test);
+    int failed = th_test_end(w.host, 1);
+    failed |= th_close(w.host) != 0;
+    printf("%s %s\n", failed ? "FAILED" : "ok", test->name);
+    return failed;
 }
 
 int main(int argc, char **argv)
 {
     const char *program = argc > 1 ? argv[1] : "tracehost", *folder = argc > 2 ? argv[2] : ".";
     int failed = 0;
+    setenv("TRACEHOST_ARTIFACTS", folder, 1);
+    setenv("TRACEHOST", program, 0);
     for (size_t i = 0; i < sizeof TESTS / sizeof TESTS[0]; i++)
-        failed += run_test(&TESTS[i], program, folder);
+        failed += run_test(&TESTS[i], program);
     printf("%d failed\n", failed);
     return failed > 0;
 }

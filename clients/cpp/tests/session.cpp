@@ -2,11 +2,16 @@
 #include <tracehost.hpp>
 
 #include <cstdio>
+#include <cstdlib>
+#include <fstream>
+#include <iterator>
 #include <string>
 #include <thread>
 #include <type_traits>
 #include <utility>
 #include <vector>
+
+#include <unistd.h>
 
 static_assert(!std::is_copy_constructible<tracehost_session>::value, "a session is not copied by accident");
 static_assert(!std::is_copy_assignable<tracehost_session>::value, "a session is not copied by accident");
@@ -188,6 +193,43 @@ static void deciding()
     CHECK(session.handle_with(1001, 7, decide).error == 3);
 }
 
+static std::string text_of(const std::string &path)
+{
+    std::ifstream file(path);
+    return std::string(std::istreambuf_iterator<char>(file), std::istreambuf_iterator<char>());
+}
+
+// The scenario is whole after each step, and moves with its session. A copy isn't recorded.
+static void records()
+{
+    char folder[] = "/tmp/tracehost-cpp-XXXXXX";
+    CHECK(mkdtemp(folder) != nullptr);
+    const std::string scenario = std::string(folder) + "/s.json", lines = std::string(folder) + "/s.out";
+    const std::string spawn = "{\"user\":1001,\"op\":\"spawn\"}", head = "{\"kill_on_debugger_exit\":0,\"steps\":[\n";
+    tracehost_session session(false);
+    session.record(scenario, lines);
+    THROWS(std::errc::device_or_resource_busy, session.record(scenario));
+    session.call(tracehost_spawn, 1001);
+    tracehost_session moved(std::move(session)), copy = moved.copy();
+    copy.call(tracehost_spawn, 1001);
+    CHECK(moved.line("spawn").compare(0, 8, "refused ") == 0);
+    CHECK(moved.line(spawn) == "1001 2 new 1001 100001" && moved.last_line() == "1001 2 new 1001 100001");
+    CHECK(text_of(scenario) == head + spawn + ",\n" + spawn + "\n]}\n");
+    CHECK(text_of(lines) == "1001 1 new 1000 100000\n1001 2 new 1001 100001\n");
+    THROWS(std::errc::device_or_resource_busy, moved.record(scenario));
+    THROWS(std::errc::no_such_file_or_directory, tracehost_session().record("/nowhere/s.json"));
+
+    // a step that can't be written ends the session, and the scenario is as before
+    tracehost_session full;
+    full.record(scenario, "/dev/full");
+    THROWS(std::errc::no_space_on_device, full.call(tracehost_spawn, 1001));
+    THROWS(std::errc::bad_file_descriptor, full.call(tracehost_spawn, 1001));
+    CHECK(text_of(scenario) == "{\"kill_on_debugger_exit\":1,\"steps\":[\n]}\n");
+    std::remove(scenario.c_str());
+    std::remove(lines.c_str());
+    rmdir(folder);
+}
+
 int main()
 {
     replies();
@@ -196,6 +238,7 @@ int main()
     settings();
     copies();
     moves();
+    records();
     threads();
     if (!failed)
         std::printf("the tests of tracehost.hpp passed\n");

@@ -3,6 +3,7 @@
 use crate::sys;
 use std::collections::hash_map::RandomState;
 use std::ffi::{OsStr, OsString};
+use std::fmt::Display;
 use std::fs::{self, DirBuilder, File, OpenOptions};
 use std::hash::{BuildHasher, Hasher};
 use std::io::{self, Error, ErrorKind, Write};
@@ -187,6 +188,11 @@ fn open_locked(path: &Path) -> io::Result<Option<File>> {
         }
         // its test has just removed it
     }
+}
+
+/// Tells of a test that isn't recorded, on standard error itself: `cargo test` shows what is printed only if a test fails.
+pub fn tell_lost(what: impl Display, since: &str, error: &Error) {
+    let _ = writeln!(io::stderr(), "tracehost: {what}: not recorded{since}: {error}");
 }
 
 /// The error, with the file that it is about.

@@ -1,5 +1,6 @@
 //! A session, and its calls.
 
+use crate::artifacts::tell_lost;
 use crate::record::{self, Recording};
 use crate::refusals::{self, Rows};
 use crate::replies::{checked, new, reply};
@@ -137,8 +138,8 @@ impl Session {
                 Ok(())
             }
             Err(error) if self.is_test => {
-                let (path, step) = (recording.path().display(), recording.steps() + 1);
-                eprintln!("tracehost: {path}: not recorded from step {step} on: {error}");
+                let since = format!(" from step {} on", recording.steps() + 1);
+                tell_lost(recording.path().display(), &since, &error);
                 self.record_error = Some(error);
                 Ok(())
             }

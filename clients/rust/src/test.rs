@@ -6,7 +6,7 @@
 //! page; else they are `tracehost` and `tracehost-view`. A name that is in use gets a number. A test that passes leaves
 //! nothing, and so does a forked child. What can't be recorded is told, and changes neither a call nor the test.
 
-use crate::artifacts::Artifacts;
+use crate::artifacts::{tell_lost, Artifacts};
 use crate::record::Recording;
 use crate::{Session, Settings};
 use std::cell::RefCell;
@@ -70,12 +70,12 @@ pub fn session_named(name: &str, settings: Settings) -> TestSession {
             let kills = settings.kill_on_debugger_exit;
             match Recording::of_files(&artifacts.scenario, scenario, Some(lines), kills) {
                 Ok(recording) => session.record_test(recording),
-                Err(error) => eprintln!("tracehost: {name}: not recorded: {error}"),
+                Err(error) => tell_lost(name, "", &error),
             }
             Some(artifacts)
         }
         Err(error) => {
-            eprintln!("tracehost: {name}: not recorded: {error}");
+            tell_lost(name, "", &error);
             None
         }
     };
