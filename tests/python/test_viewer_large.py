@@ -232,7 +232,7 @@ def test_a_file_of_png(tabs: list[Tab], some: Run) -> None:
 def processor_seconds() -> float:
     """What all pages of the browser have used."""
     found: list[dict[str, Any]] = browser().ask("SystemInfo.getProcessInfo")["processInfo"]
-    return sum(process["cpuTime"] for process in found if process["type"] == "renderer")
+    return float(sum(process["cpuTime"] for process in found if process["type"] == "renderer"))
 
 
 def scrolled(tab: Tab) -> tuple[float, float]:
