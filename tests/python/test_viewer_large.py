@@ -171,7 +171,8 @@ def test_the_steps_of_a_process(tabs: list[Tab], some: Run) -> None:
 def test_the_overview(tabs: list[Tab], many: Run) -> None:
     """Its window goes with the picture, and a click moves the picture."""
     tab = open_tab(tabs, many.page)
-    frame = "['x', 'width'].map((name) => Number(document.querySelector('#overview .window').getAttribute(name)))"
+    frame = """(([strip, frame]) => [frame.left - strip.left, frame.width])(
+        ["overview-picture", "overview-window"].map((id) => document.getElementById(id).getBoundingClientRect()))"""
     left, width = tab.value(frame)
     room = tab.value("document.getElementById('overview-picture').clientWidth")
     assert left < 2 and 0 < width < room / 10
@@ -231,7 +232,7 @@ def test_a_file_of_png(tabs: list[Tab], some: Run) -> None:
 def processor_seconds() -> float:
     """What all pages of the browser have used."""
     found: list[dict[str, Any]] = browser().ask("SystemInfo.getProcessInfo")["processInfo"]
-    return sum(process["cpuTime"] for process in found if process["type"] == "renderer")
+    return float(sum(process["cpuTime"] for process in found if process["type"] == "renderer"))
 
 
 def scrolled(tab: Tab) -> tuple[float, float]:

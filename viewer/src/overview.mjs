@@ -11,6 +11,9 @@ export class Overview {
     this.picture = picture;
     this.element = element("overview");
     this.svg = element("overview-picture");
+    // over the strip, so that it isn't painted again with each move
+    this.current = element("overview-current");
+    this.window = element("overview-window");
     this.listen();
   }
 
@@ -28,23 +31,22 @@ export class Overview {
     const bars = [["own", own], ["stop", stops]].map(([name, d]) => shape("path", { class: `bars ${name}`, d,
       transform: `translate(0 ${HEIGHT / 2})` }));
     const { failedAt } = this.picture;
-    const line = (name, x) => shape("rect", { class: name, x, y: 0, width: 2, height: HEIGHT });
-    const failed = failedAt === null ? [] : [line("failed-line", step * (plan.columnOf[failedAt] + 0.5) - 1)];
-    this.current = line("current-line", 0);
-    this.window = shape("rect", { class: "window", y: 0.5, height: HEIGHT - 1, rx: 3 });
-    this.svg.replaceChildren(...bars, ...failed, this.current, this.window);
+    const failed = failedAt === null ? [] : [shape("rect", { class: "failed-line", y: 0, width: 2, height: HEIGHT,
+      x: step * (plan.columnOf[failedAt] + 0.5) - 1 })];
+    this.svg.replaceChildren(...bars, ...failed);
     this.scale = this.width / (plan.columns * plan.step);
     this.moved();
   }
 
   /** The window, or the current step, is another one. */
   moved() {
-    if (this.element.hidden || !this.window) return;
+    if (this.element.hidden) return;
     const { plan, current, scroller, size } = this.picture;
     const wide = Math.max(6, size.wide * this.scale);
-    this.window.setAttribute("x", Math.min(scroller.scrollLeft * this.scale, this.width - wide) + 0.5);
-    this.window.setAttribute("width", wide - 1);
-    this.current.setAttribute("x", current ? plan.x(current.column) * this.scale - 1 : -9);
+    this.window.style.width = `${wide}px`;
+    this.window.style.transform = `translateX(${Math.min(scroller.scrollLeft * this.scale, this.width - wide)}px)`;
+    this.current.hidden = current === null;
+    if (current) this.current.style.transform = `translateX(${plan.x(current.column) * this.scale - 1}px)`;
   }
 
   listen() {
@@ -53,11 +55,12 @@ export class Overview {
       const x = event.clientX - this.svg.getBoundingClientRect().left;
       scroller.scrollLeft = x / this.scale - size.wide / 2;
     };
-    this.svg.addEventListener("pointerdown", (event) => {
-      this.svg.setPointerCapture(event.pointerId);
+    const strip = this.svg.parentElement;
+    strip.addEventListener("pointerdown", (event) => {
+      strip.setPointerCapture(event.pointerId);
       go(event);
     });
-    this.svg.addEventListener("pointermove", (event) => {
+    strip.addEventListener("pointermove", (event) => {
       if (event.buttons) go(event);
     });
   }
