@@ -138,7 +138,7 @@ for program in "${TRACEHOST:=tracehost}" "${TRACEHOST_VIEW:=tracehost-view}"; do
   command -v "$program" >/dev/null || { echo "tracehost: there is no $program for the page"; exit 1; }
 done
 trace=$("$TRACEHOST" --json=trace+rows -- "$1") && printf '%s\n' "$trace" |
-  "$TRACEHOST_VIEW" -o "$2" --failed="$3" --message="$4" --at="$5" -
+  "$TRACEHOST_VIEW" -o "$2" --title="$3" --failed="$3" --message="$4" --at="$5" -
 )";
         const std::string scenario_path = path(".json"), page = path(".html");
         const char *const words[] = {"/bin/sh", "-c", script.c_str(), "sh", scenario_path.c_str(), page.c_str(), test.c_str(),

@@ -164,7 +164,7 @@ static const char make_page[] =
     "  command -v \"$program\" >/dev/null || { echo \"tracehost: there is no $program for the page\"; exit 1; }\n"
     "done\n"
     "trace=$(\"$TRACEHOST\" --json=trace+rows -- \"$1\") && printf '%s\\n' \"$trace\" |\n"
-    "  \"$TRACEHOST_VIEW\" -o \"$2\" --failed=\"$3\" --message=\"$4\" --at=\"$5\" -\n";
+    "  \"$TRACEHOST_VIEW\" -o \"$2\" --title=\"$3\" --failed=\"$3\" --message=\"$4\" --at=\"$5\" -\n";
 
 void thp_page_command(
     const char *argv[THP_PAGE_WORDS], const struct thp_artifacts *a, const char *test, const char *message, const char *step)

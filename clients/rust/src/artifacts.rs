@@ -97,6 +97,7 @@ impl Artifacts {
         let mut output = OsString::from("--output=");
         output.push(&self.page);
         let shown = [
+            format!("--title={test}"),
             format!("--failed={test}"),
             format!("--message={message}"),
             format!("--at={step}"),
