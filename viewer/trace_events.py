@@ -234,8 +234,7 @@ class EventsByReplies(Events):
 
 def kind_of(row: Object) -> Optional[tuple[object, ...]]:
     """What tells one stop of a process from another; None if it isn't stopped."""
-    is_stopped = row["state"] in ("trace_stop", "job_stop")
-    return (row["state"], row.get("stop_signal"), row.get("stop_lwp")) if is_stopped else None
+    return (row["state"], row["stop_signal"], row.get("stop_lwp")) if "stop_signal" in row else None
 
 
 def stop_text(signal: str, flags: Iterable[str]) -> str:
