@@ -1,0 +1,96 @@
+"""Two runs: which files are two traces, and the notes on steps of the second one."""
+
+from __future__ import annotations
+
+import argparse
+import json
+import re
+from collections.abc import Sequence
+from typing import NamedTuple
+
+import reading
+
+# the parts of the script of their page: each comes after those that it imports from
+PARTS = (
+    "names sorted words state facts signs dom tree failure compare_align compare_lines compare_runs compare_list "
+    "compare_states compare_page compare_main"
+).split()
+MOST_FAULTS = 50  # that the page lists
+
+
+class Note(NamedTuple):
+    """A line above a step of the second run."""
+
+    step: int
+    text: str
+
+
+def note(word: str) -> Note:
+    """A note of the command line: STEP:TEXT."""
+    found = re.fullmatch(r"([1-9][0-9]{0,15}):(.+)", word, re.DOTALL)
+    if found is None:
+        raise argparse.ArgumentTypeError(f"{word!r} isn't STEP:TEXT, with a STEP from 1")
+    return Note(int(found[1]), found[2])
+
+
+def is_trace(file: reading.Read) -> bool:
+    return bool(file.replies) and all("asked" in reply for reply in file.replies)
+
+
+class Values:
+    """Values of JSON, each once, in the order in which they come first."""
+
+    def __init__(self) -> None:
+        self.places: dict[str, int] = {}
+        self.text = json.JSONEncoder(separators=(",", ":"), sort_keys=True).encode
+
+    def place(self, value: object) -> int:
+        return self.places.setdefault(self.text(value), len(self.places))
+
+    def all(self) -> list[object]:
+        return [json.loads(text) for text in self.places]
+
+
+NUMBERS = ("user", "step", "index")
+Row = tuple[int, int, int, int, int]
+
+
+def rows_of(file: reading.Read, values: Values) -> list[Row]:
+    """The steps of a trace in the order of the scenario: the user, the step's number, and the places of its values."""
+    rows = []
+    for line in sorted(file.replies, key=lambda line: int(line["index"])):
+        said = {name: value for name, value in line.items() if name not in (*NUMBERS, "asked", "rows")}
+        changes = values.place(line["rows"]) if "rows" in line else -1
+        rows.append((line["user"], line["step"], values.place(line["asked"]), values.place(said), changes))
+    return rows
+
+
+class Runs:
+    """Files that may be two traces. One of these may be empty, as that of a run without steps is."""
+
+    def __init__(self, files: list[reading.Read]) -> None:
+        self.files = files
+        traces = [is_trace(file) for file in files]
+        self.are_two = len(files) == 2 and any(traces) and all(file.is_blank or trace for file, trace in zip(files, traces))
+        # what is wrong with them
+        self.faults: list[str] = []
+        if self.are_two:
+            self.faults = [fault for file in files if not file.is_blank for fault in file.faults]
+        elif len(files) == 2 and all(file.replies for file in files):
+            name = files[traces.index(False)].name
+            self.faults = [f"{name} isn't a trace; two runs need two traces (tracehost --json=trace)"]
+
+    def title(self) -> str:
+        return " and ".join(file.name for file in self.files)
+
+    def data(self, notes: Sequence[Note]) -> reading.Object:
+        """What their page contains."""
+        values = Values()
+        files = [{"name": file.name, "rows": rows_of(file, values)} for file in self.files]
+        more = [f"and {len(self.faults) - MOST_FAULTS} more"] if len(self.faults) > MOST_FAULTS else []
+        return {
+            "files": files,
+            "values": values.all(),
+            "faults": [*self.faults[:MOST_FAULTS], *more],
+            "notes": [note._asdict() for note in notes],
+        }

@@ -1,0 +1,58 @@
+/** The steps of two runs, as viewer/make puts them into the page: checked, in order, and each value only once. */
+
+/**
+ * A step with its reply: the user, the step's number, and the places of its parts among the values: what was asked, the
+ * rest of the reply, and the rows, -1 if there are none.
+ *
+ * @typedef {[user: number, step: number, asked: number, said: number, rows: number]} Row
+ */
+
+/** A step with its reply: an entry of the other pages. */
+export class Line {
+  /**
+   * @param {Row} row
+   * @param {any[]} values
+   * @param {number} index  its place among all lines, from 0
+   */
+  constructor([user, step, asked, said, rows], values, index) {
+    this.user = user;
+    this.step = step;
+    this.index = index;
+    this.places = { asked, said, rows };
+    this.values = values;
+  }
+
+  get hasRows() {
+    return this.places.rows >= 0;
+  }
+
+  get asked() {
+    return this.values[this.places.asked];
+  }
+
+  /** @returns {any} the line of the trace, without what was asked */
+  get reply() {
+    const { user, step, values, places: { said, rows } } = this;
+    return { user, step, ...values[said], ...(rows < 0 ? {} : { rows: values[rows] }) };
+  }
+
+  /** Whether both ask the same and have the same reply. @param {Line} other */
+  isSameAs(other) {
+    return this.places.asked === other.places.asked && this.places.said === other.places.said;
+  }
+}
+
+/**
+ * The lines of each user.
+ *
+ * @param {Line[]} lines
+ * @returns {Map<number, Line[]>}
+ */
+export function linesByUser(lines) {
+  const found = new Map();
+  for (const line of lines) {
+    if (!found.has(line.user)) found.set(line.user, []);
+    found.get(line.user).push(line);
+  }
+  return found;
+}
