@@ -23,7 +23,7 @@ from viewer_pages import Pages, browser, needs_browser, run_make, viewed
 __all__ = ["viewed"]  # a fixture
 Object = dict[str, Any]
 MOST_SECONDS_OF_40000 = 2
-SESSIONS, ROWS_OF_A_SESSION = 30, 10
+SESSIONS, ROWS_OF_A_SESSION = 12, 20
 ALARM = "document.body.dataset.executed = 1"
 EXAMPLE = json.loads((TOP / "examples/follow_a_fork.json").read_text())["steps"]
 WITHOUT_WAIT = EXAMPLE[:3] + EXAMPLE[4:]
@@ -36,7 +36,7 @@ ROWS = """[...document.querySelectorAll(".pair")].map((row) => ({ number: Number
     texts: [...row.querySelectorAll(":scope > span")].map((cell) => cell.textContent) }))"""
 # the rows of a state: kind, name, mark, facts with whether they are marked
 STATE = """((side) => [...document.querySelectorAll(`#${side} [role=treeitem]`)].map((row) => [row.classList[0],
-    row.querySelector("b").textContent, row.querySelector("i")?.textContent ?? "",
+    row.querySelector(".name").textContent, row.querySelector(".note")?.textContent ?? "",
     [...row.querySelectorAll(".fact")].map((fact) => [fact.textContent, fact.classList.contains("changed")])]))"""
 
 
@@ -285,7 +285,7 @@ CONTRASTS = """(() => {
     const [low, high] = [luminance(rgb(getComputedStyle(one).color)), luminance(ground(one))].sort((a, b) => a - b);
     return (high + 0.05) / (low + 0.05);
   };
-  const texts = [...document.querySelectorAll("header *, #heads *, .pair span, #states p, #states .fact, #states b, #states i")]
+  const texts = [...document.querySelectorAll("header *, #heads *, .pair span, #states p, #states .fact, #states .name, #states .note")]
     .filter((one) => one.textContent && one.checkVisibility() && !one.disabled);
   return [texts.length, texts.map((one) => [least(one), one.className, one.textContent]).sort((a, b) => a[0] - b[0])[0]];
 })()"""

@@ -57,7 +57,7 @@ function treeOf(rows, others) {
       if (!fact.textContent.trim()) fact.remove();
       else if (fact.classList.contains("changed")) fact.textContent = fact.textContent.trim();
     }
-    for (const label of row.querySelectorAll("i")) label.textContent = "only here";
+    for (const label of row.querySelectorAll(".note")) label.textContent = "only here";
   }
   return made;
 }
