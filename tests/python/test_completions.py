@@ -146,7 +146,7 @@ COMMANDS = {
 }  # fmt: skip
 # the words before the cursor, and what bash offers: the options of each manual page
 OFFERED_BY = [
-    ("tracehost-view -", "--at --failed --help --message --output --title --version -h -o -t"),
+    ("tracehost-view -", "--at --failed --help --message --note --output --title --version -h -o -t"),
     ("tracehost-perfetto -", "--help --output --version -h -o"),
     ("tracehost-run --s", "--schedules --seed --sleeps --strategy --strict --switches"),
     ("tracehost-run --e", ""),  # --expect is another command's
