@@ -8,6 +8,7 @@ import { askedText, plainText } from "./words.mjs";
 const LINE_HEIGHT = 20;
 const LINES_AROUND = 10;
 const MAP_WIDTH = 12;
+const LETTERS_OF_NARROW = 46; // of a note, in a line of a narrow window
 /** Signs and words of the kinds of pairs. */
 export const KINDS = {
   same: ["", "equal"], reply: ["≠", "another reply"], step: ["≠", "another step"], rows: ["≠", "another state"],
@@ -28,6 +29,7 @@ export class PairList {
     /** @type {Pair | null} */
     this.current = null;
     this.drawn = "";
+    this.isNarrow = false;
     this.element.addEventListener("scroll", () => this.refresh());
     this.box.addEventListener("click", (event) => {
       const { row } = event.target.closest(".pair") ?? {};
@@ -49,15 +51,21 @@ export class PairList {
    */
   show(rows, isNarrow) {
     this.rows = rows;
+    this.isNarrow = isNarrow;
     this.tops = [0];
     for (const row of rows) {
       const isHigh = isNarrow && row.kind !== "same" && row.left && row.right;
-      this.tops.push(this.tops.at(-1) + ((isHigh ? 2 : 1) + (row.notes?.length ?? 0)) * LINE_HEIGHT);
+      const lines = (row.notes ?? []).reduce((sum, note) => sum + this.linesOf(note), isHigh ? 2 : 1);
+      this.tops.push(this.tops.at(-1) + lines * LINE_HEIGHT);
     }
     this.box.style.height = `${this.height}px`;
     this.drawMap();
     this.drawn = "";
     this.refresh();
+  }
+
+  linesOf(note) {
+    return this.isNarrow ? Math.ceil(note.length / LETTERS_OF_NARROW) : 1;
   }
 
   placeOf(row) {
@@ -84,7 +92,11 @@ export class PairList {
 
   made(row, place) {
     const [sign, words] = KINDS[row.kind];
-    const notes = (row.notes ?? []).map((textContent) => tag("span", { className: "note", textContent }));
+    const notes = (row.notes ?? []).map((text) => {
+      const note = tag("span", { className: "note", textContent: text, title: text });
+      note.style.gridRow = `span ${this.linesOf(text)}`;
+      return note;
+    });
     const made = tag("div", { className: `pair ${row.kind}${row.isFirst ? " first" : ""}` }, ...notes,
       ...this.side(row.left, "on-left"), tag("span", { className: "sign", textContent: sign, title: words }),
       ...this.side(row.right, "on-right"));
@@ -92,6 +104,7 @@ export class PairList {
     made.style.top = `${this.tops[place]}px`;
     made.style.height = `${this.tops[place + 1] - this.tops[place]}px`;
     made.style.setProperty("--user", colourOf(row.user));
+    made.style.setProperty("--notes", String((row.notes ?? []).reduce((sum, note) => sum + this.linesOf(note), 0)));
     for (const [name, value] of [["role", "option"], ["aria-posinset", place + 1], ["data-row", row.number],
       ["aria-setsize", this.rows.length]]) made.setAttribute(name, value);
     return made;
