@@ -160,8 +160,40 @@ class Command:
         lines = [f"  {line}" for line in report.places([*outcome.places, *outcome.blamed])]
         return lines[: len(outcome.places)], lines[len(outcome.places) :]
 
+    def _compare(self, path: str, outcome: Outcome) -> None:
+        """--compare: the plain schedule beside this run, and its switches. A page of an older run doesn't stay."""
+        if os.path.exists(path):
+            os.unlink(path)
+        if not outcome.result.switches:
+            say(f"--compare: {path} isn't written: this run is the plain schedule")
+            return
+        broker = Broker(self.setting)
+        try:
+            plain = broker.run(Task())
+        finally:
+            broker.close()
+        lines, blamed = self.lines(outcome)
+        why, switches = outcome.result.why, f"--switches {outcome.result.schedule}"
+        name = os.path.basename(self.setting.command[0])
+        words = [f"--title={name}: the plain schedule and {switches}"]
+        words += [f"--note={place.step}:switch: {line.strip()}" for place, line in zip(outcome.places, lines)]
+        if why is not None:
+            words += [f"--failed={name} {switches}", "--message=" + "\n".join([why, *blamed])]
+        runs = {f"the plain schedule ({'passed' if plain.result.why is None else 'failed'})": plain, switches[:200]: outcome}
+        scenarios = {name: record.scenario(run.kept, self.setting.kill_on_debugger_exit) for name, run in runs.items()}
+        try:
+            trouble = report.page_of_two(self.setting.model, path, scenarios, words)
+        except OSError as failed:
+            raise OSError(f"--compare: {path}: {failed.strerror}") from failed
+        if trouble == report.NO_VIEWER:
+            say(f"{path} isn't written: {trouble}")
+        elif trouble is not None:
+            raise OSError(f"--compare: {path}: {trouble}")
+
     def record(self, outcome: Outcome) -> None:
-        """--record."""
+        """--record and --compare."""
+        if self.given.compare is not None:
+            self._compare(self.given.compare, outcome)
         path = self.given.record
         if path is None:
             return
@@ -262,8 +294,9 @@ def _command(words: Sequence[str] | None) -> int:
         replayed(given, made)
     if given.program is None:
         made.error("no PROGRAM is given; --help lists the options")
-    if given.record is not None:
-        recordable(given.record, made)
+    for name in ("record", "compare"):
+        if getattr(given, name) is not None:
+            recordable(getattr(given, name), made, name)
     model = model_of(given, made)
     soft, hard = resource.getrlimit(resource.RLIMIT_NOFILE)
     try:

@@ -130,6 +130,7 @@ def parser() -> Parser:
     add("--workers", metavar="URL", help="runs them on the workers of a scheduler of Dask distributed: tcp://.. or tls://..")
     add("--json", action="store_true", help="prints what a search comes to as a JSON object")
     add("--record", metavar="FILE", help="the run, or the one that fails: FILE (scenario), FILE.lines, FILE.schedule, FILE.html")
+    add("--compare", metavar="PAGE", help="a page of the plain schedule beside the run, or the one that fails")
     add("--gdb", action="store_true", help="starts gdb on the process that fails, before it ends")
     add("--with", dest="tool", metavar="COMMAND", help="starts COMMAND with that process's number")
     add(
@@ -155,7 +156,7 @@ def parser() -> Parser:
     add(
         "--model",
         metavar="PROGRAM",
-        help="the program tracehost, for --verify and --record; else $TRACEHOST, else tracehost on the path",
+        help="the program tracehost, for --verify, --record and --compare; else $TRACEHOST, else tracehost on the path",
     )
     add("--version", action=_Print, text=lambda: f"tracehost-run {VERSION}\n", help="prints the version")
     add("program", nargs="?", metavar="PROGRAM")
@@ -250,8 +251,8 @@ def replayed(given: argparse.Namespace, made: Parser) -> None:
         given.program, *given.arguments = schedule["program"]
 
 
-def recordable(path: str, made: Parser) -> None:
-    """A record that can't be written is refused before anything runs."""
+def recordable(path: str, made: Parser, option: str) -> None:
+    """A file of --record or --compare that can't be written is refused before anything runs."""
     import tempfile
 
     try:
@@ -260,6 +261,6 @@ def recordable(path: str, made: Parser) -> None:
         if os.path.exists(path):
             os.close(os.open(path, os.O_WRONLY | os.O_NONBLOCK))
     except OSError as why:
-        made.error(f"--record: {path}: {why.strerror}")
+        made.error(f"--{option}: {path}: {why.strerror}")
     if os.path.exists(path) and not os.path.isfile(path):
-        made.error(f"--record: {path}: it isn't a file")
+        made.error(f"--{option}: {path}: it isn't a file")

@@ -123,6 +123,28 @@ def page(model: str, path: str, title: str) -> str | None:
     return None if done.returncode == 0 else done.stderr.decode("utf-8", "replace").strip() or f"status {done.returncode}"
 
 
+def page_of_two(model: str, path: str, scenarios: Mapping[str, str], words: list[str]) -> str | None:
+    """The viewer's page of two runs, by their names, with its further options; a text if it can't be made."""
+    import re
+    import subprocess
+    import tempfile
+
+    viewer = _viewer()
+    if viewer is None:
+        return NO_VIEWER
+    with tempfile.TemporaryDirectory(prefix="tracehost-") as folder:
+        files = []
+        for name, scenario in scenarios.items():
+            done = subprocess.run([model, "--json=trace+rows"], input=scenario, capture_output=True, text=True)
+            if done.returncode != 0:
+                return done.stderr.strip() or f"{model}: status {done.returncode}"
+            files.append(os.path.join(folder, name))
+            with open(files[-1], "w") as file:
+                file.write(re.sub(r'"call":"other","(?:code|argument)":(\d+)', _named_call, done.stdout))
+        made = subprocess.run([*viewer, f"--output={path}", *words, "--", *files], stderr=subprocess.PIPE, text=True)
+    return None if made.returncode == 0 else made.stderr.strip() or f"status {made.returncode}"
+
+
 def beside(name: str) -> str | None:
     """A command of this name beside this one, if both are installed."""
     return which(name, [os.path.dirname(os.path.abspath(sys.argv[0]))])
