@@ -22,7 +22,7 @@ USERS = range(1001, 1005)
 NO_STEPS = {
     mistake.name: mistake.input.removesuffix(b"\n").decode("utf-8", "surrogateescape")
     for mistake in read_mistakes()
-    if mistake.words == ["--lines"] and mistake.answer.startswith("refused") and mistake.input.count(b"\n") == 1
+    if mistake.words == ["--lines"] and mistake.answer.startswith("refused") and mistake.input.find(b"\n") == len(mistake.input) - 1
 }
 
 

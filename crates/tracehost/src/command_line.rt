@@ -126,6 +126,7 @@ fn with_scenario_options<'a>(
         .action(ArgAction::Set)
         .conflicts_with("FILE")?
         .conflicts_with("expect")?
+        .conflicts_with("bless")?
         .help(
             "Run the scenario of each line of this file, and compare its lines with the file after the tab",
         );

@@ -159,28 +159,31 @@ fn bless<R: Files + AllocGlobal>(
     text: &[u8],
     explains: bool,
 ) -> Result<(), CommandError> {
-    match replace(rt, path, text) {
+    let beside = format!(in rt.alloc(); "{path}.new")?;
+    match replace(rt, path, beside.as_str(), text) {
         Ok(()) => Ok(()),
+        Err(error) if explains && error.kind() == io::ErrorKind::AlreadyExists => {
+            Err(unwritten(rt.alloc(), beside.as_str(), &error))
+        }
         Err(error) if explains => Err(unwritten(rt.alloc(), path, &error)),
         Err(_) => Err(CommandError::Run(RunFault::Write)),
     }
 }
 
 /// Writes a file beside the one with this path, and gives it the path. What isn't a file is written to as it is.
-fn replace<R: Files + AllocGlobal>(rt: &R, path: &str, text: &[u8]) -> io::Result<()> {
+fn replace<R: Files>(rt: &R, path: &str, beside: &str, text: &[u8]) -> io::Result<()> {
     match fs::symlink_metadata(rt, path) {
         Ok(found) if !found.is_file() => return fs::write(rt, path, text),
         Ok(_) => {}
         Err(error) if error.kind() == io::ErrorKind::NotFound => {}
         Err(error) => return Err(error),
     }
-    let beside = format!(in rt.alloc(); "{path}.new")?;
-    let mut file = fs::File::create_new(rt, beside.as_str())?;
+    let mut file = fs::File::create_new(rt, beside)?;
     let written = file
         .write_all(text)
-        .and_then(|()| fs::rename(rt, beside.as_str(), path));
+        .and_then(|()| fs::rename(rt, beside, path));
     if written.is_err() {
-        let _ = fs::remove_file(rt, beside.as_str());
+        let _ = fs::remove_file(rt, beside);
     }
     written
 }
