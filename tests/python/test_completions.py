@@ -105,7 +105,7 @@ OFFERED: list[tuple[list[str], str]] = [
     (["--json=t"], "--json=trace --json=trace+rows"),
     (["--explain", "schema/sc"], "schema/scenario.schema.json"),
     (["--lines", "--"], "--lines --kill-on-debugger-exit --json --explain --help --version"),
-    (["--user", "1001", "--"], "--user --threads --expect --json --explain --help --version"),
+    (["--user", "1001", "--"], "--user --threads --expect --bless --expect-list --json --explain --help --version"),
 ]
 
 
