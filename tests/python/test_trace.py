@@ -152,7 +152,7 @@ def test_an_expected_trace(program: Path, tmp_path: Path) -> None:
     file.write_text(run(program, "--json=trace", given=data).out)
     assert run(program, "--json=trace", "--expect", file, given=data) == Ended(0, "", "")
     ran = run(program, "--json", "--expect", file, given=data)
-    assert (ran.status, ran.out) == (4, "")
+    assert ran.status == 4 and ran.out.startswith(f"--- {file}\texpected\n")
     assert f"{file}:1: expected " in ran.err
 
 

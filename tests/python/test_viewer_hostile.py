@@ -81,7 +81,7 @@ class Page(unittest.TestCase):
     @classmethod
     def odd_rows(cls) -> list[str]:
         """Rows of the right form that no host has: without their processes, in circles, gone before they came."""
-        runs_now = {"parent": 1, "state": "runs"}
+        runs_now: dict[str, object] = {"parent": 1, "state": "runs"}
         odd: list[object] = [
             {"removed_processes": [7], "removed_lwps": [8]},
             {"lwps": [{"lwp": 100000, "pid": 77, "mode": "waits_for_vfork", "vfork_child": 99}]},

@@ -126,7 +126,7 @@ class Recordings(unittest.TestCase):
         self.assertEqual(page, self.room / "session.html")
         text = page.read_text()
         self.assertIn("An attach", text)
-        self.assertIn(r"\"reply\":\"ok\",\"rows\":{", text)
+        self.assertIn('"reply":"ok","rows":{', text)
         self.assertIn("PT_ATTACH", text)
         self.assertEqual(view(self.scenario, self.room / "other.html"), self.room / "other.html")
         self.assertTrue((self.room / "other.html").exists())

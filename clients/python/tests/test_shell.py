@@ -139,7 +139,7 @@ class Sessions(unittest.TestCase):
         )
         self.assertEqual([step["user"] for step in json.loads(scenario.read_text())["steps"]], [1001, 1002, 1001])
         self.assertIn(page.as_uri(), text)
-        self.assertIn(r"\"pid\":2000,\"lwp\":104000", page.read_text())
+        self.assertIn('"pid":2000,"lwp":104000', page.read_text())
         self.assertIn('   2 {"user":1002,"op":"spawn"}\n     1002 1 new 2000 104000\n', text)
         self.assertIn("/nowhere/s: No such file or directory", text)
 
