@@ -60,6 +60,7 @@ def records(library: Path, program: Path, tmp_path_factory: pytest.TempPathFacto
     """The scenario that the failing test has left, for each way to write it."""
     room = tmp_path_factory.mktemp("alike")
     (room / "python").mkdir()
+    (room / "left").mkdir()
     left = {"python": by_pytest(room / "python", program)}
     made = {
         "c": (in_c(room, library, program, "in process"), "fails"),
@@ -71,9 +72,9 @@ def records(library: Path, program: Path, tmp_path_factory: pytest.TempPathFacto
     }
     for name, (failing, case) in made.items():
         failing.environment = {"TRACEHOST": str(program), "TRACEHOST_VIEW": str(TOP / "viewer/make")}
-        ran = failing(case, room / name)
+        ran = failing(case, room / "left" / name)
         assert ran.status not in (0, 2), (name, ran)
-        left[name] = room / name / f"{case}.json"
+        left[name] = room / "left" / name / f"{case}.json"
     return left
 
 

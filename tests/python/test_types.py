@@ -23,7 +23,17 @@ PARTS: dict[str, tuple[list[str], list[str]]] = {
     "C programs on the model": (["clients/posix/*", "clients/posix/**/*.py"], ["clients/posix", "clients/python"]),
     "the tests": (
         ["test", "conftest.py", "tests/python/*.py"],
-        [".", "tests/python", "clients/python", "clients/python/tests", "clients/posix", "bench", "viewer", "tools"],
+        [
+            ".",
+            "tests/python",
+            "clients/python",
+            "clients/python/tests",
+            "clients/c/tests",
+            "clients/posix",
+            "bench",
+            "viewer",
+            "tools",
+        ],
     ),
 }
 

@@ -85,10 +85,10 @@ class Page(unittest.TestCase):
         odd: list[object] = [
             {"removed_processes": [7], "removed_lwps": [8]},
             {"lwps": [{"lwp": 100000, "pid": 77, "mode": "waits_for_vfork", "vfork_child": 99}]},
-            {"processes": [{"pid": 1000, "tracer": 1001, **runs_now}, {"pid": 1001, "tracer": 1000, **runs_now}]},
+            {"processes": [dict(runs_now, pid=1000, tracer=1001), dict(runs_now, pid=1001, tracer=1000)]},
             {"processes": [{"pid": 1000, "parent": 1000, "state": "trace_stop", "stop_signal": "SIGHUP", "stop_lwp": 5}]},
             {"processes": [{"pid": 1000, "parent": 1001, "state": "zombie", "status": 4294967295}]},
-            {"processes": [{"pid": 1000, **runs_now}], "removed_lwps": [100000], "removed_processes": [1000]},
+            {"processes": [dict(runs_now, pid=1000)], "removed_lwps": [100000], "removed_processes": [1000]},
         ]
         return [cls.row_line(step, rows) for step, rows in enumerate(odd, 1)]
 
