@@ -1,5 +1,5 @@
 /*
- * Sessions next to each other: two whose calls alternate answer as each does by itself.
+ * Sessions next to each other: two sessions with calls in turn give the answers that each gives without the other.
  *
  *     sessions [RUNS [SEED]]
  */

@@ -1,5 +1,5 @@
 /*
- * Sessions in threads: each answers as it does by itself. A session is opened in one thread, used in another, and closed in the
+ * Sessions in threads: each gives the answers that it gives in one thread. A session is opened in one thread, used in another, and closed in the
  * first.
  *
  *     threads [CALLS]
