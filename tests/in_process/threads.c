@@ -1,6 +1,6 @@
 /*
- * Sessions in threads: each gives the answers that it gives in one thread. A session is opened in one thread, used in another, and closed in the
- * first.
+ * Sessions in threads: each gives the answers that it gives in one thread. A session is opened in one thread, used in
+ * another, and closed in the first.
  *
  *     threads [CALLS]
  */
