@@ -7,6 +7,8 @@ import dataclasses
 import json
 import pathlib
 import tomllib
+from collections.abc import Iterator
+from typing import NamedTuple
 
 from .tables import Format, wrapped
 
@@ -217,13 +219,31 @@ def c_holds(refusals: Refusals) -> str:
 # ---- C++ and Rust
 
 
+class Tests(NamedTuple):
+    """A condition's two tests as bodies of closures, and the names of their parameters."""
+
+    condition: Condition
+    possible: str
+    holds: str
+    asked: str
+    argument: str
+    rows: str
+
+
+def tests_in(language: Language, refusals: Refusals, unused: str) -> Iterator[Tests]:
+    for condition in refusals.conditions:
+        possible, holds = (
+            language.expression(test or "True", refusals).replace("True", "true") for test in (condition.possible, condition.holds)
+        )
+        asked, argument, rows = (
+            name if f"{name}." in body else unused for name, body in (("a", possible), ("a", holds), ("r", holds))
+        )
+        yield Tests(condition, possible, holds, asked, argument, rows)
+
+
 def cpp_tables(refusals: Refusals) -> str:
     conditions = ""
-    for condition in refusals.conditions:
-        possible = CPP.expression(condition.possible or "True", refusals).replace("True", "true")
-        holds = CPP.expression(condition.holds or "True", refusals).replace("True", "true")
-        asked = "a" if "a." in possible else ""
-        argument, rows = "a" if "a." in holds else "", "r" if "r." in holds else ""
+    for condition, possible, holds, asked, argument, rows in tests_in(CPP, refusals, ""):
         conditions += (
             f'    static const condition {condition.name} = {{"{condition.answer}", "{condition.words}",\n'
             f"        [](const asked &{asked}) {{ return {possible}; }},\n"
@@ -260,11 +280,7 @@ def rust_sets(refusals: Refusals) -> str:
 
 def rust_tables(refusals: Refusals) -> str:
     conditions = ""
-    for condition in refusals.conditions:
-        possible = RUST.expression(condition.possible or "True", refusals).replace("True", "true")
-        holds = RUST.expression(condition.holds or "True", refusals).replace("True", "true")
-        asked = "a" if "a." in possible else "_"
-        argument, rows = "a" if "a." in holds else "_", "r" if "r." in holds else "_"
+    for condition, possible, holds, asked, argument, rows in tests_in(RUST, refusals, "_"):
         conditions += (
             f"static {condition.name.upper()}: Condition = Condition {{\n"
             f'    answer: "{condition.answer}", words: "{condition.words}",\n'

@@ -185,10 +185,7 @@ class Command:
             trouble = report.page_of_two(self.setting.model, path, scenarios, words)
         except OSError as failed:
             raise OSError(f"--compare: {path}: {failed.strerror}") from failed
-        if trouble == report.NO_VIEWER:
-            say(f"{path} isn't written: {trouble}")
-        elif trouble is not None:
-            raise OSError(f"--compare: {path}: {trouble}")
+        _tell("--compare", path, trouble)
 
     def record(self, outcome: Outcome) -> None:
         """--record and --compare."""
@@ -213,10 +210,7 @@ class Command:
             trouble = report.page(setting.model, path, title)
         except OSError as failed:
             raise OSError(f"--record: {path}: {failed.strerror}") from failed
-        if trouble == report.NO_VIEWER:
-            say(f"{path}.html isn't written: {trouble}")
-        elif trouble is not None:
-            raise OSError(f"--record: {path}.html: {trouble}")
+        _tell("--record", f"{path}.html", trouble)
 
     def end(self, why: str | None, sums: Sums) -> int:
         """What is said of these runs at the end, and the status."""
@@ -238,6 +232,14 @@ class Command:
         used = times.user + times.system + times.children_user + times.children_system
         runs = f"{sums.runs} runs, {sums.questions} questions, {sums.steps} steps in {took:.2f} s"
         return f"{runs}: {used / max(1, sums.runs) * 1e3:.2f} ms of processor time a run, {sums.runs / took:.0f} runs a second"
+
+
+def _tell(option: str, page: str, trouble: str | None) -> None:
+    """What kept a page from being made: a line without the viewer, and otherwise OSError."""
+    if trouble == report.NO_VIEWER:
+        say(f"{page} isn't written: {trouble}")
+    elif trouble is not None:
+        raise OSError(f"{option}: {page}: {trouble}")
 
 
 def _added(sums: Sums) -> Iterator[str]:
