@@ -1,5 +1,5 @@
 //! What a step changed of its user's rows, as a JSON object.
-use crate::rows::Row;
+use crate::rows::{Row, push_rows};
 use json::Writer;
 use std::alloc::{AllocError, Global};
 use visibility::View;
@@ -39,19 +39,6 @@ fn changes_of<R: Row>(alloc: Global, before: &[R], after: &[R]) -> Result<Change
     Ok(Changes { changed, removed })
 }
 
-/// Writes rows that changed, if there are any.
-fn push_changed<R: Row>(out: &mut Writer, name: &str, rows: &[R]) -> Result<(), AllocError> {
-    if rows.is_empty() {
-        return Ok(());
-    }
-    out.key(name)?;
-    out.begin_array()?;
-    for row in rows {
-        row.push(out)?;
-    }
-    out.end_array()
-}
-
 /// Writes the numbers of rows that are gone, if there are any.
 fn push_removed(out: &mut Writer, name: &str, numbers: &[u32]) -> Result<(), AllocError> {
     if numbers.is_empty() {
@@ -83,16 +70,9 @@ pub(crate) fn push_changes(
     let processes = changes_of(alloc, processes, after.processes.as_slice())?;
     let lwps = changes_of(alloc, lwps, after.lwps.as_slice())?;
     out.begin_object()?;
-    push_changed(out, "processes", processes.changed.as_slice())?;
-    push_changed(out, "lwps", lwps.changed.as_slice())?;
+    push_rows(out, "processes", processes.changed.as_slice())?;
+    push_rows(out, "lwps", lwps.changed.as_slice())?;
     push_removed(out, "removed_processes", processes.removed.as_slice())?;
     push_removed(out, "removed_lwps", lwps.removed.as_slice())?;
     out.end_object()
-}
-
-/// Returns all rows of a view, as the text of an object with the members of `rows`. An error means out of memory.
-pub fn rows_text(alloc: Global, view: &View) -> Result<Vec<u8>, AllocError> {
-    let mut out = Writer::new(Vec::new(alloc));
-    push_changes(alloc, &mut out, None, view)?;
-    Ok(out.into_inner())
 }

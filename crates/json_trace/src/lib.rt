@@ -5,7 +5,8 @@
 //! `TraceWriter` is a writer around another one: `scenario_runs` writes a reply's line into it, and it puts the step's members
 //! in front. So the run itself doesn't know of traces.
 //!
-//! No clause speaks of the members. The tests named schema and trace compare them with the schema and the scenario.
+//! The main clause is that of `rows_text`: the text is that of the definition (specs/Rows). No clause speaks of the members
+//! of a run's lines. The tests named schema and trace compare these with the schema and the scenario.
 //!
 //! Begin with `writing`, then with `states`.
 #![tactic(auto)]
@@ -16,7 +17,7 @@ mod rows;
 mod states;
 mod writing;
 
-pub use changes::rows_text;
 pub use places::ScenarioSteps;
-pub use states::write_states;
+pub use rows::rows_text;
+pub use states::{write_fault, write_states};
 pub use writing::TraceWriter;

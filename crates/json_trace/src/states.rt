@@ -29,8 +29,8 @@ fn plain_step(step: &BareStep, policies: &mut slice::Iter<'_, Policy>) -> Option
     }
 }
 
-/// The fault of a writer that failed, or that found no memory.
-fn fault_of(error: &io::Error) -> RunFault {
+/// Returns the fault of a writer that failed, or that found no memory.
+pub fn write_fault(error: &io::Error) -> RunFault {
     if error.kind() == io::ErrorKind::OutOfMemory {
         RunFault::Memory
     } else {
@@ -102,7 +102,7 @@ pub fn write_states<W: Write + Drop>(
     let mut policies = scenario.policies().iter();
     let mut trace = match TraceWriter::new(alloc, scenario, out) {
         Ok(trace) => trace,
-        Err(error) => return Err(fault_of(&error)),
+        Err(error) => return Err(write_fault(&error)),
     };
     for (asking, step) in scenario.bare_steps() {
         let Some(step) = plain_step(step, &mut policies) else {
@@ -112,12 +112,12 @@ pub fn write_states<W: Write + Drop>(
         if user.is_none() || user == Some(*asking) {
             let line = states.line_of(alloc, *asking)?;
             if let Err(error) = trace.write_all(line.as_slice()) {
-                return Err(fault_of(&error));
+                return Err(write_fault(&error));
             }
         }
     }
     match trace.flush() {
         Ok(()) => Ok(()),
-        Err(error) => Err(fault_of(&error)),
+        Err(error) => Err(write_fault(&error)),
     }
 }

@@ -28,7 +28,7 @@ pub use lib.Bits.{bit_or}
 pub use lib.Count.{count_trailing_zeros}
 pub use lib.Lanes.{chunk, mask_l, top, zip2}
 pub use mir.Val.{SFits}
-pub use Rattle.json_values.specs.Lexing.{Ends, HasNoEscape, IsNumberAt, IsWholeAt, LiteralOf, NotBeforeComma, may_begin, may_close, piece, refused_at, tokens_at}
-pub use Rattle.json_values.specs.declared.plain.Place.TheVariants.{AfterComma, AfterValue, Failed, Fresh}
+pub use Rattle.json_values.specs.Lexing.{Ends, IsNumberAt, IsWholeAt, LiteralOf, NotBeforeComma, may_begin, may_close, piece, refused_at, tokens_at}
+pub use Rattle.json_values.specs.declared.punctuation.Place.TheVariants.{AfterComma, AfterValue, Failed, Fresh}
 pub use Rattle.json_values.specs.{Reading.IsScalar, Reading.Opens, Reading.Says, Reading.members_among, Reading.read_items, Reading.read_members, Reading.rest, declared.scalars.Opening.Opening}
-pub use Rattle.json_values.specs.{declared.plain.Place.Place, declared.scalars.Scalar.Scalar}
+pub use Rattle.json_values.specs.{declared.punctuation.Place.Place, declared.scalars.Scalar.Scalar}

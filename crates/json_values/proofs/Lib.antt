@@ -1,8 +1,10 @@
 pub mod CommonNames
+pub mod Contents
 pub mod FirstTokens
 pub mod Keys
 pub mod Loops
 pub mod NumberTexts
 pub mod Places
 pub mod Runs
+pub mod StringEnds
 pub mod Texts

@@ -3,7 +3,7 @@ use Rattle.json_values.proofs.CommonNames.{nat_tests, pos, neg_ℤ, negsuc, zero
 use Rattle.json_values.proofs.CommonNames.{◌++◌, length, take, drop, get_or, Some, None, refl, sym, ap, ap₂, ◌∙◌, arith, suc, add-zero, lt_of_not-le, rules, drop_more, drop_all, drop-drop}
 use Rattle.json_values.proofs.CommonNames.{get_or-drop, get_or-take, get_or_past, take-append-drop, true≢false, false≢true, and_parts, or_parts, not-true, eqb-true, ne_eqb, lt-leb, none-some}
 use Rattle.json_values.proofs.CommonNames.{prefix_len, starts_with, AllDigits, plain, prepend, Token, number, bad, head, ends_word, token, operator, class, between, in_string, is_blank, is_plain}
-use Rattle.json_values.proofs.CommonNames.{as_i64, number_of, HasNoEscape, IsNumberAt, IsWholeAt, LiteralOf, piece, leb, decimal-digits_value, numerals_by_value, tells_digits, IsNumber-decimal}
+use Rattle.json_values.proofs.CommonNames.{as_i64, number_of, IsNumberAt, IsWholeAt, LiteralOf, piece, leb, decimal-digits_value, numerals_by_value, tells_digits, IsNumber-decimal}
 use Rattle.json_values.proofs.CommonNames.{IsNumber-signed_decimal, content, after_number, word, lex, lex-number, in_word-ended, number_alone, length-drop}
 use Rattle.json.specs.{Token.boolean, Token.null, Print.IsNumber}
 use Rattle.json_values.proofs.NumberTexts.{integer_of-digits, integer_of-negative}
@@ -39,7 +39,7 @@ run_byte : (p : Bool) (x n : ℕ) (xs : List ℕ) → p ≡ is_plain x → lex i
 unfolding lex
 run_byte p x n xs e ih = grind (arith, nat_tests, or_parts, not-true)
 
-plain_run : (xs : List ℕ) → lex in_string xs ≡ lex in_string (drop (prefix_len is_plain xs) xs)
+pub plain_run : (xs : List ℕ) → lex in_string xs ≡ lex in_string (drop (prefix_len is_plain xs) xs)
 plain_run [] = refl
 plain_run (x ∷ xs) = run_byte (is_plain x) x (prefix_len is_plain xs) xs refl (plain_run xs)
 
@@ -52,7 +52,7 @@ content_byte : (p : Bool) (x n : ℕ) (xs : List ℕ) → p ≡ is_plain x → c
     → content plain (x ∷ xs) ≡ prepend (take (cond p (1 + n) 0) (x ∷ xs)) (content plain (drop (cond p (1 + n) 0) (x ∷ xs)))
 content_byte p x n xs e ih = grind (arith, nat_tests, plain_content)
 
-content_run : (xs : List ℕ) → content plain xs ≡ prepend (take (prefix_len is_plain xs) xs) (content plain (drop (prefix_len is_plain xs) xs))
+pub content_run : (xs : List ℕ) → content plain xs ≡ prepend (take (prefix_len is_plain xs) xs) (content plain (drop (prefix_len is_plain xs) xs))
 content_run [] = grind (arith, nat_tests)
 content_run (x ∷ xs) = content_byte (is_plain x) x (prefix_len is_plain xs) xs refl (content_run xs)
 
@@ -65,7 +65,7 @@ control : (x : ℕ) (xs : List ℕ) → is_plain x ≡ false → (x == 34) ≡ f
 unfolding content
 control x xs e q b = grind (arith, nat_tests, true≢false)
 
-stops : (xs : List ℕ) → prefix_len is_plain xs < length xs → is_plain (get_or xs (prefix_len is_plain xs) 32) ≡ false
+pub stops : (xs : List ℕ) → prefix_len is_plain xs < length xs → is_plain (get_or xs (prefix_len is_plain xs) 32) ≡ false
 stops [] h = absurd (omega arith)
 stops (x ∷ xs) h = grind (arith, nat_tests, stops xs)
 
@@ -81,8 +81,8 @@ module _ (d : List ℕ) (i stop : ℕ) (first : get_or d i 32 ≡ 34) (is : stop
   unfolding content
   string_content last = search (rules, within_at, up_to_stop, split_at)
 
-  pub no_content : HasNoEscape d → (get_or d stop 32 ≡ 34 → ⊥) → content plain (drop 1 (drop i d)) ≡ None
-  no_content plainly no_quote = grind (arith, nat_tests, up_to_stop, drop_all, nothing, get_or-drop, stops, length-drop, split_at, control, ne_eqb)
+  pub no_content : (get_or d stop 32 ≡ 34 → ⊥) → (get_or d stop 32 ≡ 92 → ⊥) → content plain (drop 1 (drop i d)) ≡ None
+  no_content no_quote no_escape = grind (arith, nat_tests, up_to_stop, drop_all, nothing, get_or-drop, stops, length-drop, split_at, control, ne_eqb)
 
 -- ---- literals and numbers
 

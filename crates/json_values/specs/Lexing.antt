@@ -1,14 +1,18 @@
 -- Lexemes at a place of a text, and the tokens that a reader of a text has before it.
-use Rattle.std.specs.Prelude.{◌≡◌, ◌≢◌, ℕ, ◌+◌, ◌-◌, ◌^◌, ◌<◌, ◌≤◌, Bool, true, false, List, [], ◌∷◌, ◌++◌, length, take, drop, get_or, IsUtf8, ⊤}
+use Rattle.std.specs.Prelude.{◌≡◌, ◌≢◌, ℕ, ◌+◌, ◌-◌, ◌^◌, ◌<◌, ◌≤◌, Bool, true, false, List, [], ◌∷◌, ◌++◌, length, take, drop, get_or, IsUtf8, ⊤, Option, IfSome}
 use Rattle.std.specs.Str.Parse.{AllDigits, digits_value}
-use Rattle.json.specs.{Token.Token, Token.bad, Word.head, Word.ends_word, Lex.token, Lex.class, Lex.between, Lex.lex, Lex.fresh, Lex.after_value, Lex.after_comma, Lex.punctuate, Align.is_blank}
+use Rattle.json.specs.{Token.Token, Token.bad, Word.head, Word.ends_word, Lex.Lexeme, Lex.token, Lex.class, Lex.between, Lex.in_string, Lex.lex, Lex.fresh, Lex.after_value, Lex.after_comma, Lex.punctuate, Align.is_blank}
 use Rattle.json.specs.Print.{IsNumber}
-use Rattle.json_values.specs.{declared.lexer.Lexer.TheInside.Inside, declared.plain.Place.Place}
-use Rattle.json_values.specs.declared.plain.Place.TheVariants.{Fresh, AfterValue, AfterComma, Failed}
+use Rattle.json_values.specs.{declared.lexer.Lexer.TheInside.Inside, declared.punctuation.Place.Place}
+use Rattle.json_values.specs.declared.punctuation.Place.TheVariants.{Fresh, AfterValue, AfterComma, Failed}
 
--- a text with no backslash
-abbrev pub HasNoEscape : List ℕ → Type 0
-HasNoEscape text = (i : ℕ) → get_or text i 32 ≢ 92
+-- so many bytes are room for the text, if it has a backslash
+abbrev pub HasRoom : List ℕ → ℕ → Type 0
+HasRoom text room = (i : ℕ) → get_or text i 32 ≡ 92 → length text ≤ room
+
+-- the lexemes `ls` are those from the place r.1 on, within the string that is open there
+abbrev pub PassesTo : Option (ℕ × ℕ) → List Lexeme → List ℕ → Type 0
+PassesTo r ls text = IfSome r (λ p. ls ≡ lex in_string (drop p.1 text))
 
 -- the text begins with a lexeme, or is empty
 abbrev pub Ends : List ℕ → Type 0
@@ -48,7 +52,7 @@ LiteralOf name t = (rest : List ℕ) → ends_word rest ≡ true → lex between
 -- the lexer is at a lexeme, or at the end
 pub record IsLexer (a : Inside) : Type 0 where
   pub utf8 : IsUtf8 a.text.now
-  pub no_escape : HasNoEscape a.text.now
+  pub room : HasRoom a.text.now (length a.scratch.now + a.at)
   pub within : a.at ≤ length a.text.now
   pub solid : Ends (drop a.at a.text.now)
 

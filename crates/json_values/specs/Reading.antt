@@ -4,16 +4,10 @@ use Rattle.std.specs.{List.list_any, Str.bytes_eq}
 use Rattle.json.specs.Token.{Token}
 use Rattle.serde_json.specs.{Data.Num, Data.Data, Data.number, Data.Items, Data.Members, Data.no_members, Data.member, Find.as_i64, Find.as_number, Find.as_str, Find.as_array, Find.as_object}
 use Rattle.serde_json.specs.Read.{of_json, of_items, of_members, converted}
-use Rattle.json_values.specs.{declared.scalars.Opening.Opening, declared.scalars.Scalar.Scalar, declared.tokens.Source.TheVariants.Plain, declared.tokens.Source.TheVariants.Escaped}
-use Rattle.json_values.specs.declared.tokens.Source.{Source}
+use Rattle.json_values.specs.{declared.scalars.Opening.Opening, declared.scalars.Scalar.Scalar}
 use Rattle.json.specs.Json as json
 use Rattle.json_values.specs.declared.scalars.Scalar.TheVariants as scalar
 use Rattle.json_values.specs.declared.scalars.Opening.TheVariants as opening
-
--- what a reader of a JSON text has before it
-abbrev pub tokens_of : Source → List Token
-tokens_of (Plain reader) = reader
-tokens_of (Escaped reader) = reader
 
 abbrev pub members_among : List (List ℕ) → Members → Bool
 members_among keys no_members = true

@@ -42,7 +42,7 @@ pub(crate) fn spaces_end(bytes: &[u8], from: usize) -> usize
     requires { from ≤ length bytes.now }
     ensures same { lex between (drop result bytes.now) ≡ lex between (drop from bytes.now) }
     ensures ends { is_blank (class (head (drop result bytes.now))) ≡ true → drop result bytes.now ≡ [] }
-    ensures bound { result ≤ length bytes.now }
+    ensures bounds { (from ≤ result) × (result ≤ length bytes.now) }
 {
     let mut at = from;
     while at < bytes.len() && is_space(bytes[at]) {

@@ -1,5 +1,5 @@
-//! The lexemes of a text without escapes, each read in its place.
-ghost use Rattle.std.specs.Prelude.{◌≡◌, ◌≤◌, ◌∷◌, ℕ, List, [], length, drop, true, Some, None, IfSome, MatchOption, option_and_then};
+//! The lexemes of a text, each read in its place.
+ghost use Rattle.std.specs.Prelude.{◌≡◌, ◌≤◌, ◌∷◌, ℕ, List, [], length, drop, true, Some, None, IfSome, MatchOption, option_and_then, get_or};
 ghost use Rattle.json.specs.Align.{is_blank, is_good};
 ghost use Rattle.json.specs.Lex.{token, operator, other, class, between, lex};
 ghost use Rattle.json.specs.Reads.{token_of};
@@ -8,18 +8,21 @@ ghost use Rattle.json.specs.Token.{number};
 ghost use Rattle.json.specs.Word.{after_number, head, literal, number_before, word};
 ghost use Rattle.serde_json.specs.Find.{as_i64};
 ghost use Rattle.serde_json.specs.Read.{number_of};
-ghost use Rattle.json_values.specs.Lexing.{HasNoEscape, LiteralOf};
+ghost use Rattle.json_values.specs.Lexing.{HasRoom, LiteralOf};
 
 use crate::bytes::{byte_at, is_delimiter, plain_end, spaces_end};
+use crate::escapes::unescape;
 use crate::words::{is_literal, number_end, short_number};
 use json::Token;
 use std::marker::Model;
 
-/// A text without backslashes. A clause sees it from the next lexeme on.
+/// A text. A clause sees it from the next lexeme on.
 #[derive(Drop)]
 pub(crate) struct Lexer<'a> {
     text: &'a str,
     at: usize,
+    /// Where strings with escapes go. If the text has any, it is as long as what is left of the text.
+    scratch: &'a mut [u8],
 }
 
 impl<'a> Model for Lexer<'a> {
@@ -34,12 +37,12 @@ impl<'a> Model for Lexer<'a> {
 }
 
 impl<'a> Lexer<'a> {
-    pub(crate) fn new(text: &'a str) -> Lexer<'a>
-        requires { HasNoEscape text.now }
+    pub(crate) fn new(text: &'a str, scratch: &'a mut [u8]) -> Lexer<'a>
+        requires { HasRoom text.now (length scratch.old) }
         ensures { lex between result ≡ lex between text.now }
     {
         let at = spaces_end(text.as_bytes(), 0);
-        Lexer { text, at }
+        Lexer { text, at, scratch }
     }
 
     /// Returns the first byte of the next lexeme, or a space at the end.
@@ -72,11 +75,38 @@ impl<'a> Lexer<'a> {
         let text = self.text;
         let start = self.at + 1;
         let stop = plain_end(text.as_bytes(), start);
-        if byte_at(text.as_bytes(), stop) != b'"' {
-            return None;
+        match byte_at(text.as_bytes(), stop) {
+            b'"' => {
+                self.at = spaces_end(text.as_bytes(), stop + 1);
+                Some(&text[start..stop])
+            }
+            b'\\' => self.escaped_string(),
+            _ => None,
         }
+    }
+
+    /// Takes a string of a text with escapes.
+    #[inline(never)]
+    fn escaped_string(&mut self) -> Option<&'a str>
+        requires quote { head self.old ≡ 34 }
+        requires escape { (i : ℕ) × (get_or self.old i 32 ≡ 92) }
+        ensures value { MatchOption result (content plain (drop 1 self.old) ≡ None) (λ s. content plain (drop 1 self.old) ≡ Some s.now) }
+        ensures after { IfSome result (λ _. lex between self.new ≡ drop 1 (lex between self.old)) }
+    {
+        let text = self.text;
+        let start = self.at + 1;
+        let scratch = std::mem::take(&mut self.scratch);
+        let Some((len, stop)) = unescape(text, start, scratch) else {
+            self.scratch = scratch;
+            return None;
+        };
+        let (written, rest) = scratch.split_at_mut(len);
+        self.scratch = rest;
         self.at = spaces_end(text.as_bytes(), stop + 1);
-        Some(&text[start..stop])
+        let Ok(string) = str::from_utf8(written) else {
+            return None;
+        };
+        Some(string)
     }
 
     /// Takes a whole number of few digits. `None` leaves open what is there.

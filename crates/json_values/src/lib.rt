@@ -12,9 +12,10 @@
 #![tactic(auto)]
 
 mod bytes;
+mod escapes;
 mod lexer;
 mod numbers;
-mod plain;
+mod punctuation;
 mod scalars;
 mod tokens;
 mod words;

@@ -1,5 +1,5 @@
 -- JSON objects as lists of their members, and the text of a value.
-use Rattle.std.specs.Prelude.{◌≡◌, ℕ, List, [], ◌∷◌, ◌++◌, map, flat_map, decimal, OnOk, Result}
+use Rattle.std.specs.Prelude.{◌≡◌, ℕ, ◌==◌, List, [], ◌∷◌, ◌++◌, map, flat_map, decimal, OnOk, Result, if◌then◌else◌}
 pub use Rattle.json.specs.{Json.Json, Json.null, Json.boolean, Json.number, Json.string, Json.array, Json.object, Json.Members, Json.no_members, Json.member, Token.Token, Token.key, Tree.json_tokens}
 use Rattle.json.specs.{Print.print, Value.items_of, Written.Written}
 
@@ -16,6 +16,10 @@ object_of ms = object (members_of ms)
 
 abbrev pub natural : ℕ → Json
 natural n = number (decimal n)
+
+-- a number that is 0 if its member is missing
+abbrev pub nonzero_member : List ℕ → ℕ → List Member
+nonzero_member name n = if n == 0 then [] else (name, natural n) ∷ []
 
 abbrev pub numbers_of : List ℕ → Json
 numbers_of ns = array (items_of (map (λ n. natural n) ns))

@@ -44,7 +44,7 @@ fn push_each_signal(out: &mut Writer, set: SigSet) -> Result<(), AllocError>
 }
 
 /// Writes a member that is an array of the names of a set's signals.
-pub(crate) fn push_signals(out: &mut Writer, name: &str, set: SigSet) -> Result<(), AllocError>
+pub fn push_signals(out: &mut Writer, name: &str, set: SigSet) -> Result<(), AllocError>
     ensures { Puts result out.old out.new (member_tokens ((name.now, signals_of set) ∷ [])) }
 {
     out.key(name)?;
@@ -76,11 +76,7 @@ fn push_each_flag<F: Flags + Copy>(out: &mut Writer, set: F) -> Result<(), Alloc
 }
 
 /// Writes a member that is an array of the names of a set's flags.
-pub(crate) fn push_flags<F: Flags + Copy>(
-    out: &mut Writer,
-    name: &str,
-    set: F,
-) -> Result<(), AllocError>
+pub fn push_flags<F: Flags + Copy>(out: &mut Writer, name: &str, set: F) -> Result<(), AllocError>
     requires { F.exact }
     ensures { Puts result out.old out.new (member_tokens ((name.now, strings_of (names_of F.table (F.set_of set))) ∷ [])) }
 {

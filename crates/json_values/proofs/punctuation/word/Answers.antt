@@ -1,6 +1,6 @@
 use Rattle.json_values.proofs.CommonNames.{◌≡◌, ◌∷◌, true, sym, ap, ◌∙◌, subst, is_good, after_value, punctuate, token, token_of}
 use Rattle.json_values.proofs.Places.{a_word, at_word, behind, good, IsWord, word_is}
-use Rattle.json_values.proofs.plain.word.Goals as goal
+use Rattle.json_values.proofs.punctuation.word.Goals as goal
 
 pub returns : goal.returns
 returns c =

@@ -1,20 +1,14 @@
-//! The tokens of a text without escapes, at one pass over its bytes.
-ghost use Rattle.std.specs.Prelude.{◌≡◌, ◌≢◌, ◌⊎◌, ◌∷◌, ℕ, List, [], Some, None, MatchOption, MatchResult, option_and_then, option_map, true, false};
-ghost use Rattle.std.specs.Bool.{MatchBool};
-ghost use Rattle.json.specs.Json.{after_end_array, read_key};
-ghost use Rattle.json.specs.Lex.{after_value, between, class, lex, other, punctuate, tokens};
+//! From lexemes to tokens: which may come after which, with commas and colons between them.
+ghost use Rattle.std.specs.Prelude.{◌≡◌, ◌≢◌, ◌⊎◌, ◌∷◌, [], true, false};
+ghost use Rattle.json.specs.Lex.{after_value, between, class, lex, other, punctuate};
 ghost use Rattle.json.specs.Align.{is_blank};
 ghost use Rattle.json.specs.Reads.{token_of, Yields};
-ghost use Rattle.json.specs.Token.{number};
 ghost use Rattle.json.specs.Word.{head};
-ghost use Rattle.serde_json.specs.Find.{as_i64};
-ghost use Rattle.serde_json.specs.Read.{number_of};
-ghost use Rattle.json_values.specs.Lexing.{HasNoEscape, may_begin, may_close, refused_at, tokens_at, NotBeforeComma};
+ghost use Rattle.json_values.specs.Lexing.{may_begin, may_close, refused_at, tokens_at, NotBeforeComma};
 
 use crate::bytes::is_space;
 use crate::lexer::Lexer;
-use json::{Invalid, Token};
-use std::marker::Model;
+use json::Token;
 
 /// What the reader has passed.
 #[derive(Clone, Copy, Drop)]
@@ -28,14 +22,14 @@ pub(crate) enum Place {
 
 impl Place {
     #[inline(always)]
-    fn may_close(self) -> bool
+    pub(crate) fn may_close(self) -> bool
         ensures { result ≡ may_close self }
     {
         matches!(self, Place::Fresh | Place::AfterValue)
     }
 
     #[inline(always)]
-    fn may_begin(self) -> bool
+    pub(crate) fn may_begin(self) -> bool
         ensures { result ≡ may_begin self }
     {
         matches!(self, Place::Fresh | Place::AfterComma)
@@ -45,7 +39,7 @@ impl Place {
 /// Passes over the comma that may follow a value.
 #[inline(always)]
 #[tactic(auto, using(crate::proofs::Places::at_bytes), unfolding(json::specs::Lex::punctuate))]
-fn after_value(lexer: &mut Lexer<'_>) -> Place
+pub(crate) fn after_value(lexer: &mut Lexer<'_>) -> Place
     ensures same { tokens_at result lexer.new ≡ punctuate after_value (lex between lexer.old) }
     ensures passed { NotBeforeComma result lexer.new }
 {
@@ -144,9 +138,10 @@ fn refuse<'a>(place: Place) -> (Option<Token<'a>>, Place)
     }
 }
 
+/// Takes the next token.
 #[inline(always)]
 #[tactic(auto, using(crate::proofs::Places::ended, crate::proofs::Places::not_begun, crate::proofs::Places::not_closed, crate::proofs::Places::refused))]
-fn read<'a>(lexer: &mut Lexer<'a>, place: Place) -> (Option<Token<'a>>, Place)
+pub(crate) fn read<'a>(lexer: &mut Lexer<'a>, place: Place) -> (Option<Token<'a>>, Place)
     requires { NotBeforeComma place lexer.old }
     ensures value { Yields (tokens_at place lexer.old) result.0 (tokens_at result.1 lexer.new) }
     ensures passed { NotBeforeComma result.1 lexer.new }
@@ -175,76 +170,4 @@ fn read<'a>(lexer: &mut Lexer<'a>, place: Place) -> (Option<Token<'a>>, Place)
     }
     let (token, next) = begin(lexer, place);
     (Some(token), next)
-}
-
-/// A reader of a text without escapes. A clause sees the tokens that are still to come.
-#[derive(Drop)]
-pub(crate) struct PlainReader<'a> {
-    lexer: Lexer<'a>,
-    place: Place,
-}
-
-impl<'a> Model for PlainReader<'a> {
-    ghost use Rattle.std.specs.Prelude.{List};
-    ghost use Rattle.json.specs.Token.{Token as SpecToken, tokens_code};
-    ghost use Rattle.json_values.specs.Lexing.{tokens_at, NotBeforeComma};
-
-    ghost Value = { List SpecToken };
-
-    ghost coded = { tokens_code };
-
-    ghost view = { λ a. tokens_at a.place a.lexer };
-
-    ghost invariant = { λ a. NotBeforeComma a.place a.lexer };
-}
-
-impl<'a> PlainReader<'a> {
-    pub(crate) fn new(text: &'a str) -> PlainReader<'a>
-        requires { HasNoEscape text.now }
-        ensures { result ≡ tokens text.now }
-    {
-        PlainReader {
-            lexer: Lexer::new(text),
-            place: Place::Fresh,
-        }
-    }
-
-    #[inline(always)]
-    pub(crate) fn next(&mut self) -> Option<Token<'a>>
-        ensures { Yields self.old result self.new }
-    {
-        let (token, place) = read(&mut self.lexer, self.place);
-        self.place = place;
-        token
-    }
-
-    /// Takes a whole number of few digits. `None` leaves open what is there.
-    #[inline(always)]
-    #[tactic(auto, using(crate::proofs::Places::on_some, crate::proofs::Places::a_number))]
-    pub(crate) fn integer(&mut self) -> Option<i64>
-        ensures { MatchOption result (self.new ≡ self.old) (λ z. (s : List ℕ) × (self.old ≡ number s ∷ self.new) × (option_and_then as_i64 (number_of s) ≡ Some z)) }
-    {
-        if !self.place.may_begin() {
-            return None;
-        }
-        let integer = self.lexer.integer();
-        if integer.is_some() {
-            self.place = after_value(&mut self.lexer);
-        }
-        integer
-    }
-
-    /// Takes the bracket that closes an array, if it is next.
-    #[inline(always)]
-    #[tactic(auto, using(crate::proofs::Places::closes_array))]
-    pub(crate) fn take_end_array(&mut self) -> bool
-        ensures { MatchBool result (after_end_array self.old ≡ Some self.new) ((after_end_array self.old ≡ None) × (self.new ≡ self.old)) }
-    {
-        if self.lexer.peek() != b']' || !self.place.may_close() {
-            return false;
-        }
-        self.lexer.skip();
-        self.place = after_value(&mut self.lexer);
-        true
-    }
 }

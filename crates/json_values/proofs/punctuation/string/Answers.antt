@@ -1,7 +1,7 @@
 use Rattle.json_values.proofs.CommonNames.{◌∷◌, sym, ap, ◌∙◌, is_blank, after_value, begins_colon, class, punctuate}
 use Rattle.json.specs.Token.{string}
 use Rattle.json_values.proofs.Places.{a_string, no_colon}
-use Rattle.json_values.proofs.plain.string.Goals as goal
+use Rattle.json_values.proofs.punctuation.string.Goals as goal
 
 pub returns-else-peek-eq58-clause-value : goal.returns-else-peek-eq58-clause-value
 returns-else-peek-eq58-clause-value c =
