@@ -1,12 +1,14 @@
 -- What a table keeps after each change, and the rows that it then has.
-use Rattle.lwp_table.proofs.CommonNames.{◌≡◌, ◌≢◌, ℕ, ◌+◌, ◌<◌, ◌≤◌, Bool, true, false, ◌||◌, not, List, [], ◌∷◌, ◌++◌, Option, Some, None, IsSome, IfSome, is_some, refl, sym, ap, subst}
+use Rattle.lwp_table.proofs.CommonNames.{◌≡◌, ◌≢◌, ℕ, ◌+◌, ◌<◌, ◌≤◌, Bool, true, false, not, List, [], ◌∷◌, ◌++◌, Option, Some, None, IsSome, IfSome, is_some, refl, sym, ap, subst}
 use Rattle.lwp_table.proofs.CommonNames.{◌∙◌, arith, inl, inr, cond, nat_eq, count_by, get_or, set, replicate, rules, lookup, option_map, IsSomeAnd, eqb_tells}
 use Rattle.lwp_table.proofs.CommonNames.{nat_tests, same_Some, get_or-replicate, LwpData, RowNode, ListHead, lwp_of, with_lwp, without_lwp, Differ, Node, IsNearest, IsChain}
-use Rattle.lwp_table.proofs.CommonNames.{up, anywhere, joined, own_node, seen_by, user_node, is_of, is_at, place_of, linked, closed_up, extended, without_slot, ends_at, may_pend, marked, empty_head}
+use Rattle.lwp_table.proofs.CommonNames.{up, anywhere, joined, own_node, seen_by, user_node, is_of, is_at, place_of, linked, closed_up, extended, without_slot, ends_at, covering, marked, empty_head}
+use Rattle.lwp_table.proofs.CommonNames.{Marks, traits_of, no_marks, is_bare, covers, gathered, noted, left, ◌&&◌, cases_Bool, cases_eq}
+use Rattle.lwp_table.proofs.MarkLemmas.{gathered_covers, gathered_own, covers_bare, noted_covers, noted_own, left_covers}
 use Rattle.lwp_table.proofs.CommonNames.{born_row, rows_of, IsIndexed, LwpTableInvariant}
 use Rattle.lwp_table.specs.declared.links.Link.TheVariants.{NextOwn, NextUser}
 use Rattle.std.proofs.lemmas.List.{length-set}
-use Rattle.lwp_table.proofs.WordLemmas.{both_calm, test_same, test_apart}
+use Rattle.lwp_table.proofs.WordLemmas.{test_same, test_apart}
 use Rattle.lwp_table.proofs.ChainLemmas.{AreApart, bridged, IsChain-left, IsChain-left_other}
 use Rattle.lwp_table.proofs.JoinLemmas.{IsChain-appended, IsChain-appended_other}
 use Rattle.lwp_table.proofs.Numbered.{count-without, count-put}
@@ -39,13 +41,16 @@ pub first_there : (f : ℕ → Option RowNode) (p : ℕ) (o : Option ℕ) → Is
 first_there f p None near s slot there on = absurd (near s (own_node slot) (ap (option_map own_node) there) on tt)
 first_there f p (Some a) near s slot there on = refl
 
--- if processes are said to have no pending signals, one slot changes, and no more of them are said to
-pub quiet_kept : (f g : ℕ → Option RowNode) (may more : ℕ → Bool) (q : ℕ) → ((s : ℕ) → s ≢ q → option_map face (g s) ≡ option_map face (f s))
-    → ((s : ℕ) (slot : RowNode) → f s ≡ Some slot → may slot.row.pid ≡ false → slot.row.pending ≡ 0)
-    → ((s : ℕ) (slot : RowNode) → g s ≡ Some slot → more slot.row.pid ≡ false → may slot.row.pid ≡ false)
-    → ((slot : RowNode) → g q ≡ Some slot → more slot.row.pid ≡ false → slot.row.pending ≡ 0)
-    → (s : ℕ) (slot : RowNode) → g s ≡ Some slot → more slot.row.pid ≡ false → slot.row.pending ≡ 0
-quiet_kept f g may more q faces quiet lower own s slot there none = grind (arith, nat_tests, carried g f s slot, faces s, quiet s, lower s slot there, own slot)
+-- what is told of the rows is told of them after one slot changed, if it is told of that one too
+pub covered_kept : (f g : ℕ → Option RowNode) (may more : ℕ → LwpData → Bool) (q : ℕ) → ((s : ℕ) → s ≢ q → option_map face (g s) ≡ option_map face (f s))
+    → ((s : ℕ) (slot : RowNode) → f s ≡ Some slot → may slot.row.pid slot.row ≡ true)
+    → ((s : ℕ) (slot : RowNode) → s ≢ q → g s ≡ Some slot → may slot.row.pid slot.row ≡ true → more slot.row.pid slot.row ≡ true)
+    → ((slot : RowNode) → g q ≡ Some slot → more slot.row.pid slot.row ≡ true)
+    → (s : ℕ) (slot : RowNode) → g s ≡ Some slot → more slot.row.pid slot.row ≡ true
+covered_kept f g may more q faces covered higher own s slot there = elim (cases_eq s q) [
+  | inl at ↦ own slot (rw at at there)
+  | inr off ↦ let was = carried g f s slot (sym (faces s off)) there in higher s slot off there (rw (was.3) at (covered s was.0 was.1))
+]
 
 -- nodes that are the same make the same lists
 IsChain-same : (f g : ℕ → Option Node) (t : ℕ) (first last : Option ℕ) → ((s : ℕ) → f s ≡ g s) → IsChain f t first last → IsChain g t first last
@@ -74,7 +79,7 @@ pub record HasLeft (f : ℕ → Option RowNode) (tid q : ℕ) (old : RowNode) (g
   pub others : (s : ℕ) → s ≢ q → rest s ≡ f s
   pub closed : (s : ℕ) → g s ≡ option_map (closed_up old s) (rest s)
 
-module _ {f : ℕ → Option RowNode} {es : List (ℕ × ℕ)} {hs : List (ℕ × ListHead)} {births : ℕ} {users : List ListHead} {may : ℕ → Bool} (kept : LwpTableInvariant f es hs births users may) where
+module _ {f : ℕ → Option RowNode} {es : List (ℕ × ℕ)} {hs : List (ℕ × ListHead)} {births : ℕ} {users : List ListHead} {may : ℕ → LwpData → Bool} (kept : LwpTableInvariant f es hs births users may) where
   -- no count is greater than the number of births
   pub own_count : (pid : ℕ) → (ends_at hs pid).count ≤ births
   own_count pid = omega (arith, kept.counted pid, count-below (is_of pid) (born_row f es) 0 births)
@@ -118,15 +123,21 @@ module _ {f : ℕ → Option RowNode} {es : List (ℕ × ℕ)} {hs : List (ℕ �
     pub rows-added : rows_of g es' (births + 1) ≡ rows_of f es births ++ row ∷ []
     rows-added = rows_of-added f es births kept.indexed g es' q faces new joins.vacant has refl unused joins.change
 
-    module _ (hs' : List (ℕ × ListHead)) (pends : Bool) (ends : (p : ℕ) → ends_at hs' p ≡ cond (nat_eq row.pid p) (extended q pends (ends_at hs p)) (ends_at hs p))
-        (told : (p : ℕ) → may_pend hs p ≡ false → may p ≡ false) (calm : pends ≡ false → row.pending ≡ 0) where
-      lower : (s : ℕ) (slot : RowNode) → g s ≡ Some slot → may_pend hs' slot.row.pid ≡ false → may slot.row.pid ≡ false
-      lower s slot there none = grind (arith, nat_tests, ends slot.row.pid, told slot.row.pid)
+    module _ (hs' : List (ℕ × ListHead)) (ends : (p : ℕ) → ends_at hs' p ≡ cond (nat_eq row.pid p) (extended q (gathered (ends_at hs p).marks row) (ends_at hs p)) (ends_at hs p))
+        (told : (p : ℕ) (l : LwpData) → may p l ≡ true → covering hs p l ≡ true) where
+      higher : (s : ℕ) (slot : RowNode) → s ≢ q → g s ≡ Some slot → may slot.row.pid slot.row ≡ true → covering hs' slot.row.pid slot.row ≡ true
+      higher s slot off there was = rw (ends slot.row.pid) (elim (cases_Bool (nat_eq row.pid slot.row.pid)) [
+        | inl e ↦ rw e (gathered_covers (ends_at hs slot.row.pid).marks row slot.row (told slot.row.pid slot.row was))
+        | inr e ↦ rw e (told slot.row.pid slot.row was)
+      ])
 
-      puts : (place : ℕ) → get_or (set users (place_of row.tid) (extended q false user)) place empty_head ≡ cond (nat_eq (place_of row.tid) place) (extended q false user) (get_or users place empty_head)
-      puts = user_put users (place_of row.tid) (extended q false user) kept.long joins.within
+      its_own : (slot : RowNode) → g q ≡ Some slot → covering hs' slot.row.pid slot.row ≡ true
+      its_own slot there = let is = same_Some new slot (sym has ∙ there) in rw (← is, ends row.pid, test_same row.pid) (gathered_own (ends_at hs row.pid).marks row)
 
-      added : LwpTableInvariant g es' hs' (births + 1) (set users (place_of row.tid) (extended q false user)) (may_pend hs')
+      puts : (place : ℕ) → get_or (set users (place_of row.tid) (extended q no_marks user)) place empty_head ≡ cond (nat_eq (place_of row.tid) place) (extended q no_marks user) (get_or users place empty_head)
+      puts = user_put users (place_of row.tid) (extended q no_marks user) kept.long joins.within
+
+      added : LwpTableInvariant g es' hs' (births + 1) (set users (place_of row.tid) (extended q no_marks user)) (covering hs')
       added = record {
         indexed = IsIndexed-added f es births kept.indexed g es' q faces new joins.vacant has refl unused joins.change;
         own = λ p. elim (eqb_tells row.pid p) [
@@ -138,7 +149,7 @@ module _ {f : ℕ → Option RowNode} {es : List (ℕ × ℕ)} {hs : List (ℕ �
               rw (ends p, h.0) (IsChain-appended_other (seen_by own_node f) (seen_by own_node g) (nodes_apart f own_node (λ slot. refl) kept.indexed.apart) row.pid own.first own.last own_chain q (own_node new) (ap (option_map own_node) joins.vacant) (ap (option_map own_node) has) refl refl refl own_g
               (nodes_earlier f own_node (λ slot. refl) births kept.indexed.earlier) p (ends_at hs p).first (ends_at hs p).last (λ e. h.1 (sym e)) (kept.own p))
         ];
-        long = length-set users (place_of row.tid) (extended q false user) ∙ kept.long;
+        long = length-set users (place_of row.tid) (extended q no_marks user) ∙ kept.long;
         user = λ p below. elim (eqb_tells (place_of row.tid) p) [
           | inl h ↦
               let chain = IsChain-appended (seen_by user_node f) (seen_by user_node g) (nodes_apart f user_node (λ slot. refl) kept.indexed.apart) (place_of row.tid) user.first user.last user_chain q (user_node new) (ap (option_map user_node) joins.vacant) (ap (option_map user_node) has) refl refl refl user_g
@@ -156,11 +167,11 @@ module _ {f : ℕ → Option RowNode} {es : List (ℕ × ℕ)} {hs : List (ℕ �
           | inl h ↦ rw (h.0, ← h.1) (omega (arith, kept.homes (place_of row.tid) joins.within))
           | inr h ↦ rw h.0 (omega (arith, kept.homes p below))
         ]);
-        quiet = quiet_kept f g may (may_pend hs') q faces kept.quiet lower (λ slot there none. grind (arith, nat_tests, ends slot.row.pid, has, same_Some slot new));
+        covered = covered_kept f g may (covering hs') q faces kept.covered higher its_own;
       }
 
-      pub LwpTableInvariant-added : (users' : List ListHead) → users' ≡ set users (place_of row.tid) (extended q false user) → LwpTableInvariant g es' hs' (births + 1) users' (may_pend hs')
-      LwpTableInvariant-added users' is = subst (λ us. LwpTableInvariant g es' hs' (births + 1) us (may_pend hs')) (sym is) added
+      pub LwpTableInvariant-added : (users' : List ListHead) → users' ≡ set users (place_of row.tid) (extended q no_marks user) → LwpTableInvariant g es' hs' (births + 1) users' (covering hs')
+      LwpTableInvariant-added users' is = subst (λ us. LwpTableInvariant g es' hs' (births + 1) us (covering hs')) (sym is) added
 
   -- the row of a number's slot is replaced by one of the same LWP
   module _ (row : LwpData) (q : ℕ) (old : RowNode) (g : ℕ → Option RowNode) (its : IsSomeAnd (lwp_of row.tid (rows_of f es births)) (λ was. was.pid ≡ row.pid)) (at : lookup (nat_eq row.tid) es ≡ Some q) (had : f q ≡ Some old)
@@ -185,43 +196,74 @@ module _ {f : ℕ → Option RowNode} {es : List (ℕ × ℕ)} {hs : List (ℕ �
     counts : (p : LwpData → Bool) → p old.row ≡ p row → count_by p (rows_of f es births) ≡ count_by p (rows_of g es births)
     counts p same = sym (ap (count_by p) rows-set ∙ count-put (λ (l : LwpData). l.tid) p row old.row (rows_of f es births) (differ f es births kept.indexed) found.1 same)
 
-    pub LwpTableInvariant-set : (may row.pid ≡ false → row.pending ≡ 0) → LwpTableInvariant g es hs births users may
-    LwpTableInvariant-set calm = record {
+    pub LwpTableInvariant-set : (more : ℕ → LwpData → Bool) → ((s : ℕ) (slot : RowNode) → g s ≡ Some slot → more slot.row.pid slot.row ≡ true) → LwpTableInvariant g es hs births users more
+    LwpTableInvariant-set more told = record {
       indexed = IsIndexed-set f es births kept.indexed g es q set_faces old (record old { row = row }) had has refl (sym found.0) refl;
       own = λ p. IsChain-same (seen_by own_node f) (seen_by own_node g) p _ _ (set_nodes own_node (λ i. record { key = old.born; list = pids i; prev = old.own.prev; next = old.own.next })) (kept.own p);
       long = kept.long;
       user = λ p below. IsChain-same (seen_by user_node f) (seen_by user_node g) p _ _ (set_nodes user_node (λ i. record { key = old.born; list = place_of (found.0 i); prev = old.user.prev; next = old.user.next })) (kept.user p below);
       counted = λ p. kept.counted p ∙ counts (is_of p) (ap (λ n. nat_eq n p) pids);
       homes = λ place within. kept.homes place within ∙ counts (is_at place) (ap (λ n. nat_eq (place_of n) place) found.0);
-      quiet = quiet_kept f g may may q set_faces kept.quiet (λ s slot there none. none) (λ slot there none. grind (arith, nat_tests));
+      covered = told;
     }
 
-  -- less is said of pending signals
-  pub LwpTableInvariant-may : (more : ℕ → Bool) → ((p : ℕ) → more p ≡ false → may p ≡ false) → LwpTableInvariant f es hs births users more
-  LwpTableInvariant-may more told = grind (arith, nat_tests)
+  -- more or less is told of the rows
+  pub LwpTableInvariant-may : (more : ℕ → LwpData → Bool) → ((s : ℕ) (slot : RowNode) → f s ≡ Some slot → more slot.row.pid slot.row ≡ true) → LwpTableInvariant f es hs births users more
+  LwpTableInvariant-may more told = record { indexed = kept.indexed; own = kept.own; long = kept.long; user = kept.user; counted = kept.counted; homes = kept.homes; covered = told }
 
-  -- it is noted of one process whether its rows may have pending signals
-  pub LwpTableInvariant-marked : (pid : ℕ) (b : Bool) (hs' : List (ℕ × ListHead)) → ((p : ℕ) → ends_at hs' p ≡ cond (nat_eq pid p) (marked b (ends_at hs p)) (ends_at hs p))
-      → (b ≡ false → (s : ℕ) (slot : RowNode) → f s ≡ Some slot → slot.row.pid ≡ pid → slot.row.pending ≡ 0)
-      → ((p : ℕ) → nat_eq pid p ≡ false → may_pend hs p ≡ false → may p ≡ false) → LwpTableInvariant f es hs' births users (may_pend hs')
-  LwpTableInvariant-marked pid b hs' marks calm told = record {
-    indexed = kept.indexed;
-    own = λ p. grind (arith, nat_tests, marks p, kept.own p);
-    long = kept.long;
-    user = kept.user;
-    counted = λ p. grind (arith, nat_tests, marks p, kept.counted p);
-    homes = kept.homes;
-    quiet = λ s slot there none. grind (arith, nat_tests, marks slot.row.pid, first_there f slot.row.pid (ends_at hs slot.row.pid).first (kept.own slot.row.pid).first_is s slot there, calm, told slot.row.pid, kept.quiet s slot there);
-  }
+  -- one process's list gets other marks
+  module _ (pid : ℕ) (marks : Marks) (hs' : List (ℕ × ListHead)) (ends : (p : ℕ) → ends_at hs' p ≡ cond (nat_eq pid p) (marked marks (ends_at hs p)) (ends_at hs p)) where
+    -- the marks of a row's process are the new ones
+    new_marks : (s : ℕ) (slot : RowNode) → f s ≡ Some slot → nat_eq pid slot.row.pid ≡ true → (ends_at hs' slot.row.pid).marks ≡ marks
+    new_marks s slot there on = rw (ends slot.row.pid, on, first_there f slot.row.pid (ends_at hs slot.row.pid).first (kept.own slot.row.pid).first_is s slot there refl) refl
 
-  -- it is noted that a row's process may have pending signals, if it may already or the row has some
-  module _ (row : LwpData) (hs' : List (ℕ × ListHead)) (told : (p : ℕ) → may_pend hs p ≡ false → may p ≡ false)
-      (marks : (p : ℕ) → ends_at hs' p ≡ cond (nat_eq row.pid p) (marked (may_pend hs row.pid || not (nat_eq row.pending 0)) (ends_at hs p)) (ends_at hs p)) where
-    pub LwpTableInvariant-noted : LwpTableInvariant f es hs' births users (may_pend hs')
-    LwpTableInvariant-noted = grind (arith, nat_tests, LwpTableInvariant-marked, both_calm)
+    pub LwpTableInvariant-marked : ((s : ℕ) (slot : RowNode) → f s ≡ Some slot → nat_eq pid slot.row.pid ≡ true → covers marks slot.row ≡ true)
+        → ((s : ℕ) (slot : RowNode) → f s ≡ Some slot → nat_eq pid slot.row.pid ≡ false → covering hs slot.row.pid slot.row ≡ true) → LwpTableInvariant f es hs' births users (covering hs')
+    LwpTableInvariant-marked here there = record {
+      indexed = kept.indexed;
+      own = λ p. grind (arith, nat_tests, ends p, kept.own p);
+      long = kept.long;
+      user = kept.user;
+      counted = λ p. grind (arith, nat_tests, ends p, kept.counted p);
+      homes = kept.homes;
+      covered = λ s slot had. elim (cases_Bool (nat_eq pid slot.row.pid)) [
+        | inl e ↦ rw (new_marks s slot had e) (here s slot had e)
+        | inr e ↦ rw (ends slot.row.pid, e) (there s slot had e)
+      ];
+    }
 
-    pub noted : (s : ℕ) (slot : RowNode) → f s ≡ Some slot → slot.row.pid ≡ row.pid → may_pend hs' row.pid ≡ false → row.pending ≡ 0
-    noted s slot there on none = grind (arith, nat_tests, marks row.pid, first_there f row.pid (ends_at hs row.pid).first (kept.own row.pid).first_is s slot there on, both_calm)
+  -- a row has replaced the one with its number, and its process's marks were noted
+  module _ (before row : LwpData) (hs' : List (ℕ × ListHead))
+      (ends : (p : ℕ) → ends_at hs' p ≡ cond (nat_eq row.pid p && not (is_bare (traits_of before) && is_bare (traits_of row))) (marked (noted (ends_at hs row.pid).marks row) (ends_at hs p)) (ends_at hs p))
+      (its : (s : ℕ) (slot : RowNode) → f s ≡ Some slot → slot.row.tid ≡ row.tid → slot.row ≡ row)
+      (others : (s : ℕ) (slot : RowNode) → f s ≡ Some slot → slot.row.tid ≢ row.tid → covering hs slot.row.pid slot.row ≡ true) where
+    noted_here : (s : ℕ) (slot : RowNode) → f s ≡ Some slot → nat_eq row.pid slot.row.pid ≡ true → covers (noted (ends_at hs row.pid).marks row) slot.row ≡ true
+    noted_here s slot had on = elim (cases_eq slot.row.tid row.tid) [
+      | inl e ↦ rw (its s slot had e) (noted_own (ends_at hs row.pid).marks row)
+      | inr off ↦ let same : slot.row.pid ≡ row.pid = grind (arith, nat_tests) in noted_covers (ends_at hs row.pid).marks row slot.row off (rw same at (others s slot had off))
+    ]
+
+    noted_there : (s : ℕ) (slot : RowNode) → f s ≡ Some slot → nat_eq row.pid slot.row.pid ≡ false → covering hs slot.row.pid slot.row ≡ true
+    noted_there s slot had off = others s slot had (λ e. grind (arith, nat_tests, its s slot had e))
+
+    pub LwpTableInvariant-noted : LwpTableInvariant f es hs' births users (covering hs')
+    LwpTableInvariant-noted = elim (cases_Bool (is_bare (traits_of before) && is_bare (traits_of row))) [
+      | inl bare ↦
+          let same : (p : ℕ) → ends_at hs' p ≡ ends_at hs p = λ p. grind (arith, nat_tests, ends p) in
+          record {
+            indexed = kept.indexed;
+            own = λ p. rw (same p) (kept.own p);
+            long = kept.long;
+            user = kept.user;
+            counted = λ p. rw (same p) (kept.counted p);
+            homes = kept.homes;
+            covered = λ s slot had. rw (same slot.row.pid) (elim (cases_eq slot.row.tid row.tid) [
+              | inl e ↦ let calm : is_bare (traits_of row) ≡ true = grind (arith, nat_tests) in covers_bare (ends_at hs slot.row.pid).marks slot.row (rw (its s slot had e) calm)
+              | inr off ↦ others s slot had off
+            ]);
+          }
+      | inr some ↦ LwpTableInvariant-marked row.pid (noted (ends_at hs row.pid).marks row) hs' (λ p. grind (arith, nat_tests, ends p)) noted_here noted_there
+    ]
 
   -- what is known of a row that goes
   module _ (q : ℕ) (old : RowNode) (had : f q ≡ Some old) where
@@ -248,10 +290,10 @@ module _ {f : ℕ → Option RowNode} {es : List (ℕ × ℕ)} {hs : List (ℕ �
   module _ (tid q : ℕ) (old : RowNode) (g : ℕ → Option RowNode) (leaves : HasLeft f tid q old g) where
     -- the ends of the two lists afterwards
     abbrev own_left : ListHead
-    own_left = without_slot old.own (ends_at hs old.row.pid)
+    own_left = without_slot old.own (left (ends_at hs old.row.pid).marks old.row.tid) (ends_at hs old.row.pid)
 
     abbrev user_left : ListHead
-    user_left = without_slot old.user (get_or users (place_of old.row.tid) empty_head)
+    user_left = without_slot old.user no_marks (get_or users (place_of old.row.tid) empty_head)
 
     gone_g : g q ≡ None
     gone_g = leaves.closed q ∙ ap (option_map (closed_up old q)) leaves.gone
@@ -279,16 +321,27 @@ module _ {f : ℕ → Option RowNode} {es : List (ℕ × ℕ)} {hs : List (ℕ �
         IsChain-left (seen_by own_node f) (seen_by own_node g) (nodes_apart f own_node (λ slot. refl) kept.indexed.apart) old.row.pid (ends_at hs old.row.pid).first (ends_at hs old.row.pid).last (kept.own old.row.pid) q (own_node old)
         (ap (option_map own_node) leaves.had) refl (ap (option_map own_node) gone_g) left_own
 
-    module _ (hs' : List (ℕ × ListHead)) (ends : (p : ℕ) → ends_at hs' p ≡ cond (nat_eq old.row.pid p) (without_slot old.own (ends_at hs p)) (ends_at hs p))
-        (told : (p : ℕ) → may_pend hs p ≡ false → may p ≡ false) where
-      -- a row is left in the list, so the ends tell of pending signals as before
-      lower_left : (s : ℕ) (slot : RowNode) → g s ≡ Some slot → may_pend hs' slot.row.pid ≡ false → may slot.row.pid ≡ false
-      lower_left s slot there none = grind (arith, nat_tests, eqb_tells old.row.pid slot.row.pid, first_there g slot.row.pid own_left.first, ends slot.row.pid, chain_left)
+    module _ (hs' : List (ℕ × ListHead)) (ends : (p : ℕ) → ends_at hs' p ≡ cond (nat_eq old.row.pid p) (without_slot old.own (left (ends_at hs p).marks old.row.tid) (ends_at hs p)) (ends_at hs p))
+        (told : (p : ℕ) (l : LwpData) → may p l ≡ true → covering hs p l ≡ true) where
+      -- the row of another slot has another number
+      off_tid : (s : ℕ) (slot : RowNode) → s ≢ q → g s ≡ Some slot → slot.row.tid ≢ old.row.tid
+      off_tid s slot off there same = let was = carried g f s slot (sym (left_faces s off)) there in
+          off (same_Some s q (sym (kept.indexed.listed s was.0 was.1) ∙ (ap (λ (r : LwpData). lookup (nat_eq r.tid) es) was.3 ∙ (ap (λ n. lookup (nat_eq n) es) same ∙ kept.indexed.listed q old leaves.had))))
+
+      -- a row is left in the list, so the marks are those without the row that goes
+      higher_left : (s : ℕ) (slot : RowNode) → s ≢ q → g s ≡ Some slot → may slot.row.pid slot.row ≡ true → covering hs' slot.row.pid slot.row ≡ true
+      higher_left s slot off there was = elim (eqb_tells old.row.pid slot.row.pid) [
+        | inl h ↦
+            let some = first_there g old.row.pid own_left.first chain_left.first_is s slot there (sym h.1) in
+            let is : (ends_at hs' old.row.pid).marks ≡ left (ends_at hs old.row.pid).marks old.row.tid = rw (ends old.row.pid, test_same old.row.pid, some) refl in
+            rw (← h.1, is) (left_covers (ends_at hs old.row.pid).marks old.row.tid slot.row (off_tid s slot off there) (told old.row.pid slot.row (subst (λ p. may p slot.row ≡ true) (sym h.1) was)))
+        | inr h ↦ rw (ends slot.row.pid, h.0) (told slot.row.pid slot.row was)
+      ]
 
       put_back : (place : ℕ) → get_or (set users (place_of old.row.tid) user_left) place empty_head ≡ cond (nat_eq (place_of old.row.tid) place) user_left (get_or users place empty_head)
       put_back = user_put users (place_of old.row.tid) user_left kept.long leaves.within
 
-      removed : LwpTableInvariant g es hs' births (set users (place_of old.row.tid) user_left) (may_pend hs')
+      removed : LwpTableInvariant g es hs' births (set users (place_of old.row.tid) user_left) (covering hs')
       removed = record {
         indexed = IsIndexed-removed f es births kept.indexed g es q left_faces old leaves.had gone_g refl;
         own = λ p. elim (eqb_tells old.row.pid p) [
@@ -311,17 +364,17 @@ module _ {f : ℕ → Option RowNode} {es : List (ℕ × ℕ)} {hs : List (ℕ �
           | inl h ↦ rw (h.0, ← h.1) (omega (arith, kept.homes (place_of old.row.tid) leaves.within, fewer (is_at (place_of old.row.tid)), ap one (test_same (place_of old.row.tid))))
           | inr h ↦ rw h.0 (omega (arith, kept.homes p below, fewer (is_at p), ap one h.0))
         ]);
-        quiet = quiet_kept f g may (may_pend hs') q left_faces kept.quiet lower_left (λ slot there none. absurd (cc (there, gone_g)));
+        covered = covered_kept f g may (covering hs') q left_faces kept.covered higher_left (λ slot there. absurd (cc (there, gone_g)));
       }
 
-      pub LwpTableInvariant-removed : (users' : List ListHead) → users' ≡ set users (place_of old.row.tid) user_left → LwpTableInvariant g es hs' births users' (may_pend hs')
-      LwpTableInvariant-removed users' is = subst (λ us. LwpTableInvariant g es hs' births us (may_pend hs')) (sym is) removed
+      pub LwpTableInvariant-removed : (users' : List ListHead) → users' ≡ set users (place_of old.row.tid) user_left → LwpTableInvariant g es hs' births users' (covering hs')
+      LwpTableInvariant-removed users' is = subst (λ us. LwpTableInvariant g es hs' births us (covering hs')) (sym is) removed
 
 -- an empty list, and an empty table
 IsChain-none : (f : ℕ → Option Node) (t : ℕ) → ((s : ℕ) → f s ≡ None) → IsChain f t None None
 IsChain-none f t none = grind (arith, nat_tests)
 
-pub LwpTableInvariant-none : (f : ℕ → Option RowNode) (es : List (ℕ × ℕ)) (hs : List (ℕ × ListHead)) → ((s : ℕ) → f s ≡ None) → es ≡ [] → hs ≡ [] → LwpTableInvariant f es hs 0 (replicate 64 empty_head) (may_pend hs)
+pub LwpTableInvariant-none : (f : ℕ → Option RowNode) (es : List (ℕ × ℕ)) (hs : List (ℕ × ListHead)) → ((s : ℕ) → f s ≡ None) → es ≡ [] → hs ≡ [] → LwpTableInvariant f es hs 0 (replicate 64 empty_head) (covering hs)
 LwpTableInvariant-none f es hs none no_es no_hs = record {
   indexed = grind (arith, nat_tests);
   own = λ p. grind (arith, nat_tests, IsChain-none);
@@ -329,7 +382,7 @@ LwpTableInvariant-none f es hs none no_es no_hs = record {
   user = λ place within. rw (get_or-replicate 64 place empty_head empty_head (omega (arith, within))) (IsChain-none (seen_by user_node f) place (λ s. ap (option_map user_node) (none s)));
   counted = λ p. rw no_hs refl;
   homes = λ place within. ap (λ (e : ListHead). e.count) (get_or-replicate 64 place empty_head empty_head (omega (arith, within)));
-  quiet = λ s slot there is. absurd (cc (there, none s));
+  covered = λ s slot there. absurd (cc (there, none s));
 }
 
 -- the rows that contracts see have numbers that differ

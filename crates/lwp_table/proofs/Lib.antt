@@ -1,10 +1,12 @@
 pub mod CommonNames
 pub mod Numbered
 pub mod WordLemmas
+pub mod MarkLemmas
 pub mod ChainLemmas
 pub mod JoinLemmas
 pub mod ListLemmas
 pub mod CountLemmas
+pub mod PlaceLemmas
 pub mod IndexLemmas
 pub mod KeptLemmas
 pub mod EditLemmas

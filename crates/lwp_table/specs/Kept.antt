@@ -1,5 +1,5 @@
 -- How a table stores its rows: in slots, each with a birth number, and with links in order of birth.
-use Rattle.std.specs.Prelude.{◌≡◌, ℕ, zero, suc, ◌+◌, ◌-◌, ◌<◌, Bool, false, ◌==◌, ◌&&◌, ◌||◌, List, [], Option, Some, None, nat_eq, count_by, length, find, filter_map, get_or, is_none, is_some, if◌then◌else◌, unwrap_or, IfSome, IsSomeAnd}
+use Rattle.std.specs.Prelude.{◌≡◌, ℕ, zero, suc, ◌+◌, ◌-◌, ◌<◌, Bool, true, ◌==◌, List, [], Option, Some, None, nat_eq, count_by, length, find, filter_map, get_or, is_none, is_some, if◌then◌else◌, unwrap_or, IfSome, IsSomeAnd}
 use Rattle.std.specs.List.{cons_option}
 use Rattle.std.specs.Option.{option_and_then, option_map, option_map_or, option_or}
 use Rattle.std.specs.Map.{lookup}
@@ -10,7 +10,9 @@ use Rattle.lwp_table.specs.declared.links.Links.{Links}
 use Rattle.lwp_table.specs.declared.links.ListHead.{ListHead}
 use Rattle.lwp_table.specs.declared.links.Link.{Link}
 use Rattle.lwp_table.specs.declared.links.Link.TheVariants.{NextOwn, PrevOwn, NextUser, PrevUser}
+use Rattle.lwp_table.specs.declared.marks.Marks.{Marks}
 use Rattle.lwp_table.specs.Chain.{Node, IsChain, IsNearest, up, above, leads_to}
+use Rattle.lwp_table.specs.Marks.{covers, no_marks}
 
 -- whether a row is an LWP of this process
 abbrev pub is_of : ℕ → LwpData → Bool
@@ -60,37 +62,41 @@ closed_up gone s slot = record slot { own = passed_by gone.own s slot.own; user 
 
 -- the ends of an empty list
 abbrev pub empty_head : ListHead
-empty_head = record { first = None; last = None; count = 0; may_pend = false }
+empty_head = record { first = None; last = None; count = 0; marks = no_marks }
 
--- the ends of a list, after this slot has joined it behind the last one; `pends` tells whether its row may have pending
--- signals
-abbrev pub extended : ℕ → Bool → ListHead → ListHead
-extended q pends ends = record { first = option_or ends.first (Some q); last = Some q; count = ends.count + 1; may_pend = ends.may_pend || pends }
+-- the ends of the users' lists, and how many more users can get one without memory
+pub record Heads : Type 0 where
+  pub items : List ListHead
+  pub spare : ℕ
+
+-- the ends of a list, after this slot has joined it behind the last one, and the marks became these
+abbrev pub extended : ℕ → Marks → ListHead → ListHead
+extended q marks ends = record { first = option_or ends.first (Some q); last = Some q; count = ends.count + 1; marks = marks }
 
 -- the first slot of a list, after a slot with these links has left it
 abbrev pub first_without : Links → ListHead → Option ℕ
 first_without gone ends = if is_none gone.prev then gone.next else ends.first
 
--- the ends of a list, after a slot with these links has left it
-abbrev pub without_slot : Links → ListHead → ListHead
-without_slot gone ends = record {
+-- the ends of a list, after a slot with these links has left it, and the marks of the others became these
+abbrev pub without_slot : Links → Marks → ListHead → ListHead
+without_slot gone marks ends = record {
   first = first_without gone ends;
   last = if is_none gone.next then gone.prev else ends.last;
   count = ends.count - 1;
-  may_pend = is_some (first_without gone ends) && ends.may_pend;
+  marks = if is_some (first_without gone ends) then marks else no_marks;
 }
 
 -- the ends of the list of a process
 abbrev pub ends_at : List (ℕ × ListHead) → ℕ → ListHead
 ends_at hs pid = unwrap_or (lookup (nat_eq pid) hs) empty_head
 
--- whether rows of this process may have pending signals
-abbrev pub may_pend : List (ℕ × ListHead) → ℕ → Bool
-may_pend hs pid = (ends_at hs pid).may_pend
+-- whether the marks of this process tell of all that the row has
+abbrev pub covering : List (ℕ × ListHead) → ℕ → LwpData → Bool
+covering hs pid row = covers (ends_at hs pid).marks row
 
--- the ends of a list, after it was noted whether its rows may have pending signals; the empty list has no such row
-abbrev pub marked : Bool → ListHead → ListHead
-marked may ends = record ends { may_pend = if is_some ends.first then may else ends.may_pend }
+-- the ends of a list, after its marks became these; the empty list has none
+abbrev pub marked : Marks → ListHead → ListHead
+marked marks ends = record ends { marks = if is_some ends.first then marks else ends.marks }
 
 -- the row with this birth number
 abbrev pub born_row : (ℕ → Option RowNode) → List (ℕ × ℕ) → ℕ → Option LwpData
@@ -115,15 +121,15 @@ pub record IsIndexed (f : ℕ → Option RowNode) (es : List (ℕ × ℕ)) (birt
   pub earlier : (s : ℕ) (slot : RowNode) → f s ≡ Some slot → slot.born < births
   pub apart : (i j : ℕ) (a b : RowNode) → f i ≡ Some a → f j ≡ Some b → a.born ≡ b.born → i ≡ j
 
--- what a table maintains; `may` tells of each process whether its rows may have pending signals
-pub record LwpTableInvariant (f : ℕ → Option RowNode) (es : List (ℕ × ℕ)) (hs : List (ℕ × ListHead)) (births : ℕ) (users : List ListHead) (may : ℕ → Bool) : Type 0 where
+-- what a table maintains; `may` tells what rows each process may have
+pub record LwpTableInvariant (f : ℕ → Option RowNode) (es : List (ℕ × ℕ)) (hs : List (ℕ × ListHead)) (births : ℕ) (users : List ListHead) (may : ℕ → LwpData → Bool) : Type 0 where
   pub indexed : IsIndexed f es births
   pub own : (pid : ℕ) → IsChain (seen_by own_node f) pid (ends_at hs pid).first (ends_at hs pid).last
   pub long : length users ≡ 64
   pub user : (place : ℕ) → place < 64 → IsChain (seen_by user_node f) place (get_or users place empty_head).first (get_or users place empty_head).last
   pub counted : (pid : ℕ) → (ends_at hs pid).count ≡ count_by (is_of pid) (rows_of f es births)
   pub homes : (place : ℕ) → place < 64 → (get_or users place empty_head).count ≡ count_by (is_at place) (rows_of f es births)
-  pub quiet : (s : ℕ) (slot : RowNode) → f s ≡ Some slot → may slot.row.pid ≡ false → slot.row.pending ≡ 0
+  pub covered : (s : ℕ) (slot : RowNode) → f s ≡ Some slot → may slot.row.pid slot.row ≡ true
 
 -- the rows from a link on
 abbrev pub rows_from : (ℕ → Option RowNode) → List (ℕ × ℕ) → ℕ → Option ℕ → List LwpData

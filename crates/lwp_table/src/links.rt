@@ -7,10 +7,13 @@ ghost use Rattle.std.specs.Map.{lookup};
 ghost use Rattle.indexmap.specs.IndexMap.{spare};
 ghost use Rattle.lwp_table.specs.Kept.{linked, closed_up, ends_at, marked, empty_head, place_of, seen_by, born_node, node_named, extended, without_slot};
 ghost use Rattle.lwp_table.specs.Chain.{IsNearest, up};
+ghost use Rattle.lwp_table.specs.Marks.{no_marks, traits_of, is_bare, gathered, noted, left};
 
 use crate::LwpData;
 use crate::hasher::NumberIndex;
 use crate::hints::Hints;
+use crate::marks::{Marks, Traits};
+use crate::user_heads::UserHeads;
 use pid_blocks::{Pid, Tid, owner_of_tid};
 use slab::Slab;
 
@@ -27,8 +30,8 @@ pub struct ListHead {
     pub first: Option<usize>,
     pub last: Option<usize>,
     pub count: usize,
-    /// Whether a row of a process's list may have pending signals. A user's list doesn't use it.
-    pub may_pend: bool,
+    /// What the rows of a process's list may have. A user's list doesn't use it.
+    pub marks: Marks,
 }
 
 impl ListHead {
@@ -40,27 +43,27 @@ impl ListHead {
             first: None,
             last: None,
             count: 0,
-            may_pend: false,
+            marks: Marks::none(),
         }
     }
 
-    /// Returns the ends after this slot has joined the list behind the last one.
-    fn extended(&self, slot: usize, may_pend: bool) -> ListHead
+    /// Returns the ends after this slot has joined the list behind the last one, with these marks.
+    fn extended(&self, slot: usize, marks: Marks) -> ListHead
         requires { self.now.count < 18446744073709551615 }
-        ensures { result ≡ extended slot may_pend self.now }
+        ensures { result ≡ extended slot marks self.now }
     {
         ListHead {
             first: self.first.or(Some(slot)),
             last: Some(slot),
             count: self.count + 1,
-            may_pend: self.may_pend || may_pend,
+            marks,
         }
     }
 
-    /// Returns the ends after a slot with these links has left the list.
-    fn without(&self, gone: Links) -> ListHead
+    /// Returns the ends after a slot with these links has left the list, with these marks of the others.
+    fn without(&self, gone: Links, marks: Marks) -> ListHead
         requires { 0 < self.now.count }
-        ensures { result ≡ without_slot gone self.now }
+        ensures { result ≡ without_slot gone marks self.now }
     {
         let first = if gone.prev.is_none() {
             gone.next
@@ -75,7 +78,11 @@ impl ListHead {
                 self.last
             },
             count: self.count - 1,
-            may_pend: first.is_some() && self.may_pend,
+            marks: if first.is_some() {
+                marks
+            } else {
+                Marks::none()
+            },
         }
     }
 }
@@ -212,25 +219,21 @@ pub fn ends_of(heads: &NumberIndex<ListHead>, pid: Pid) -> ListHead
 }
 
 /// Adds the slot of a new row to the list of its process. Returns the slot before it, if any.
-pub fn join(
-    heads: &mut NumberIndex<ListHead>,
-    pid: Pid,
-    slot: usize,
-    may_pend: bool,
-) -> Option<usize>
+pub fn join(heads: &mut NumberIndex<ListHead>, row: &LwpData, slot: usize) -> Option<usize>
     requires room { 0 < spare heads.old }
-    requires count { (ends_at heads.old.entries pid).count < 18446744073709551615 }
-    ensures before { result ≡ (ends_at heads.old.entries pid).last }
-    ensures ends { (q : ℕ) → ends_at heads.new.entries q ≡ (if nat_eq pid q then extended slot may_pend (ends_at heads.old.entries q) else ends_at heads.old.entries q) }
+    requires count { (ends_at heads.old.entries row.now.pid).count < 18446744073709551615 }
+    ensures before { result ≡ (ends_at heads.old.entries row.now.pid).last }
+    ensures ends { (q : ℕ) → ends_at heads.new.entries q ≡ (if nat_eq row.now.pid q then extended slot (gathered (ends_at heads.old.entries q).marks row.now) (ends_at heads.old.entries q) else ends_at heads.old.entries q) }
     ensures spare { spare heads.old ≤ spare heads.new + 1 }
 {
-    if let Some(ends) = heads.get_mut(&pid.get()) {
+    if let Some(ends) = heads.get_mut(&row.pid.get()) {
         let before = ends.last;
-        *ends = ends.extended(slot, may_pend);
+        *ends = ends.extended(slot, ends.marks.gathered(row));
         return before;
     }
+    let ends = ListHead::empty();
     heads
-        .insert(pid.get(), ListHead::empty().extended(slot, may_pend))
+        .insert(row.pid.get(), ends.extended(slot, ends.marks.gathered(row)))
         .unwrap();
     None
 }
@@ -238,52 +241,36 @@ pub fn join(
 /// Takes a slot that had this row and links out of the list of its process.
 pub fn leave(heads: &mut NumberIndex<ListHead>, gone: &RowNode)
     requires { 0 < (ends_at heads.old.entries gone.now.row.pid).count }
-    ensures ends { (q : ℕ) → ends_at heads.new.entries q ≡ (if nat_eq gone.now.row.pid q then without_slot gone.now.own (ends_at heads.old.entries q) else ends_at heads.old.entries q) }
+    ensures ends { (q : ℕ) → ends_at heads.new.entries q ≡ (if nat_eq gone.now.row.pid q then without_slot gone.now.own (left (ends_at heads.old.entries q).marks gone.now.row.tid) (ends_at heads.old.entries q) else ends_at heads.old.entries q) }
     ensures spare { spare heads.new ≡ spare heads.old }
 {
     if let Some(ends) = heads.get_mut(&gone.row.pid.get()) {
-        *ends = ends.without(gone.own);
+        *ends = ends.without(gone.own, ends.marks.left(gone.row.tid));
     }
 }
 
-/// Tests whether a row of a list may have pending signals, if one before this row may have some or not.
-pub fn may_pend_with(before: bool, row: &LwpData) -> bool
-    ensures { result ≡ (before || not (row.now.pending == 0)) }
-{
-    before || !row.pending.is_empty()
-}
-
-/// Notes whether a row of a process may have pending signals. Changes nothing if the process has no rows.
-fn mark(heads: &mut NumberIndex<ListHead>, pid: Pid, may_pend: bool)
-    ensures ends { (q : ℕ) → ends_at heads.new.entries q ≡ (if nat_eq pid q then marked may_pend (ends_at heads.old.entries q) else ends_at heads.old.entries q) }
+/// Gives the list of a process these marks. Changes nothing if the process has no rows.
+pub fn mark(heads: &mut NumberIndex<ListHead>, pid: Pid, marks: Marks)
+    ensures ends { (q : ℕ) → ends_at heads.new.entries q ≡ (if nat_eq pid q then marked marks (ends_at heads.old.entries q) else ends_at heads.old.entries q) }
     ensures spare { spare heads.new ≡ spare heads.old }
 {
     if let Some(ends) = heads.get_mut(&pid.get()) {
         if ends.first.is_some() {
-            ends.may_pend = may_pend;
+            ends.marks = marks;
         }
     }
 }
 
-/// Does what `mark` does, if the ends said `before`.
-pub fn mark_change(heads: &mut NumberIndex<ListHead>, pid: Pid, before: bool, may_pend: bool)
-    requires { before ≡ (ends_at heads.old.entries pid).may_pend }
-    ensures ends { (q : ℕ) → ends_at heads.new.entries q ≡ (if nat_eq pid q then marked may_pend (ends_at heads.old.entries q) else ends_at heads.old.entries q) }
+/// Notes in the marks of its process that the row has replaced the one before. Changes nothing if neither has traits.
+pub fn note(heads: &mut NumberIndex<ListHead>, before: &LwpData, row: &LwpData)
+    ensures ends { (q : ℕ) → ends_at heads.new.entries q ≡ (if nat_eq row.now.pid q && not (is_bare (traits_of before.now) && is_bare (traits_of row.now)) then marked (noted (ends_at heads.old.entries row.now.pid).marks row.now) (ends_at heads.old.entries q) else ends_at heads.old.entries q) }
     ensures spare { spare heads.new ≡ spare heads.old }
 {
-    if before != may_pend {
-        mark(heads, pid, may_pend);
+    if Traits::of(before).is_bare() && Traits::of(row).is_bare() {
+        return;
     }
-}
-
-/// Notes that a row of its process may have pending signals, if this one has some.
-pub fn note(heads: &mut NumberIndex<ListHead>, row: &LwpData)
-    ensures ends { (q : ℕ) → ends_at heads.new.entries q ≡ (if nat_eq row.now.pid q then marked ((ends_at heads.old.entries row.now.pid).may_pend || not (row.now.pending == 0)) (ends_at heads.old.entries q) else ends_at heads.old.entries q) }
-    ensures spare { spare heads.new ≡ spare heads.old }
-{
-    if !row.pending.is_empty() {
-        mark(heads, row.pid, true);
-    }
+    let marks = ends_of(heads, row.pid).marks.noted(row);
+    mark(heads, row.pid, marks);
 }
 
 /// Returns the index, among the users, of the user whose block contains the number.
@@ -294,35 +281,29 @@ fn user_place(tid: Tid) -> usize
     owner_of_tid(tid.get()).unwrap().slot()
 }
 
-/// Returns the ends of the list of the user at this place.
-pub fn user_ends(users: &Vec<ListHead>, place: usize) -> ListHead
-    requires { place < length users.now.items }
-    ensures { result ≡ get_or users.now.items place empty_head }
-{
-    users[place]
-}
-
 /// Adds the slot of a new row with this number to the list of its user. Returns the slot before it, if any.
-pub fn join_user(users: &mut Vec<ListHead>, tid: Tid, slot: usize) -> Option<usize>
-    requires long { length users.old.items ≡ 64 }
+pub fn join_user(users: &mut UserHeads, tid: Tid, slot: usize) -> Option<usize>
+    requires room { 0 < users.old.spare }
     requires count { place_of tid < 64 → (get_or users.old.items (place_of tid) empty_head).count < 18446744073709551615 }
     ensures before { result ≡ (get_or users.old.items (place_of tid) empty_head).last }
-    ensures ends { users.new.items ≡ set users.old.items (place_of tid) (extended slot false (get_or users.old.items (place_of tid) empty_head)) }
+    ensures ends { users.new.items ≡ set users.old.items (place_of tid) (extended slot no_marks (get_or users.old.items (place_of tid) empty_head)) }
     ensures below { place_of tid < 64 }
+    ensures spare { users.old.spare ≤ users.new.spare + 1 }
 {
     let place = user_place(tid);
-    let before = users[place].last;
-    users[place] = users[place].extended(slot, false);
-    before
+    let ends = users.at(place);
+    users.set(place, ends.extended(slot, Marks::none()));
+    ends.last
 }
 
 /// Takes a slot that had this row and links out of the list of its user.
-pub fn leave_user(users: &mut Vec<ListHead>, gone: &RowNode)
-    requires long { length users.old.items ≡ 64 }
+pub fn leave_user(users: &mut UserHeads, gone: &RowNode)
     requires count { place_of gone.now.row.tid < 64 → 0 < (get_or users.old.items (place_of gone.now.row.tid) empty_head).count }
-    ensures ends { users.new.items ≡ set users.old.items (place_of gone.now.row.tid) (without_slot gone.now.user (get_or users.old.items (place_of gone.now.row.tid) empty_head)) }
+    ensures ends { users.new.items ≡ set users.old.items (place_of gone.now.row.tid) (without_slot gone.now.user no_marks (get_or users.old.items (place_of gone.now.row.tid) empty_head)) }
     ensures below { place_of gone.now.row.tid < 64 }
+    ensures spare { users.new.spare ≡ users.old.spare }
 {
     let place = user_place(gone.row.tid);
-    users[place] = users[place].without(gone.user);
+    let ends = users.at(place);
+    users.replace(place, ends.without(gone.user, Marks::none()));
 }

@@ -9,18 +9,21 @@
 //! with another row or none, which a look-up sees, and `heads` to the ends of an empty list. So an index has at most an
 //! entry for each number that a row has had.
 
-ghost use Rattle.std.specs.Prelude.{◌≡◌, ◌==◌, ◌+◌, ◌<◌, ◌≤◌, ◌++◌, [], ◌∷◌, false, IsSome, IsSomeAnd, OnOk, IfOk, count_by, filter, map, option_map, slice_get};
+ghost use Rattle.std.specs.Prelude.{◌≡◌, ◌==◌, ◌+◌, ◌<◌, ◌≤◌, ◌++◌, [], ◌∷◌, false, IsSome, IsSomeAnd, OnOk, IfOk, count_by, filter, map, option_map, slice_get, if◌then◌else◌};
 ghost use Rattle.pid_blocks.specs.Blocks.{tid_owner};
 ghost use Rattle.std.specs.Fn.{FnReturnsAt};
-ghost use Rattle.lwp_table.specs.Lwps.{lwp_of, lwps_of, first_lwp, next_lwp, has_lwp, with_lwp, without_lwp, own_lwp, KeepsNumbers, ComputesRows, LeavesQuiet, Differ};
+ghost use Rattle.lwp_table.specs.Lwps.{lwp_of, lwps_of, first_lwp, next_lwp, has_lwp, with_lwp, without_lwp, own_lwp, KeepsNumbers, ComputesRows, Differ};
+ghost use Rattle.lwp_table.specs.Marks.{Spares};
 
 use crate::LwpData;
 use crate::hasher::NumberIndex;
 use crate::hints::Hints;
 use crate::links::{
-    Link, Links, ListHead, RowNode, close_up, ends_of, join, join_user, leave, leave_user,
-    mark_change, may_pend_with, next_born, node_of, note, set_link, slot_of, user_ends,
+    Link, Links, ListHead, RowNode, close_up, ends_of, join, join_user, leave, leave_user, mark,
+    next_born, node_of, note, set_link, slot_of,
 };
+use crate::marks::{Marks, Traits};
+use crate::user_heads::UserHeads;
 use crate::walks::{OfProcess, OfUser};
 use pid_blocks::{Pid, Tid, Uid};
 use slab::Slab;
@@ -38,7 +41,7 @@ pub struct LwpTable {
     hints: Hints,
     heads: NumberIndex<ListHead>,
     births: usize,
-    users: Vec<ListHead>,
+    users: UserHeads,
 }
 
 impl Model for LwpTable {
@@ -46,16 +49,16 @@ impl Model for LwpTable {
     ghost use Rattle.slab.specs.Slab.{slab_len, get};
     ghost use Rattle.indexmap.specs.IndexMap.{spare};
     ghost use Rattle.lwp_table.specs.Lwps.{Lwps};
-    ghost use Rattle.lwp_table.specs.Kept.{rows_of, may_pend, LwpTableInvariant};
+    ghost use Rattle.lwp_table.specs.Kept.{rows_of, covering, LwpTableInvariant};
 
     ghost Value = { Lwps };
 
     ghost view = { λ t. record {
       rows = rows_of (get t.rows) t.slots.entries t.births;
-      spare = min (min (t.rows.capacity - slab_len t.rows) (spare t.slots)) (min (spare t.heads) (18446744073709551615 - t.births));
+      spare = min (min (t.rows.capacity - slab_len t.rows) (spare t.slots)) (min (min (spare t.heads) t.users.spare) (18446744073709551615 - t.births));
     } };
 
-    ghost invariant = { λ t. LwpTableInvariant (get t.rows) t.slots.entries t.heads.entries t.births t.users.items (may_pend t.heads.entries) };
+    ghost invariant = { λ t. LwpTableInvariant (get t.rows) t.slots.entries t.heads.entries t.births t.users.items (covering t.heads.entries) };
 }
 
 impl Clone for LwpTable {
@@ -81,15 +84,13 @@ impl LwpTable {
     pub fn new(alloc: Global) -> Result<LwpTable, AllocError>
         ensures { IfOk result (λ table. table.rows ≡ []) }
     {
-        let ends = [ListHead::empty(); 64];
-        let users = Vec::from_slice(alloc, &ends)?;
         Ok(LwpTable {
             rows: Slab::new(alloc),
             slots: NumberIndex::with_hasher(alloc, BuildHasherDefault::new()),
-            hints: Hints::new(alloc)?,
+            hints: Hints::new(alloc),
             heads: NumberIndex::with_hasher(alloc, BuildHasherDefault::new()),
             births: 0,
-            users,
+            users: UserHeads::new(alloc),
         })
     }
 
@@ -104,7 +105,9 @@ impl LwpTable {
         }
         self.rows.reserve(count)?;
         self.slots.reserve(count)?;
-        self.heads.reserve(count)
+        self.heads.reserve(count)?;
+        self.users.reserve(count)?;
+        self.hints.reserve(&self.slots, count)
     }
 
     /// Adds a row at the end. Allocates nothing.
@@ -116,7 +119,7 @@ impl LwpTable {
     {
         let slot = self.rows.vacant_key();
         let own = Links {
-            prev: join(&mut self.heads, row.pid, slot, !row.pending.is_empty()),
+            prev: join(&mut self.heads, &row, slot),
             next: None,
         };
         let user = Links {
@@ -169,10 +172,11 @@ impl LwpTable {
         ensures rows { self.new.rows ≡ with_lwp row self.old.rows }
         ensures spare { self.new.spare ≡ self.old.spare }
     {
-        note(&mut self.heads, &row);
         let slot = slot_of(&self.rows, &self.slots, &self.hints, row.tid);
         let place = &mut self.rows[slot];
+        let before = place.row;
         place.row = row;
+        note(&mut self.heads, &before, &row);
     }
 
     /// Changes each row of this process in its place. A row keeps its number and its process.
@@ -183,29 +187,53 @@ impl LwpTable {
         ensures rows { (change : LwpData → LwpData) → ComputesRows (FnReturnsAt F.Fn edit) self.old.rows change → self.new.rows ≡ map (own_lwp pid change) self.old.rows }
         ensures spare { self.new.spare ≡ self.old.spare }
     {
-        let ends = ends_of(&self.heads, pid);
-        let mut may_pend = false;
-        let mut link = ends.first;
+        let mut marks = Marks::none();
+        let mut link = ends_of(&self.heads, pid).first;
         while let Some(at) = link {
             let slot = &mut self.rows[at];
             slot.row = edit(&slot.row);
-            may_pend = may_pend_with(may_pend, &slot.row);
+            marks = marks.gathered(&slot.row);
             link = slot.own.next;
         }
-        mark_change(&mut self.heads, pid, ends.may_pend, may_pend);
+        mark(&mut self.heads, pid, marks);
     }
 
-    /// Changes each row of this process in its place, by a change that leaves rows without pending signals as they are.
-    /// A row keeps its number and its process. Looks at no row if none has had pending signals since the last change.
-    pub fn edit_pending_of<F: Fn(&LwpData) -> LwpData>(&mut self, pid: Pid, edit: F)
+    /// Changes the row with this number in its place, if it's a row of this process.
+    fn edit_one<F: Fn(&LwpData) -> LwpData>(&mut self, pid: Pid, tid: Tid, edit: &F)
+        requires callable { F.IsAlwaysCallable edit.now }
+        requires keeps { KeepsNumbers (FnReturnsAt F.Fn edit.now) self.old.rows }
+        ensures rows { (change : LwpData → LwpData) → ComputesRows (FnReturnsAt F.Fn edit.now) self.old.rows change → self.new.rows ≡ map (own_lwp pid (λ l. if l.tid == tid then change l else l)) self.old.rows }
+        ensures spare { self.new.spare ≡ self.old.spare }
+    {
+        if let Some(row) = self.get(tid) {
+            if row.pid == pid {
+                self.set(edit(&row));
+            }
+        }
+    }
+
+    /// Changes each row of this process in its place, by a change that leaves rows without the touched traits as they
+    /// are. A row keeps its number and its process. Looks at no row if none may have such a trait, and only at one if no
+    /// other may.
+    pub fn edit_touched_of<F: Fn(&LwpData) -> LwpData>(
+        &mut self,
+        pid: Pid,
+        touched: &Traits,
+        edit: F,
+    )
         requires callable { F.IsAlwaysCallable edit }
         requires keeps { KeepsNumbers (FnReturnsAt F.Fn edit) self.old.rows }
         // the rows by the definition, for any such change that the closure computes on the rows
-        ensures rows { (change : LwpData → LwpData) → ComputesRows (FnReturnsAt F.Fn edit) self.old.rows change → LeavesQuiet change → self.new.rows ≡ map (own_lwp pid change) self.old.rows }
+        ensures rows { (change : LwpData → LwpData) → ComputesRows (FnReturnsAt F.Fn edit) self.old.rows change → Spares touched.now change → self.new.rows ≡ map (own_lwp pid change) self.old.rows }
         ensures spare { self.new.spare ≡ self.old.spare }
     {
-        if ends_of(&self.heads, pid).may_pend {
+        let marks = ends_of(&self.heads, pid).marks;
+        if marks.all.meets(touched) {
             self.edit_of(pid, edit);
+        } else if marks.own.meets(touched) {
+            if let Some(tid) = marks.sole {
+                self.edit_one(pid, tid, &edit);
+            }
         }
     }
 
@@ -282,7 +310,7 @@ impl LwpTable {
             slots: &self.slots,
             births: self.births,
             place,
-            link: user_ends(&self.users, place).first,
+            link: self.users.at(place).first,
         }
     }
 
@@ -299,6 +327,6 @@ impl LwpTable {
         ensures count { result ≡ count_by (λ l. tid_owner l.tid == uid) self.now.rows }
         ensures differ { Differ self.now.rows }
     {
-        user_ends(&self.users, uid.slot()).count
+        self.users.at(uid.slot()).count
     }
 }

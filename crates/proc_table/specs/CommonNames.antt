@@ -1,5 +1,5 @@
 -- The words of other crates, and the types of this one, that these definitions use, from one place.
-pub use Rattle.proc_table.specs.Members.{member, room}
+pub use Rattle.proc_table.specs.Members.{member}
 pub use Rattle.event_masks.specs.Exits.{no_events}
 pub use Rattle.lwp_table.specs.Chain.{IsChain, leads_to}
 pub use Rattle.lwp_table.specs.Kept.{listing}

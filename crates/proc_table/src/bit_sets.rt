@@ -1,10 +1,11 @@
-//! Sets of numbers below a bound, with a bit for each number.
+//! Sets of numbers below 65536, with a bit for each number of a page that was begun.
 //!
 //! A walk over a user's processes goes by rising number, and a host has room for 64,000 of them. `next` finds the
-//! next number of the set by whole words of 64 bits: the least greater member, or none exactly if there is none.
+//! next number of the set by whole words of 64 bits: the least greater member, or none exactly if there is none. A page
+//! of 1,024 bits gets its memory with its first number, so the set of a few users' processes is small.
 
-ghost use Rattle.std.specs.Prelude.{◌≡◌, ◌≢◌, ℕ, ◌<◌, ◌≤◌, ◌*◌, true, false, not, get_or, ◌/◌, IfSome, IfNone, IfOk, if◌then◌else◌};
-ghost use Rattle.proc_table.specs.Members.{has_bit, member, room};
+ghost use Rattle.std.specs.Prelude.{◌≡◌, ◌≢◌, ℕ, ◌+◌, ◌<◌, ◌≤◌, true, false, not, ◌/◌, IfSome, IfNone, OnOk, if◌then◌else◌};
+ghost use Rattle.proc_table.specs.Members.{has_bit, member, word_at, max_number, IsBegun};
 
 use std::alloc::{AllocError, Global};
 use std::marker::Model;
@@ -12,27 +13,46 @@ use std::marker::Model;
 /// The number of bits in a word.
 const WIDTH: u32 = 64;
 
-/// A set of numbers below the bound that it was created with.
+/// The number of words in a page.
+const WORDS: u32 = 16;
+
+/// The number of pages.
+const PAGES: usize = 64;
+
+/// The index of a page that was not begun.
+const NONE: u8 = 255;
+
+/// A set of numbers below 65536.
 #[derive(Drop)]
 pub struct NumberSet {
-    words: Vec<u64>,
+    /// The index of each page among `pages`, or `NONE`.
+    indices: [u8; PAGES],
+    pages: Vec<[u64; WORDS as usize]>,
 }
 
 impl Model for NumberSet {
-    ghost use Rattle.std.specs.Prelude.{ℕ, List};
+    ghost use Rattle.std.specs.Prelude.{[], length, vec_capacity};
+    ghost use Rattle.lwp_table.specs.Places.{placed, room_of};
+    ghost use Rattle.proc_table.specs.Members.{Numbers, IsPaged};
 
-    ghost Value = { List ℕ };
+    ghost Value = { Numbers };
 
-    ghost view = { λ s. s.words.items };
+    ghost view = { λ s. record {
+      pages = placed [] s.pages.items s.indices;
+      spare = room_of (vec_capacity s.pages) (length s.pages.items);
+    } };
+
+    ghost invariant = { λ s. IsPaged s.indices s.pages.items };
 }
 
-/// Copies all words. Fails when out of memory.
+/// Copies all pages that were begun. Fails when out of memory.
 impl Clone for NumberSet {
-    ghost is_clone = { λ set copy. copy ≡ set };
+    ghost is_clone = { λ set copy. copy.pages ≡ set.pages };
 
     fn clone(&self) -> Result<NumberSet, AllocError> {
         Ok(NumberSet {
-            words: self.words.clone()?,
+            indices: self.indices,
+            pages: self.pages.clone()?,
         })
     }
 }
@@ -60,69 +80,117 @@ fn first_one(word: u64, from: u32) -> Option<u32>
 }
 
 impl NumberSet {
-    /// Returns an empty set with room for the numbers below 64 times `words`. Fails when out of memory.
-    pub fn new(alloc: Global, words: usize) -> Result<NumberSet, AllocError>
-        ensures none { IfOk result (λ s. (n : ℕ) → member s n ≡ false) }
-        ensures room { IfOk result (λ s. room s ≡ 64 * words) }
+    /// Returns an empty set, which takes no memory.
+    pub fn new(alloc: Global) -> NumberSet
+        ensures { (n : ℕ) → member result.pages n ≡ false }
     {
-        let mut set = NumberSet {
-            words: Vec::new(alloc),
-        };
-        set.words.resize(words, 0)?;
-        Ok(set)
+        NumberSet {
+            indices: [NONE; PAGES],
+            pages: Vec::new(alloc),
+        }
     }
 
-    /// Returns the word that contains the number's bit.
-    fn word(&self, number: u32) -> u64
-        requires { number < room self.now }
-        ensures { result ≡ get_or self.now (number / 64) 0 }
+    /// Makes room for `count` more numbers. Fails when out of memory.
+    #[tactic(auto, using(crate::proofs::Bits::few_pages))]
+    pub fn reserve(&mut self, count: usize) -> Result<(), AllocError>
+        ensures room { OnOk result (count ≤ self.new.spare) }
+        ensures pages { self.new.pages ≡ self.old.pages }
+        ensures spare { self.old.spare ≤ self.new.spare }
     {
-        self.words[(number / WIDTH) as usize]
+        let more = count.min(PAGES - self.pages.len());
+        self.pages.reserve(more)
+    }
+
+    /// Returns word `k`.
+    #[inline(always)]
+    #[tactic(auto, using(crate::proofs::Bits::word_past, crate::proofs::Bits::word_is))]
+    fn word(&self, k: u32) -> u64
+        ensures { result ≡ word_at self.now.pages k }
+    {
+        let Some(index) = self.indices.get((k / WORDS) as usize) else {
+            return 0;
+        };
+        match self.pages.get(*index as usize) {
+            Some(page) => page[(k % WORDS) as usize],
+            None => 0,
+        }
+    }
+
+    /// Begins the page of word `k`, if it was not begun. Allocates nothing.
+    #[tactic(auto, using(crate::proofs::Bits::few_pages, crate::proofs::Bits::free_page, crate::proofs::Bits::begun_page, crate::proofs::Bits::paged_with, crate::proofs::Bits::words_with, crate::proofs::Bits::begun_with))]
+    fn begin_page(&mut self, k: u32)
+        requires number { k < 1024 }
+        requires room { 0 < self.old.spare }
+        ensures begun { IsBegun self.new.pages k }
+        ensures words { (j : ℕ) → word_at self.new.pages j ≡ word_at self.old.pages j }
+        ensures spare { self.old.spare ≤ self.new.spare + 1 }
+    {
+        let place = (k / WORDS) as usize;
+        if (self.indices[place] as usize) < self.pages.len() {
+            return;
+        }
+        self.indices[place] = self.pages.len() as u8;
+        self.pages.push_reserved([0; WORDS as usize]);
+    }
+
+    /// Replaces word `k`, whose page was begun.
+    #[tactic(auto, using(crate::proofs::Bits::begun_index, crate::proofs::Bits::paged_set, crate::proofs::Bits::word_put, crate::proofs::Bits::others_put))]
+    fn set_word(&mut self, k: u32, word: u64)
+        requires number { k < 1024 }
+        requires begun { IsBegun self.old.pages k }
+        ensures word { word_at self.new.pages k ≡ word }
+        ensures others { (j : ℕ) → j ≢ k → word_at self.new.pages j ≡ word_at self.old.pages j }
+        ensures spare { self.new.spare ≡ self.old.spare }
+    {
+        let index = self.indices[(k / WORDS) as usize] as usize;
+        self.pages[index][(k % WORDS) as usize] = word;
     }
 
     /// Tests whether the set contains the number.
     pub fn contains(&self, number: u32) -> bool
-        ensures { result ≡ member self.now number }
+        ensures { result ≡ member self.now.pages number }
     {
-        match self.words.get((number / WIDTH) as usize) {
-            Some(word) => word >> (number % WIDTH) & 1 == 1,
-            None => false,
-        }
+        self.word(number / WIDTH) >> (number % WIDTH) & 1 == 1
     }
 
-    /// Adds the number to the set.
+    /// Adds the number to the set. Allocates nothing.
     pub fn insert(&mut self, number: u32)
-        requires { number < room self.old }
-        ensures there { member self.new number ≡ true }
-        ensures others { (n : ℕ) → n ≢ number → member self.new n ≡ member self.old n }
-        ensures room { room self.new ≡ room self.old }
+        requires number { number < max_number }
+        requires room { 0 < self.old.spare }
+        ensures there { member self.new.pages number ≡ true }
+        ensures others { (n : ℕ) → n ≢ number → member self.new.pages n ≡ member self.old.pages n }
+        ensures spare { self.old.spare ≤ self.new.spare + 1 }
     {
-        let word = self.word(number) | 1 << (number % WIDTH);
-        self.words[(number / WIDTH) as usize] = word;
+        let k = number / WIDTH;
+        self.begin_page(k);
+        let word = self.word(k) | 1 << (number % WIDTH);
+        self.set_word(k, word);
     }
 
-    /// Removes the number from the set.
+    /// Removes the number from the set, which contains it.
     pub fn remove(&mut self, number: u32)
-        requires { number < room self.old }
-        ensures gone { member self.new number ≡ false }
-        ensures others { (n : ℕ) → n ≢ number → member self.new n ≡ member self.old n }
-        ensures room { room self.new ≡ room self.old }
+        requires number { number < max_number }
+        requires there { member self.old.pages number ≡ true }
+        ensures gone { member self.new.pages number ≡ false }
+        ensures others { (n : ℕ) → n ≢ number → member self.new.pages n ≡ member self.old.pages n }
+        ensures spare { self.new.spare ≡ self.old.spare }
     {
-        let word = self.word(number) & !(1 << (number % WIDTH));
-        self.words[(number / WIDTH) as usize] = word;
+        let k = number / WIDTH;
+        let word = self.word(k) & !(1 << (number % WIDTH));
+        self.set_word(k, word);
     }
 
     /// Returns the first number from `from` to below `end` that is in the set, or, if `wanted` is false, that isn't.
     pub fn next(&self, wanted: bool, from: u32, end: u32) -> Option<u32>
-        requires { end ≤ room self.now }
-        ensures some { IfSome result (λ r. (from ≤ r) × (r < end) × (member self.now r ≡ wanted)
-            × ((n : ℕ) → from ≤ n → n < r → member self.now n ≡ not wanted)) }
-        ensures none { IfNone result ((n : ℕ) → from ≤ n → n < end → member self.now n ≡ not wanted) }
+        requires { end ≤ max_number }
+        ensures some { IfSome result (λ r. (from ≤ r) × (r < end) × (member self.now.pages r ≡ wanted)
+            × ((n : ℕ) → from ≤ n → n < r → member self.now.pages n ≡ not wanted)) }
+        ensures none { IfNone result ((n : ℕ) → from ≤ n → n < end → member self.now.pages n ≡ not wanted) }
     {
         let mut at = from;
         while at < end {
             let base = at / WIDTH * WIDTH;
-            let word = marks(self.word(at), wanted);
+            let word = marks(self.word(at / WIDTH), wanted);
             if let Some(place) = first_one(word, at % WIDTH) {
                 let number = base + place;
                 return if number < end { Some(number) } else { None };

@@ -66,7 +66,8 @@ pub struct Processes {
     nodes: Slab<RowNode>,
     slots: NumberIndex<usize>,
     hints: Hints,
-    counts: [usize; 64],
+    /// The number of each user's rows, at most 1000.
+    counts: [u16; 64],
 }
 
 impl Model for Processes {
@@ -109,7 +110,7 @@ impl Processes {
         Ok(Processes {
             nodes: Slab::new(alloc),
             slots: NumberIndex::with_hasher(alloc, BuildHasherDefault::new()),
-            hints: Hints::new(alloc)?,
+            hints: Hints::new(alloc),
             counts,
         })
     }
@@ -121,7 +122,8 @@ impl Processes {
         ensures spare { self.old.spare ≤ self.new.spare }
     {
         self.nodes.reserve(count)?;
-        self.slots.reserve(count)
+        self.slots.reserve(count)?;
+        self.hints.reserve(&self.slots, count)
     }
 
     /// Returns a reference to the row with this number, if any.
@@ -223,7 +225,7 @@ impl Processes {
     pub fn count(&self, uid: Uid) -> usize
         ensures { result ≡ count_by (λ p. p.uid == uid) self.now.rows }
     {
-        self.counts[uid.slot()]
+        self.counts[uid.slot()] as usize
     }
 
     /// Adds a row. Allocates nothing.

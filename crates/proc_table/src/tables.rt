@@ -3,7 +3,8 @@
 ghost use Rattle.std.specs.Prelude.{◌≡◌, ℕ, ◌+◌, ◌-◌, ◌*◌, ◌<◌, ◌≤◌, ◌^◌, ◌==◌, Bool, true, false, None, IsSome, IsSomeAnd, OnOk, IfOk, IfSome, count_by, ltb, filter, length, get_or, map, option_map, slice_get};
 ghost use Rattle.pid_blocks.specs.Users.{IsUser};
 ghost use Rattle.pid_blocks.specs.Blocks.{slot, users, pid_block, tid_block, first_free, next_free, InBlock};
-ghost use Rattle.lwp_table.specs.Lwps.{first_lwp, lwp_of, next_lwp, put_lwp, ComputesRows, LeavesQuiet};
+ghost use Rattle.lwp_table.specs.Lwps.{first_lwp, lwp_of, next_lwp, put_lwp, ComputesRows};
+ghost use Rattle.lwp_table.specs.Marks.{Spares};
 ghost use Rattle.proc_table.specs.Processes.{process_of};
 ghost use Rattle.proc_table.specs.Rows.{change_process};
 ghost use Rattle.proc_table.specs.Seen.{visible_process, seen_lwp, find_seen, owns};
@@ -16,16 +17,13 @@ ghost use Rattle.proc_table.specs.Kept.{TableInvariant, IsRow, InOwnBlock, Named
 use crate::ProcData;
 use crate::bit_sets::NumberSet;
 use crate::processes::Processes;
-use lwp_table::{LwpData, LwpTable, OfUser};
+use lwp_table::{LwpData, LwpTable, OfUser, Traits};
 use pid_blocks::{
     FIRST_PID, FIRST_TID, PIDS, Pid, TIDS, Tid, Uid, cursor_after, next_free, pid_block, tid_block,
 };
 use signals::SigSet;
 use std::alloc::{AllocError, Global};
 use std::marker::Model;
-
-/// The number of words that have a bit for each process number of all users.
-const PID_WORDS: usize = 1000;
 
 /// The rows of processes and LWPs, and the users' cursors.
 #[derive(Drop)]
@@ -39,6 +37,7 @@ pub struct Tables {
 }
 
 impl Model for Tables {
+    ghost use Rattle.std.specs.Prelude.{min};
     ghost use Rattle.proc_table.specs.Kept.{Table};
     ghost use Rattle.proc_table.specs.Indexed.{IsIndexed};
 
@@ -46,11 +45,11 @@ impl Model for Tables {
 
     ghost view = { λ t. record {
       rows = record { processes = t.processes.rows; lwps = t.lwps.rows; pid_cursors = t.pid_cursors; tid_cursors = t.tid_cursors };
-      spare_processes = t.processes.spare;
+      spare_processes = min t.processes.spare t.pids.spare;
       spare_lwps = t.lwps.spare;
     } };
 
-    ghost invariant = { λ t. IsIndexed t.pids (record { processes = t.processes.rows; lwps = t.lwps.rows; pid_cursors = t.pid_cursors; tid_cursors = t.tid_cursors }) };
+    ghost invariant = { λ t. IsIndexed t.pids.pages (record { processes = t.processes.rows; lwps = t.lwps.rows; pid_cursors = t.pid_cursors; tid_cursors = t.tid_cursors }) };
 }
 
 impl Clone for Tables {
@@ -90,7 +89,7 @@ impl Tables {
     {
         Ok(Tables {
             processes: Processes::new(alloc)?,
-            pids: NumberSet::new(alloc, PID_WORDS)?,
+            pids: NumberSet::new(alloc),
             lwps: LwpTable::new(alloc)?,
             pid_cursors: cursors(FIRST_PID, PIDS),
             tid_cursors: cursors(FIRST_TID, TIDS),
@@ -104,7 +103,8 @@ impl Tables {
         ensures spare { self.old.spare_processes ≤ self.new.spare_processes }
         ensures others { self.new.spare_lwps ≡ self.old.spare_lwps }
     {
-        self.processes.reserve(count)
+        self.processes.reserve(count)?;
+        self.pids.reserve(count)
     }
 
     /// Makes room for `count` more LWPs. Fails when out of memory. The rows stay unchanged.
@@ -477,17 +477,23 @@ impl Tables {
         self.lwps.edit_of(pid, edit);
     }
 
-    /// Changes each LWP of a process in its place, by a change that leaves LWPs without pending signals as they are. An
-    /// LWP keeps its number and its process. It looks at no LWP if none has had pending signals since the last change.
-    pub fn edit_pending_lwps<F: Fn(&LwpData) -> LwpData>(&mut self, pid: Pid, edit: F)
+    /// Changes each LWP of a process in its place, by a change that leaves LWPs without the touched traits as they are.
+    /// An LWP keeps its number and its process. It looks at no LWP if none may have such a trait, and only at one if no
+    /// other may.
+    pub fn edit_touched_lwps<F: Fn(&LwpData) -> LwpData>(
+        &mut self,
+        pid: Pid,
+        touched: &Traits,
+        edit: F,
+    )
         requires callable { F.IsAlwaysCallable edit }
-        requires change { (change : LwpData → LwpData) × IsLwpChange (FnReturnsAt F.Fn edit) self.old.rows.lwps change × LeavesQuiet change }
+        requires change { (change : LwpData → LwpData) × IsLwpChange (FnReturnsAt F.Fn edit) self.old.rows.lwps change × Spares touched.now change }
         // the rows by the definition, for any such change that the closure computes on the rows
-        ensures rows { (change : LwpData → LwpData) → ComputesRows (FnReturnsAt F.Fn edit) self.old.rows.lwps change → LeavesQuiet change → self.new.rows ≡ map_lwps pid change self.old.rows }
+        ensures rows { (change : LwpData → LwpData) → ComputesRows (FnReturnsAt F.Fn edit) self.old.rows.lwps change → Spares touched.now change → self.new.rows ≡ map_lwps pid change self.old.rows }
         ensures spare { self.new.spare_lwps ≡ self.old.spare_lwps }
         ensures others { self.new.spare_processes ≡ self.old.spare_processes }
     {
-        self.lwps.edit_pending_of(pid, edit);
+        self.lwps.edit_touched_of(pid, touched, edit);
     }
 
     /// Removes a process that no row names.

@@ -9,6 +9,7 @@ pub mod DisposedRows
 pub mod NextOther
 pub mod RemainAfterPost
 pub mod KillReaches
+pub mod NothingPosted
 pub mod Outcomes
 pub mod RefusalsChangeNothing
 pub mod IsolationOfNewRows
@@ -24,6 +25,7 @@ pub mod SoundAfterMask
 pub mod StoppedTracee
 pub mod SoundAfterRequest
 pub mod ClosesChain
+pub mod InstalledLists
 pub mod SoundAfterSignal
 pub mod RunProgram
 pub mod SoundAfterLwpChange

@@ -3,7 +3,7 @@
 ghost use Rattle.std.specs.Prelude.{◌≡◌, ℕ, ◌≤◌, ◌<◌, ◌++◌, ◌∷◌, [], Some, None, map, filter, length, set, get_or, option_map, slice_get, OnOk, OnErr, IfOk};
 ghost use Rattle.pid_blocks.specs.Blocks.{slot, users};
 ghost use Rattle.trace_rows.specs.Sound.{is_live_at};
-ghost use Rattle.requests.specs.Machine.{Installed};
+ghost use Rattle.requests.specs.Machine.{Installed, lists_of};
 ghost use Rattle.requests.specs.Handle.{decided, is_decline, policies_in};
 
 use pid_blocks::{Pid, Uid};
@@ -162,7 +162,7 @@ pub fn is_live(tables: &Tables, pid: Pid) -> bool
     }
 }
 
-/// The installed handlers of all users' debuggers.
+/// The installed handlers of all users' debuggers: a list of each user, or none before the first handler.
 #[derive(Drop)]
 pub struct HandlerTable<F: Decider + Send + Drop> {
     users: Vec<HandlerList<F>>,
@@ -170,32 +170,41 @@ pub struct HandlerTable<F: Decider + Send + Drop> {
 
 impl<F: Decider + Send + Drop> Model for HandlerTable<F> {
     ghost use Rattle.std.specs.Prelude.{◌≡◌, List, length};
-    ghost use Rattle.requests.specs.Machine.{Installed};
+    ghost use Rattle.requests.specs.Machine.{Installed, lists_of};
 
     ghost Value = { List (List Installed) };
 
-    ghost view = { λ t. t.users.items };
+    ghost view = { λ t. lists_of t.users.items };
 
-    ghost invariant = { λ t. length t.users.items ≡ 64 };
+    ghost invariant = { λ t. length (lists_of t.users.items) ≡ 64 };
+}
+
+/// Returns a list without handlers for each user. An error means out of memory.
+fn empty_lists<F: Decider + Send + Drop>(alloc: Global) -> Result<Vec<HandlerList<F>>, AllocError>
+    ensures { IfOk result (λ lists. lists.items ≡ map (λ u. []) users) }
+{
+    let mut lists = Vec::with_capacity(alloc, 64)?;
+    for _ in 0u32..64 {
+        lists.push(HandlerList::new(alloc))?;
+    }
+    Ok(lists)
 }
 
 impl<F: Decider + Send + Drop> HandlerTable<F> {
-    /// Creates a table without handlers. An error means out of memory.
-    pub fn new(alloc: Global) -> Result<HandlerTable<F>, AllocError>
-        ensures { IfOk result (λ t. t ≡ map (λ u. []) users) }
+    /// Creates a table without handlers, which takes no memory.
+    pub fn new(alloc: Global) -> HandlerTable<F>
+        ensures { result ≡ map (λ u. []) users }
     {
-        let mut lists = Vec::with_capacity(alloc, 64)?;
-        for _ in 0u32..64 {
-            lists.push(HandlerList::new(alloc))?;
+        HandlerTable {
+            users: Vec::new(alloc),
         }
-        Ok(HandlerTable { users: lists })
     }
 
     /// Returns a table of handlers that answer by these policies. An error means out of memory.
     pub fn copy(&self, alloc: Global) -> Result<HandlerTable<ByPolicy>, AllocError>
         ensures { IfOk result (λ t. t ≡ self.now) }
     {
-        let mut lists = Vec::with_capacity(alloc, 64)?;
+        let mut lists = Vec::with_capacity(alloc, self.users.len())?;
         for list in &self.users {
             lists.push(list.copy(alloc)?)?;
         }
@@ -203,22 +212,29 @@ impl<F: Decider + Send + Drop> HandlerTable<F> {
     }
 
     /// Returns how many handlers the user's debuggers have installed.
+    #[tactic(auto, using(crate::proofs::InstalledLists::listed))]
     pub fn count(&self, user: Uid) -> usize
         ensures { result ≡ length (get_or self.now (slot user) []) }
     {
-        self.users[user.slot()].len()
+        match self.users.get(user.slot()) {
+            Some(list) => list.len(),
+            None => 0,
+        }
     }
 
     /// Returns the debugger and the policy of the user's handler at this index.
+    #[tactic(auto, using(crate::proofs::InstalledLists::listed))]
     pub fn at(&self, user: Uid, index: usize) -> Option<(Pid, Policy)>
         ensures { result ≡ option_map (λ i. (i.debugger, i.policy)) (slice_get (get_or self.now (slot user) []) index) }
     {
-        self.users[user.slot()].at(index)
+        self.users.get(user.slot())?.at(index)
     }
 
     /// Adds a handler of a debugger of the user. An error means out of memory, and changes nothing.
+    #[tactic(auto, using(crate::proofs::InstalledLists::listed, crate::proofs::InstalledLists::there))]
     pub fn install(
         &mut self,
+        alloc: Global,
         user: Uid,
         debugger: Pid,
         handler: Handler<F>,
@@ -226,21 +242,35 @@ impl<F: Decider + Send + Drop> HandlerTable<F> {
         ensures done { OnOk result (self.new ≡ set self.old (slot user) (get_or self.old (slot user) [] ++ (record { debugger = debugger; policy = handler } ∷ []))) }
         ensures refused { OnErr result (self.new ≡ self.old) }
     {
+        if self.users.is_empty() {
+            self.users = empty_lists(alloc)?;
+        }
         self.users[user.slot()].push(debugger, handler)
     }
 
     /// Returns what the handlers of the user's debugger decide about a stop.
+    #[tactic(auto, using(crate::proofs::InstalledLists::listed))]
     pub fn decided(&self, user: Uid, debugger: Pid, view: &StopView) -> Decided
         requires { length (get_or self.now (slot user) []) ≤ 64 }
         ensures { result ≡ decided (policies_in debugger (get_or self.now (slot user) [])) 0 view.now }
     {
-        self.users[user.slot()].decided(debugger, view)
+        match self.users.get(user.slot()) {
+            Some(list) => list.decided(debugger, view),
+            None => Decided {
+                index: None,
+                decision: Decision::Decline,
+            },
+        }
     }
 
     /// Drops the handlers of the user's processes that have ended.
+    #[tactic(auto, using(crate::proofs::InstalledLists::listed, crate::proofs::InstalledLists::none_dropped, crate::proofs::InstalledLists::put))]
     pub fn drop_ended(&mut self, user: Uid, tables: &Tables)
         ensures { self.new ≡ set self.old (slot user) (filter (λ i. is_live_at i.debugger tables.now.rows) (get_or self.old (slot user) [])) }
     {
-        self.users[user.slot()].drop_ended(tables);
+        let Some(list) = self.users.get_mut(user.slot()) else {
+            return;
+        };
+        list.drop_ended(tables);
     }
 }

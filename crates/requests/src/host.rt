@@ -84,10 +84,9 @@ impl<F: Decider + Send + Drop> Host<F> {
         ensures { IfOk result (λ host. host ≡ empty settings) }
     {
         let tables = Tables::new(alloc)?;
-        let handlers = HandlerTable::new(alloc)?;
         Ok(Host {
             tables,
-            handlers,
+            handlers: HandlerTable::new(alloc),
             settings,
         })
     }
@@ -159,7 +158,13 @@ impl<F: Decider + Send + Drop> Host<F> {
 
     /// Installs a handler of the caller. Refused with EAGAIN if the user's debuggers have 64. An error means out of
     /// memory, and changes nothing.
-    fn install(&mut self, user: Uid, number: u32, handler: Handler<F>) -> Result<Reply, AllocError>
+    fn install(
+        &mut self,
+        alloc: Global,
+        user: Uid,
+        number: u32,
+        handler: Handler<F>,
+    ) -> Result<Reply, AllocError>
         requires { IsUser user }
         ensures { Tries user (op.Install number handler) self.old self.new result }
     {
@@ -170,7 +175,7 @@ impl<F: Decider + Send + Drop> Host<F> {
         if self.handlers.count(user) >= MAX_HANDLERS {
             return Ok(Reply::Errno(Errno::EAGAIN));
         }
-        match self.handlers.install(user, caller.pid, handler) {
+        match self.handlers.install(alloc, user, caller.pid, handler) {
             Ok(()) => Ok(Reply::Done),
             Err(refused) => Err(refused),
         }
@@ -222,7 +227,7 @@ impl<F: Decider + Send + Drop> Host<F> {
         let Step::Install { caller, handler } = step else {
             unreachable!()
         };
-        attempted_reply(self.install(user, caller, handler))
+        attempted_reply(self.install(alloc, user, caller, handler))
     }
 
     /// Makes a step of the user as `step` does, if it needs no handler. For an install it returns `None` and changes

@@ -1,6 +1,8 @@
 //! Signals that kill(2) sends.
 
-ghost use Rattle.std.specs.Prelude.{◌≡◌, ◌==◌, negsuc, filter, option_map};
+ghost use Rattle.std.specs.Prelude.{◌≡◌, ◌==◌, ◌&&◌, not, true, negsuc, filter, option_map};
+ghost use Rattle.signals.specs.Table.{SIGKILL, opposed};
+ghost use Rattle.trace_rows.specs.Post.{posted_set};
 ghost use Rattle.proc_table.specs.Processes.{process_of, of_user};
 ghost use Rattle.proc_table.specs.Seen.{visible_process};
 ghost use Rattle.proc_table.specs.Kept.{TableInvariant};
@@ -9,12 +11,26 @@ ghost use Rattle.requests.specs.Outcome.{Gives};
 ghost use Rattle.requests.specs.Kill.{reach, post_if_live, reached, kill, next_other};
 
 use crate::Reply;
-use crate::handlers::is_live;
 use pid_blocks::{Errno, Pid, Uid};
-use proc_table::Tables;
-use signals::Pass;
+use proc_table::{ProcData, Tables};
+use signals::{Pass, SigSet, Signal};
 use trace_rows::Settings;
 use trace_stop::post;
+
+/// Tests whether the post of the signal to the process leaves all rows as they are: the signal is pending already or is
+/// discarded, and takes no other one away.
+fn posts_nothing(process: &ProcData, signal: Signal) -> bool
+    ensures { result ≡ (not (signal == SIGKILL) && ((opposed signal == 0) && (posted_set signal true process.now process.now.pending == process.now.pending))) }
+{
+    let opposed = SigSet::opposed(signal);
+    let unwanted = if process.tracer.is_some() {
+        SigSet::empty()
+    } else {
+        process.dispositions.nothing()
+    };
+    let posted = process.pending.difference(opposed).with(signal);
+    signal != Signal::KILL && opposed.is_empty() && posted.difference(unwanted) == process.pending
+}
 
 /// Posts the signal to the process with this number, if it exists and is live. Signal 0 is not posted.
 #[tactic(auto, using(crate::proofs::KillReaches::dead_posts))]
@@ -26,7 +42,10 @@ fn post_if_live(tables: &mut Tables, settings: Settings, pid: Pid, pass: Pass)
     let Some(signal) = pass.signal() else {
         return;
     };
-    if is_live(tables, pid) {
+    let Some(process) = tables.process(pid) else {
+        return;
+    };
+    if process.is_live() && !posts_nothing(&process, signal) {
         post(tables, settings, pid, signal);
     }
 }

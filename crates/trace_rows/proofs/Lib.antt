@@ -27,6 +27,7 @@ pub mod SoundAfterLink
 pub mod SoundAfterThread
 pub mod Found
 pub mod CommonNames
+pub mod OneEdited
 pub mod CommonLemmas
 pub mod FilteredLists
 pub mod IsolationRelation

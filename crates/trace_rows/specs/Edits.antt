@@ -1,11 +1,10 @@
 -- Changes of all LWPs of one process.
-use Rattle.trace_rows.specs.CommonNames.{ℕ, false, without, LwpData, Nothing, is_this, Edit, Settle, Post, Step, Detach}
+use Rattle.std.specs.Int.RustNames.{bit_or}
+use Rattle.lwp_table.specs.Marks.{no_traits}
+use Rattle.lwp_table.specs.declared.marks.Traits.{Traits}
+use Rattle.trace_rows.specs.CommonNames.{ℕ, true, false, Option, Some, None, opposed, Stepping, without, LwpData, Nothing, is_this, Edit, Settle, Post, Step, Detach}
 use Rattle.trace_rows.specs.Detach.{steps}
 use Rattle.trace_rows.specs.Post.{signal_put}
-
--- an LWP whose pending set loses the signals of two sets
-abbrev pub pending_taken : ℕ → ℕ → LwpData → LwpData
-pending_taken opposed lost l = record l { pending = without (without l.pending opposed) lost }
 
 -- an LWP after a change
 abbrev pub edited : Edit → LwpData → LwpData
@@ -13,3 +12,28 @@ edited (Settle lost) l = record l { pending = without l.pending lost }
 edited (Post s to lost) l = record l { pending = without (signal_put s (is_this l.tid to) l.pending) lost }
 edited (Step stepping) l = steps stepping l
 edited (Detach lost unwanted) l = record l { stepping = false; suspended = false; due = Nothing; pending = without (without l.pending lost) unwanted }
+
+-- the LWP for which a change is another one than for the other LWPs
+abbrev pub only : Edit → Option ℕ
+only (Settle lost) = None
+only (Post s to lost) = to
+only (Step Stepping.Unchanged) = None
+only (Step Stepping.Nobody) = None
+only (Step (Stepping.Only tid)) = Some tid
+only (Detach lost unwanted) = None
+
+-- the change of those
+abbrev pub of_others : Edit → Edit
+of_others (Settle lost) = Settle lost
+of_others (Post s to lost) = Post s None lost
+of_others (Step Stepping.Unchanged) = Step Stepping.Unchanged
+of_others (Step Stepping.Nobody) = Step Stepping.Nobody
+of_others (Step (Stepping.Only tid)) = Step Stepping.Nobody
+of_others (Detach lost unwanted) = Detach lost unwanted
+
+-- the traits that a change takes from LWPs
+abbrev pub touched : Edit → Traits
+touched (Settle lost) = record no_traits { pending = lost }
+touched (Post s to lost) = record no_traits { pending = bit_or (opposed s) lost }
+touched (Step stepping) = record no_traits { steps = true }
+touched (Detach lost unwanted) = record { pending = bit_or lost unwanted; steps = true; waits = false; held = true }

@@ -1,12 +1,12 @@
 //! Changes of all LWPs of one process.
 
-ghost use Rattle.std.specs.Prelude.{◌≡◌};
+ghost use Rattle.std.specs.Prelude.{◌≡◌, None};
 ghost use Rattle.proc_table.specs.Edits.{map_lwps};
-ghost use Rattle.trace_rows.specs.Edits.{edited, pending_taken};
+ghost use Rattle.trace_rows.specs.Edits.{edited, only, of_others, touched};
 ghost use Rattle.trace_rows.specs.Post.{signal_put};
 
 use crate::Stepping;
-use lwp_table::{Due, LwpData};
+use lwp_table::{Due, LwpData, Traits};
 use pid_blocks::{Pid, Tid};
 use proc_table::Tables;
 use signals::{SigSet, Signal};
@@ -42,6 +42,58 @@ pub enum Edit {
 }
 
 impl Edit {
+    /// Returns the number of the LWP for which the change is another one than for the other LWPs, if any.
+    fn only(&self) -> Option<Tid>
+        ensures { result ≡ only self.now }
+    {
+        match *self {
+            Edit::Post { to, .. } => to,
+            Edit::Step(Stepping::Only(tid)) => Some(tid),
+            _ => None,
+        }
+    }
+
+    /// Returns the change of the other LWPs.
+    fn of_others(&self) -> Edit
+        ensures { result ≡ of_others self.now }
+    {
+        match *self {
+            Edit::Post { signal, lost, .. } => Edit::Post {
+                signal,
+                to: None,
+                lost,
+            },
+            Edit::Step(Stepping::Only(_)) => Edit::Step(Stepping::Nobody),
+            edit => edit,
+        }
+    }
+
+    /// Returns the traits that the change takes from LWPs.
+    fn touched(&self) -> Traits
+        ensures { result ≡ touched self.now }
+    {
+        match *self {
+            Edit::Settle(lost) => Traits {
+                pending: lost,
+                ..Traits::none()
+            },
+            Edit::Post { signal, lost, .. } => Traits {
+                pending: SigSet::opposed(signal).union(lost),
+                ..Traits::none()
+            },
+            Edit::Step(_) => Traits {
+                steps: true,
+                ..Traits::none()
+            },
+            Edit::Detach { lost, unwanted } => Traits {
+                pending: lost.union(unwanted),
+                steps: true,
+                waits: false,
+                held: true,
+            },
+        }
+    }
+
     /// Returns the LWP after the change.
     fn of(&self, l: &LwpData) -> LwpData
         ensures { result ≡ edited self.now l.now }
@@ -73,31 +125,27 @@ impl Edit {
     }
 }
 
-/// Takes the signals of two sets out of the pending set of each LWP of a process. Looks at no LWP if none may have
-/// pending signals.
-fn take_pending(tables: &mut Tables, pid: Pid, opposed: SigSet, lost: SigSet)
-    ensures { tables.new.rows ≡ map_lwps pid (pending_taken opposed lost) tables.old.rows }
+/// Changes each LWP of a process, if the change makes no difference between them. Looks only at LWPs that it may touch.
+fn edit_alike(tables: &mut Tables, pid: Pid, edit: &Edit)
+    requires { only edit.now ≡ None }
+    ensures { tables.new.rows ≡ map_lwps pid (edited edit.now) tables.old.rows }
 {
-    tables.edit_pending_lwps(
-        pid,
-        |l| LwpData {
-            pending: l.pending.difference(opposed).difference(lost),
-            ..*l
-        },
-    );
+    tables.edit_touched_lwps(pid, &edit.touched(), |l| edit.of(l));
 }
 
-/// Changes each LWP of a process. Looks at the LWPs only if one may have pending signals, or the change is to others too.
+/// Changes each LWP of a process. Looks only at LWPs that the change may touch.
 pub fn edit_lwps(tables: &mut Tables, pid: Pid, edit: &Edit)
     ensures { tables.new.rows ≡ map_lwps pid (edited edit.now) tables.old.rows }
 {
-    match *edit {
-        Edit::Settle(lost) => take_pending(tables, pid, SigSet::empty(), lost),
-        Edit::Post {
-            signal,
-            to: None,
-            lost,
-        } => take_pending(tables, pid, SigSet::opposed(signal), lost),
-        _ => tables.edit_lwps(pid, |l| edit.of(l)),
+    let Some(tid) = edit.only() else {
+        edit_alike(tables, pid, edit);
+        return;
+    };
+    let found = tables.lwp(tid);
+    edit_alike(tables, pid, &edit.of_others());
+    if let Some(l) = found {
+        if l.pid == pid {
+            tables.set_lwp(edit.of(&l));
+        }
     }
 }

@@ -15,7 +15,7 @@ ghost use Rattle.trace_rows.specs.Sound.{is_live_at};
 ghost use Rattle.trace_stop.specs.Leaving.{IsLeaving, without_lwps, lwps_ended};
 
 use event_masks::EventMask;
-use lwp_table::{Due, LwpData, Mode};
+use lwp_table::{Due, LwpData, Mode, Traits};
 use pid_blocks::Pid;
 use proc_table::{ProcData, State, Tables};
 use signals::SigSet;
@@ -61,11 +61,16 @@ fn released(lwp: &LwpData, process: &ProcData, child: Pid) -> LwpData
 }
 
 /// Ends the waits of a process's LWPs for its child, as when the child ends or makes an exec. Each of these LWPs is
-/// in user mode again, and stops at its next turn if its tracer asks for it. Allocates nothing.
+/// in user mode again, and stops at its next turn if its tracer asks for it. Looks at no other
+/// LWP if only one may wait for a child. Allocates nothing.
 pub fn release(tables: &mut Tables, process: &ProcData, child: Pid)
     ensures { tables.new.rows ≡ map_lwps process.now.pid (released (λ n. n == child) process.now) tables.old.rows }
 {
-    tables.edit_lwps(process.pid, |lwp| released(lwp, process, child));
+    let waiting = Traits {
+        waits: true,
+        ..Traits::none()
+    };
+    tables.edit_touched_lwps(process.pid, &waiting, |lwp| released(lwp, process, child));
 }
 
 /// Returns the parent of a process, if the parent is a process. No process has the number 1.

@@ -1,4 +1,4 @@
-use Rattle.requests.proofs.CommonNames.{◌≡◌, ℕ, rules, arith, sym, ◌∙◌, Option, Some, None, ◌==◌, nat_tests, ProcData}
+use Rattle.requests.proofs.CommonNames.{◌≡◌, ℕ, arith, sym, ◌∙◌, Option, Some, None, ◌==◌, nat_tests, ProcData}
 use Rattle.std.specs.Option.{option_map}
 use Rattle.proc_table.specs.Walks.{next_of}
 use Rattle.requests.proofs.ProcessesAbove.{listed_next, listed_all, next_over}

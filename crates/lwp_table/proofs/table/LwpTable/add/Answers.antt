@@ -1,4 +1,4 @@
-use Rattle.lwp_table.proofs.CommonNames.{ap, sym, ◌∙◌, arith, nat_tests, has_lwp, ends_at, empty_head, get_or, place_of}
+use Rattle.lwp_table.proofs.CommonNames.{ap, sym, ◌∙◌, arith, has_lwp, ends_at, empty_head, get_or, place_of}
 use Rattle.slab.specs.Slab.{get as slot_get}
 use Rattle.lwp_table.proofs.WordLemmas.{lwp_of-fresh}
 use Rattle.lwp_table.proofs.KeptLemmas.{HasJoined, own_count, user_count, rows-added, LwpTableInvariant-added}
@@ -30,7 +30,7 @@ joins c =
 
 pub invariant_of-self : goal.invariant_of-self
 invariant_of-self c =
-    LwpTableInvariant-added c.self.invariant c.args.row c.vacant_key-slot.result _ _ (joins (goal.at.invariant_of-self c).After-unwrap) c.join.new.heads.entries _ c.join.ensures.ends (λ p none. none) (λ none. grind (arith, nat_tests, c.is_empty.ensures, none)) _ c.join_user.ensures.ends
+    LwpTableInvariant-added c.self.invariant c.args.row c.vacant_key-slot.result _ _ (joins (goal.at.invariant_of-self c).After-unwrap) c.join.new.heads.entries c.join.ensures.ends (λ p l told. told) _ c.join_user.ensures.ends
 
 pub returns-clause-rows : goal.returns-clause-rows
 returns-clause-rows c = rw (← c.self.view_is) (rows-added c.self.invariant c.args.row c.vacant_key-slot.result _ _ (joins (goal.at.returns-clause-rows c).After-unwrap))

@@ -1,23 +1,23 @@
-use Rattle.lwp_table.proofs.CommonNames.{nat_tests, rules, ◌+◌, refl, sym, ap, ◌∙◌, is_some, true≢false, arith, FnReturnsAt, option_map, Updates-with_value, own_node, may_pend, IsIndexed}
+use Rattle.lwp_table.proofs.CommonNames.{nat_tests, rules, ◌+◌, refl, ap, ◌∙◌, is_some, arith, FnReturnsAt, option_map, Updates-with_value, own_node, covering, IsIndexed}
 use Rattle.std.proofs.lemmas.Fn.{says_at}
 use Rattle.slab.specs.Slab.{get as slot_get}
-use Rattle.lwp_table.proofs.WordLemmas.{both_calm}
 use Rattle.lwp_table.proofs.KeptLemmas.{LwpTableInvariant-may, LwpTableInvariant-marked}
-use Rattle.lwp_table.proofs.EditLemmas.{left_at, left_in, unsaid, unsaid-own, editing-first, editing-there, here, old_row, editing-on, seen-on, seen-all, LwpTableInvariant-edited, editing-less}
+use Rattle.lwp_table.proofs.EditLemmas.{left_at, left_in, unsaid, unsaid-less, unsaid-own, editing-first, editing-there, here, old_row, editing-on, seen-on, seen-all, LwpTableInvariant-edited, editing-less}
 use Rattle.lwp_table.proofs.EditLemmas.{len-same, rows_of-edited}
 use Rattle.lwp_table.proofs.table.LwpTable.edit_of.Goals as goal
 
 pub loop-link-init : goal.loop-link-init
 loop-link-init g c = record {
-  kept = LwpTableInvariant-may c.self.invariant _ (unsaid c.args.pid (may_pend c.self.inside.heads.entries));
+  kept = LwpTableInvariant-may c.self.invariant (unsaid c.args.pid (covering c.self.inside.heads.entries)) (λ s slot there. unsaid-less c.args.pid (covering c.self.inside.heads.entries) slot.row.pid slot.row (c.self.invariant.covered s slot there));
   walk = (
     0,
-    editing-first (slot_get c.self.inside.rows) (FnReturnsAt g.F.Fn c.args.edit) c.args.pid c.ends_of-ends.result.first
-        (rw c.ends_of-ends.ensures ((c.self.invariant.own c.args.pid).first_is)),
-    λ none s slot there on less. absurd (omega (arith, less)),
+    editing-first (slot_get c.self.inside.rows) (FnReturnsAt g.F.Fn c.args.edit) c.args.pid c.ends_of-link.result.first
+        (rw c.ends_of-link.ensures ((c.self.invariant.own c.args.pid).first_is)),
+    λ s slot there on less. absurd (omega (arith, less)),
   );
   slots = refl;
   heads = refl;
+  users = refl;
   births = refl;
   capacity = refl;
   len = refl;
@@ -45,16 +45,17 @@ loop-link-preserved g c =
     let next = (kept.own c.args.pid).next_is c.in-Some.at (own_node old) (ap (option_map own_node) c.index_mut-slot.ensures.value) on.0 in
     let same = len-same c.loop-link.self-inside.rows c.in-Some.at old (record old { row = new }) c.index_mut-slot.ensures.value in
     record {
-      kept = LwpTableInvariant-edited kept c.in-Some.at old new _ (λ none. absurd (true≢false (sym (unsaid-own c.args.pid new.pid (may_pend c.loop-link.self-inside.heads.entries) (its.1 ∙ on.0)) ∙ none))) c.index_mut-slot.ensures.value its updates.changed updates.others;
+      kept = LwpTableInvariant-edited kept c.in-Some.at old new _ (unsaid-own c.args.pid new.pid (covering c.loop-link.self-inside.heads.entries) new (its.1 ∙ on.0)) c.index_mut-slot.ensures.value its updates.changed updates.others;
       walk = (
         old.born + 1,
         editing-on (slot_get c.self.inside.rows) f (FnReturnsAt g.F.Fn c.args.edit) c.args.pid c.loop-link.invariant.walk.0 c.in-Some.at walk old c.index_mut-slot.ensures.value new _ its.1 gave updates.changed updates.others
             kept.indexed.apart next,
-        seen-on (slot_get c.self.inside.rows) f (FnReturnsAt g.F.Fn c.args.edit) c.args.pid c.loop-link.invariant.walk.0 c.in-Some.at walk old c.index_mut-slot.ensures.value new _ its.1 gave updates.changed updates.others
-            kept.indexed.apart next c.loop-link.may_pend _ c.loop-link.invariant.walk.2 (λ none. both_calm c.loop-link.may_pend new.pending (sym c.may_pend_with-may_pend.ensures ∙ none)),
+        rw c.gathered-marks.ensures (seen-on (slot_get c.self.inside.rows) f (FnReturnsAt g.F.Fn c.args.edit) c.args.pid c.loop-link.invariant.walk.0 c.in-Some.at walk old c.index_mut-slot.ensures.value new _ its.1 gave updates.changed updates.others
+            kept.indexed.apart next c.loop-link.marks c.loop-link.invariant.walk.2),
       );
       slots = c.loop-link.invariant.slots;
       heads = c.loop-link.invariant.heads;
+      users = c.loop-link.invariant.users;
       births = c.loop-link.invariant.births;
       capacity = c.loop-link.invariant.capacity;
       len = same ∙ c.loop-link.invariant.len;
@@ -63,9 +64,9 @@ loop-link-preserved g c =
 pub invariant_of-self : goal.invariant_of-self
 invariant_of-self g c =
     let walk = rw c.in_default.is at c.loop-link.invariant.walk.1 in
-    LwpTableInvariant-marked c.loop-link.invariant.kept c.args.pid c.loop-link.may_pend _ c.mark_change.ensures.ends
-    (seen-all (slot_get c.self.inside.rows) (slot_get c.loop-link.self-inside.rows) (FnReturnsAt g.F.Fn c.args.edit) c.args.pid c.loop-link.invariant.walk.0 c.loop-link.may_pend walk c.loop-link.invariant.walk.2)
-    (λ p off none. rw off none)
+    LwpTableInvariant-marked c.loop-link.invariant.kept c.args.pid c.loop-link.marks _ c.mark.ensures.ends
+    (seen-all (slot_get c.self.inside.rows) (slot_get c.loop-link.self-inside.rows) (FnReturnsAt g.F.Fn c.args.edit) c.args.pid c.loop-link.invariant.walk.0 c.loop-link.marks walk c.loop-link.invariant.walk.2)
+    (λ s slot there off. rw off at (c.loop-link.invariant.kept.covered s slot there))
 
 pub returns-clause-rows : goal.returns-clause-rows
 returns-clause-rows g c = λ change computes.
@@ -80,4 +81,4 @@ returns-clause-rows g c = λ change computes.
     (rows_of-edited (slot_get c.self.inside.rows) f es births c.self.invariant.indexed after (FnReturnsAt g.F.Fn c.args.edit) c.args.pid c.loop-link.invariant.walk.0 walk change (rw (← seen) at computes))
 
 pub returns-clause-spare : goal.returns-clause-spare
-returns-clause-spare g c = rw (c.loop-link.invariant.capacity, c.loop-link.invariant.len, c.loop-link.invariant.slots, c.mark_change.ensures.spare, c.loop-link.invariant.heads, c.loop-link.invariant.births) (ap (λ v. v.spare) c.self.view_is)
+returns-clause-spare g c = rw (c.loop-link.invariant.capacity, c.loop-link.invariant.len, c.loop-link.invariant.slots, c.mark.ensures.spare, c.loop-link.invariant.heads, c.loop-link.invariant.users, c.loop-link.invariant.births) (ap (λ v. v.spare) c.self.view_is)

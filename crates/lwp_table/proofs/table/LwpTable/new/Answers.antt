@@ -1,4 +1,4 @@
-use Rattle.lwp_table.proofs.CommonNames.{None, ap, sym, subst, replicate, ◌∙◌, LwpTableInvariant, may_pend, slice_index_or}
+use Rattle.lwp_table.proofs.CommonNames.{None, ap, sym, subst, LwpTableInvariant, covering, slice_index_or}
 use Rattle.slab.specs.Slab.{get as slot_get}
 use Rattle.lwp_table.proofs.KeptLemmas.{LwpTableInvariant-none}
 use Rattle.lwp_table.proofs.table.LwpTable.new.Goals as goal
@@ -6,4 +6,4 @@ use Rattle.lwp_table.proofs.table.LwpTable.new.Goals as goal
 pub invariant_of-result : goal.invariant_of-result
 invariant_of-result c =
     let empty = LwpTableInvariant-none (slot_get c.new.result) c.with_hasher.result.entries c.with_hasher-2.result.entries (λ s. ap (λ xs. slice_index_or xs s None) c.new.ensures.empty) c.with_hasher.ensures.empty c.with_hasher-2.ensures.empty in
-    subst (λ us. LwpTableInvariant (slot_get c.new.result) c.with_hasher.result.entries c.with_hasher-2.result.entries 0 us (may_pend c.with_hasher-2.result.entries)) (sym (c.in_ok-users.ensures.items ∙ ap (replicate 64) c.empty-ends.ensures)) empty
+    subst (λ us. LwpTableInvariant (slot_get c.new.result) c.with_hasher.result.entries c.with_hasher-2.result.entries 0 us (covering c.with_hasher-2.result.entries)) (sym c.new-5.ensures) empty

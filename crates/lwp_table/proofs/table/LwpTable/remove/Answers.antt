@@ -13,8 +13,8 @@ remove-gone-requires c = slot_has (slot_get c.self.inside.rows) c.self.inside.sl
 pub leave-requires : goal.leave-requires
 leave-requires c = own_positive c.self.invariant c.slot_of-slot.result c.remove-gone.result c.remove-gone.ensures.value
 
-pub leave_user-requires-clause-count : goal.leave_user-requires-clause-count
-leave_user-requires-clause-count c = user_positive c.self.invariant c.slot_of-slot.result c.remove-gone.result c.remove-gone.ensures.value
+pub leave_user-requires : goal.leave_user-requires
+leave_user-requires c = record { count = user_positive c.self.invariant c.slot_of-slot.result c.remove-gone.result c.remove-gone.ensures.value }
 
 pub close_up-requires : goal.close_up-requires
 close_up-requires c =
@@ -35,7 +35,7 @@ leaves c = record {
 
 pub invariant_of-self : goal.invariant_of-self
 invariant_of-self c =
-    LwpTableInvariant-removed c.self.invariant c.args.tid c.slot_of-slot.result c.remove-gone.result _ (leaves c) c.leave.new.heads.entries c.leave.ensures.ends (λ p none. none) _ c.leave_user.ensures.ends
+    LwpTableInvariant-removed c.self.invariant c.args.tid c.slot_of-slot.result c.remove-gone.result _ (leaves c) c.leave.new.heads.entries c.leave.ensures.ends (λ p l told. told) _ c.leave_user.ensures.ends
 
 pub returns-clause-rows : goal.returns-clause-rows
 returns-clause-rows c = rw (← c.self.view_is) (rows-removed c.self.invariant c.args.tid c.slot_of-slot.result c.remove-gone.result _ (leaves c))

@@ -1,7 +1,7 @@
-use Rattle.lwp_table.proofs.CommonNames.{ap, is_some, Updates-with_value}
+use Rattle.lwp_table.proofs.CommonNames.{ap, is_some, true, refl, Updates-with_value}
 use Rattle.slab.specs.Slab.{get as slot_get}
-use Rattle.lwp_table.proofs.IndexLemmas.{some_and, leads, slot_has}
-use Rattle.lwp_table.proofs.KeptLemmas.{pids, noted, LwpTableInvariant-noted, LwpTableInvariant-set, rows-set}
+use Rattle.lwp_table.proofs.IndexLemmas.{some_and, leads, slot_has, row_there, other_there}
+use Rattle.lwp_table.proofs.KeptLemmas.{LwpTableInvariant-noted, LwpTableInvariant-set, rows-set}
 use Rattle.lwp_table.proofs.table.LwpTable.set.Goals as goal
 
 pub slot_of-slot-requires-clause-there : goal.slot_of-slot-requires-clause-there
@@ -18,9 +18,11 @@ invariant_of-self c =
     let updates = Updates-with_value c.self.inside.rows q (record old { row = row }) (ap is_some c.index_mut-place.ensures.value) in
     let its = rw (← c.self.view_is) at c.requires in
     let at = c.slot_of-slot.ensures in
-    let same = pids c.self.invariant row q old _ its at c.index_mut-place.ensures.value updates.changed updates.others in
-    LwpTableInvariant-set (LwpTableInvariant-noted c.self.invariant row c.note.new.heads.entries (λ p none. none) c.note.ensures.ends) row q old _ its at c.index_mut-place.ensures.value updates.changed updates.others
-    (noted c.self.invariant row c.note.new.heads.entries (λ p none. none) c.note.ensures.ends q old c.index_mut-place.ensures.value same)
+    let put = LwpTableInvariant-set c.self.invariant row q old _ its at c.index_mut-place.ensures.value updates.changed updates.others (λ p l. true) (λ s slot there. refl) in
+    let indexed = c.self.invariant.indexed in
+    LwpTableInvariant-noted put old.row row c.note.new.heads.entries c.note.ensures.ends
+    (λ s slot there same. row_there (slot_get c.self.inside.rows) _ q old row updates.changed updates.others _ _ indexed at s slot there same)
+    (λ s slot there off. c.self.invariant.covered s slot (other_there (slot_get c.self.inside.rows) _ q old row updates.changed updates.others s slot there off))
 
 pub returns-clause-rows : goal.returns-clause-rows
 returns-clause-rows c =

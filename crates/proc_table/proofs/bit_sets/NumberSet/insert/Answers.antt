@@ -1,15 +1,16 @@
-use Rattle.{std.proofs.{Common.{◌/◌, ◌%◌, length, ap, sym, ◌∙◌, arith, slice_index_or, nat_eq, w64}, lemmas.Nat.Bits.{bit_at_set_same, bit_at_set_other}}, proc_table.specs.Members.member}
+use Rattle.{std.{proofs.{Common.{◌/◌, ◌%◌, ap, ◌∙◌, arith, nat_eq, w64}, lemmas.Nat.Bits.{bit_at_set_same, bit_at_set_other}}}, proc_table.specs.Members.{word_at}}
 use Rattle.proc_table.proofs.Bits.{member-here, member-others}
 use Rattle.proc_table.proofs.bit_sets.NumberSet.insert.Goals as goal
 
 pub returns-clause-there : goal.returns-clause-there
 returns-clause-there c =
-    let word = slice_index_or c.self.inside.words.items (c.args.number / 64) 0 in
-    let read = c.word.ensures ∙ ap (λ words. slice_index_or words (c.args.number / 64) 0) (sym c.self.view_is) in
-    rw read (member-here c.self.inside.words.items c.args.number _ (omega (arith, ap length c.self.view_is)) ∙ ap (λ d. nat_eq d 1) (bit_at_set_same w64 word (c.args.number % 64) (omega arith)))
+    let old = word_at c.args.self.now.pages (c.args.number / 64) in
+    let read = c.word.ensures ∙ c.begin_page.ensures.words (c.args.number / 64) in
+    member-here c.set_word.new.self.pages c.args.number _ (c.set_word.ensures.word) ∙ rw read (ap (λ d. nat_eq d 1) (bit_at_set_same w64 old (c.args.number % 64) (omega arith)))
 
 pub returns-clause-others : goal.returns-clause-others
 returns-clause-others c =
-    let word = slice_index_or c.self.inside.words.items (c.args.number / 64) 0 in
-    let read = c.word.ensures ∙ ap (λ words. slice_index_or words (c.args.number / 64) 0) (sym c.self.view_is) in
-    λ n other. rw read (member-others c.self.inside.words.items c.args.number _ (omega (arith, ap length c.self.view_is)) (λ i below apart. ap (λ d. nat_eq d 1) (bit_at_set_other w64 word (c.args.number % 64) (omega arith) i apart)) n other ∙ ap (λ words. member words n) c.self.view_is)
+    let old = word_at c.args.self.now.pages (c.args.number / 64) in
+    let read = c.word.ensures ∙ c.begin_page.ensures.words (c.args.number / 64) in
+    member-others c.args.self.now.pages c.set_word.new.self.pages c.args.number _ c.set_word.ensures.word (λ j apart. c.set_word.ensures.others j apart ∙ c.begin_page.ensures.words j)
+    (λ i below apart. rw read (ap (λ d. nat_eq d 1) (bit_at_set_other w64 old (c.args.number % 64) (omega arith) i apart)))

@@ -5,7 +5,7 @@ use Rattle.proc_table.proofs.bit_sets.NumberSet.next.Given as goal
 abbrev pub invariant-loop-at : goal.invariant-loop-at
 invariant-loop-at l = record {
   reached : l.from ≤ l.at;
-  before : (n : ℕ) → l.from ≤ n → n < l.at → member l.self n ≡ not l.wanted;
+  before : (n : ℕ) → l.from ≤ n → n < l.at → member l.self.pages n ≡ not l.wanted;
 }
 
 abbrev pub decreases-loop-at : goal.decreases-loop-at

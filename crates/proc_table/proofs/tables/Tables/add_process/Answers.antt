@@ -9,4 +9,4 @@ pub add-requires-clause-named : goal.add-requires-clause-named
 add-requires-clause-named c = named_list_owners _ c.args.row (subst (λ v. Named v.rows c.args.row) (sym c.self.view_is) c.requires.named)
 
 pub invariant_of-self : goal.invariant_of-self
-invariant_of-self c = grind (arith, nat_tests, keeps-add_process, numbers-placed c.self.inside.pids c.insert.new.self c.self.inside.processes.rows c.self.invariant.numbers c.args.row c.self.invariant.kept.rising, Lacks-from_any)
+invariant_of-self c = grind (arith, nat_tests, keeps-add_process, numbers-placed c.self.inside.pids.pages c.insert.new.self.pages c.self.inside.processes.rows c.self.invariant.numbers c.args.row c.self.invariant.kept.rising, Lacks-from_any)

@@ -29,7 +29,7 @@ invariant_of-self c =
     let has = c.self.invariant in
     let there = subst (λ v. IsRow v.rows c.args.pid) (sym c.self.view_is) c.requires.there in
     let its = row _ has.kept c.args.pid there in
-    grind (arith, nat_tests, c.set_pending.ensures.rows its.0 its.1, stays _ has.kept c.args.pid there c.args.pending, numbers_set c.self.inside.pids)
+    grind (arith, nat_tests, c.set_pending.ensures.rows its.0 its.1, stays _ has.kept c.args.pid there c.args.pending, numbers_set c.self.inside.pids.pages)
 
 pub returns-clause-rows : goal.returns-clause-rows
 returns-clause-rows c =
