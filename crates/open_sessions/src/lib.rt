@@ -19,7 +19,6 @@ mod fault;
 pub mod flat;
 mod front;
 pub mod laws;
-pub mod members;
 mod same_steps;
 mod serve_fault;
 mod serving;

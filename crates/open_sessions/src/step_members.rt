@@ -1,9 +1,9 @@
 //! A step as JSON: the keys of docs/FORMAT.md in its order. A key whose value is that of a missing key is left out.
-use crate::members::{push_flags, push_name, push_nonzero, push_number, push_signals};
 use event_masks::{Call, EventMask};
 use json::Writer;
 use pid_blocks::Uid;
-use signals::Disposition;
+use reply_json::{push_flags, push_nonzero, push_number, push_string};
+use signals::{Disposition, SigSet};
 use std::alloc::{AllocError, Global};
 use step_types::{Act, Options, PlainStep, Request, Step};
 use stop_handlers::{Decision, Policy, Rule};
@@ -14,15 +14,15 @@ fn push_ptrace(
     target: u32,
     arg: u32,
 ) -> Result<(), AllocError> {
-    push_name(out, "request", request.name())?;
+    push_string(out, "request", request.name())?;
     if request == Request::TraceMe {
         return Ok(());
     }
-    push_number(out, "target", target)?;
+    push_number(out, "target", u64::from(target))?;
     if request == Request::SetEventMask {
         return push_flags(out, "mask", EventMask(arg));
     }
-    push_nonzero(out, "data", arg)
+    push_nonzero(out, "data", u64::from(arg))
 }
 
 fn push_which(out: &mut Writer, which: i64) -> Result<(), AllocError> {
@@ -53,19 +53,19 @@ fn push_wait4(out: &mut Writer, which: i64, options: Options) -> Result<(), Allo
 
 fn push_kill(out: &mut Writer, which: i64, signal: u32) -> Result<(), AllocError> {
     push_which(out, which)?;
-    push_number(out, "signal", signal)
+    push_number(out, "signal", u64::from(signal))
 }
 
 fn push_sigaction(out: &mut Writer, signal: u32, action: Disposition) -> Result<(), AllocError> {
-    push_number(out, "signal", signal)?;
-    push_name(out, "action", action.name())
+    push_number(out, "signal", u64::from(signal))?;
+    push_string(out, "action", action.name())
 }
 
 fn push_decision(out: &mut Writer, decision: &Decision) -> Result<(), AllocError> {
-    push_name(out, "decision", decision.kind().name())?;
+    push_string(out, "decision", decision.kind().name())?;
     match decision {
         Decision::Continue(pass) | Decision::Detach(pass) => {
-            push_nonzero(out, "pass", pass.number())
+            push_nonzero(out, "pass", u64::from(pass.number()))
         }
         Decision::Decline | Decision::Leave | Decision::Kill => Ok(()),
     }
@@ -74,7 +74,7 @@ fn push_decision(out: &mut Writer, decision: &Decision) -> Result<(), AllocError
 fn push_rule(out: &mut Writer, rule: &Rule) -> Result<(), AllocError> {
     out.begin_object()?;
     if let Some(signal) = rule.signal {
-        push_number(out, "signal", signal.number())?;
+        push_number(out, "signal", u64::from(signal.number()))?;
     }
     if rule.flags.0 != 0 {
         push_flags(out, "flags", rule.flags)?;
@@ -94,19 +94,29 @@ fn push_rules(out: &mut Writer, policy: &Policy) -> Result<(), AllocError> {
 }
 
 fn push_call(out: &mut Writer, call: &Call) -> Result<(), AllocError> {
-    push_name(out, "call", call.kind().name())?;
+    push_string(out, "call", call.kind().name())?;
     match call {
-        Call::Exit(code) => push_number(out, "code", u32::from(*code)),
-        Call::Other(code) => push_number(out, "code", *code),
+        Call::Exit(code) => push_number(out, "code", u64::from(*code)),
+        Call::Other(code) => push_number(out, "code", u64::from(*code)),
         Call::Fork | Call::Vfork | Call::Exec | Call::ThrNew | Call::ThrExit => Ok(()),
     }
 }
 
+/// Writes the numbers of the signals of a set.
+fn push_signals(out: &mut Writer, name: &str, set: SigSet) -> Result<(), AllocError> {
+    out.key(name)?;
+    out.begin_array()?;
+    for signal in set.signals() {
+        out.u64(u64::from(signal.number()))?;
+    }
+    out.end_array()
+}
+
 fn push_turn(out: &mut Writer, lwp: u32, act: &Act) -> Result<(), AllocError> {
-    push_number(out, "lwp", lwp)?;
-    push_name(out, "act", act.kind().name())?;
+    push_number(out, "lwp", u64::from(lwp))?;
+    push_string(out, "act", act.kind().name())?;
     match act {
-        Act::Raise(signal) => push_number(out, "signal", *signal),
+        Act::Raise(signal) => push_number(out, "signal", u64::from(*signal)),
         Act::Block(set) => push_signals(out, "set", *set),
         Act::Enter(call) => push_call(out, call),
         Act::Compute | Act::Leave => Ok(()),
@@ -116,7 +126,7 @@ fn push_turn(out: &mut Writer, lwp: u32, act: &Act) -> Result<(), AllocError> {
 /// Writes the number of the process that makes the call. A turn and a spawn have none.
 fn push_caller<H>(out: &mut Writer, step: &Step<H>) -> Result<(), AllocError> {
     match step.caller() {
-        Some(caller) => push_number(out, "caller", caller),
+        Some(caller) => push_number(out, "caller", u64::from(caller)),
         None => Ok(()),
     }
 }
@@ -156,7 +166,7 @@ pub fn push_step<H>(
     step: &Step<H>,
     policy: Option<&Policy>,
 ) -> Result<(), AllocError> {
-    push_name(out, "op", step.kind().name())?;
+    push_string(out, "op", step.kind().name())?;
     push_caller(out, step)?;
     push_keys(out, step, policy)
 }
@@ -169,7 +179,7 @@ pub(crate) fn step_line(alloc: Global, user: Uid, step: &PlainStep) -> Result<Ve
     };
     let mut out = Writer::new(Vec::new(alloc));
     out.begin_object()?;
-    push_number(&mut out, "user", user.get())?;
+    push_number(&mut out, "user", u64::from(user.get()))?;
     push_step(&mut out, step, policy)?;
     out.end_object()?;
     Ok(out.into_inner())

@@ -16,6 +16,12 @@ const ROW: u32 = 1;
 /// After the last row.
 const END: u32 = 0;
 
+/// The numbers of a row at most.
+const ROW_WORDS: usize = 16;
+
+/// The setting, the cursors, and what ends the three lists.
+const FRAME_WORDS: usize = 6;
+
 /// Adds the numbers of a process's row.
 fn push_process(row: &ProcData, out: &mut Vec<u32>) -> Result<(), AllocError>
     ensures { OnOk result (out.new.items ≡ out.old.items ++ (1 ∷ process_words row.now)) }
@@ -137,7 +143,9 @@ fn push_handlers(handlers: &[(Pid, Policy)], out: &mut Vec<u32>) -> Result<(), A
 pub(crate) fn words_of(alloc: Global, view: &View) -> Result<Vec<u32>, AllocError>
     ensures { IfOk result (λ words. words.items ≡ view_words view.now) }
 {
-    let mut out = Vec::new(alloc);
+    let rows = view.processes.len().saturating_add(view.lwps.len());
+    let room = rows.saturating_mul(ROW_WORDS).saturating_add(FRAME_WORDS);
+    let mut out = Vec::with_capacity(alloc, room)?;
     out.push(flag(view.settings.kill_on_debugger_exit))?;
     out.push(view.pid_cursor)?;
     out.push(view.tid_cursor)?;

@@ -1,4 +1,5 @@
 pub mod CommonNames
+pub mod ShortLines
 pub mod BindLemmas
 pub mod WriteLemmas
 pub mod LineLemmas

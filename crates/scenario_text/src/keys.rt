@@ -109,28 +109,49 @@ pub(crate) enum Key {
 pub(crate) fn key_named(text: &str) -> Option<Key>
     ensures { result ≡ key_named text.now }
 {
-    match text {
+    match text.len() {
         // tools/format names
-        "user" => Some(Key::User),
-        "op" => Some(Key::Op),
-        "caller" => Some(Key::Caller),
-        "lwp" => Some(Key::Lwp),
-        "act" => Some(Key::Act),
-        "which" => Some(Key::Which),
-        "request" => Some(Key::Request),
-        "target" => Some(Key::Target),
-        "data" => Some(Key::Data),
-        "call" => Some(Key::Call),
-        "code" => Some(Key::Code),
-        "signal" => Some(Key::Signal),
-        "options" => Some(Key::Options),
-        "action" => Some(Key::Action),
-        "rules" => Some(Key::Rules),
-        "set" => Some(Key::Set),
-        "mask" => Some(Key::Mask),
-        "flags" => Some(Key::Flags),
-        "decision" => Some(Key::Decision),
-        "pass" => Some(Key::Pass),
+        2 => match text {
+            "op" => Some(Key::Op),
+            _ => None,
+        },
+        3 => match text {
+            "lwp" => Some(Key::Lwp),
+            "act" => Some(Key::Act),
+            "set" => Some(Key::Set),
+            _ => None,
+        },
+        4 => match text {
+            "user" => Some(Key::User),
+            "data" => Some(Key::Data),
+            "call" => Some(Key::Call),
+            "code" => Some(Key::Code),
+            "mask" => Some(Key::Mask),
+            "pass" => Some(Key::Pass),
+            _ => None,
+        },
+        5 => match text {
+            "which" => Some(Key::Which),
+            "rules" => Some(Key::Rules),
+            "flags" => Some(Key::Flags),
+            _ => None,
+        },
+        6 => match text {
+            "caller" => Some(Key::Caller),
+            "target" => Some(Key::Target),
+            "signal" => Some(Key::Signal),
+            "action" => Some(Key::Action),
+            _ => None,
+        },
+        7 => match text {
+            "request" => Some(Key::Request),
+            "options" => Some(Key::Options),
+            _ => None,
+        },
+        8 => match text {
+            "decision" => Some(Key::Decision),
+            _ => None,
+        },
         // end
         _ => None,
     }

@@ -6,6 +6,7 @@ ghost use Rattle.scenario_text.specs.Plan.{asked};
 ghost use Rattle.scenario_text.specs.Steps.{fields_in, step_of};
 ghost use Rattle.scenario_text.specs.Streams.{Reads, ReadsMembers, with_atom, with_named, with_value};
 ghost use Rattle.scenario_text.specs.Keys.{key_named};
+ghost use Rattle.scenario_text.specs.declared.keys.Key.TheVariants as key;
 
 use crate::arrays::read_set;
 use crate::atoms::{integer, text, user_in, word};
@@ -74,6 +75,58 @@ fn set(fields: &mut Fields, key: Key, atom: &Scalar<'_>)
     }
 }
 
+/// Reads the rules of a policy. It is apart, so that other keys need no room for a policy.
+#[inline(never)]
+fn read_policy_rules(
+    reader: &mut Tokens<'_>,
+    depth: usize,
+    fields: &mut Fields,
+) -> Result<(), Invalid>
+    requires { 2 < depth }
+    ensures value { Reads (λ _ d. fields.new ≡ with_value key.Rules d fields.old) depth result reader.old reader.new }
+    ensures shorter { OnOk result (length reader.new < length reader.old) }
+{
+    fields.rules = read_rules(reader, depth)?;
+    Ok(())
+}
+
+/// Reads the options of a wait4.
+#[inline(never)]
+fn read_options(reader: &mut Tokens<'_>, depth: usize, fields: &mut Fields) -> Result<(), Invalid>
+    requires { 2 < depth }
+    ensures value { Reads (λ _ d. fields.new ≡ with_value key.Options d fields.old) depth result reader.old reader.new }
+    ensures shorter { OnOk result (length reader.new < length reader.old) }
+{
+    let none = Options {
+        untraced: false,
+        continued: false,
+    };
+    fields.options = read_set(reader, depth, none)?;
+    Ok(())
+}
+
+/// Reads a set of signals.
+#[inline(never)]
+fn read_signals(reader: &mut Tokens<'_>, depth: usize, fields: &mut Fields) -> Result<(), Invalid>
+    requires { 2 < depth }
+    ensures value { Reads (λ _ d. fields.new ≡ with_value key.Set d fields.old) depth result reader.old reader.new }
+    ensures shorter { OnOk result (length reader.new < length reader.old) }
+{
+    fields.set = read_set(reader, depth, SigSet::empty())?;
+    Ok(())
+}
+
+/// Reads an event mask.
+#[inline(never)]
+fn read_mask(reader: &mut Tokens<'_>, depth: usize, fields: &mut Fields) -> Result<(), Invalid>
+    requires { 2 < depth }
+    ensures value { Reads (λ _ d. fields.new ≡ with_value key.Mask d fields.old) depth result reader.old reader.new }
+    ensures shorter { OnOk result (length reader.new < length reader.old) }
+{
+    fields.mask = read_set(reader, depth, EventMask::none())?;
+    Ok(())
+}
+
 /// Reads the value of a key.
 fn read_value(
     reader: &mut Tokens<'_>,
@@ -86,22 +139,16 @@ fn read_value(
     ensures shorter { OnOk result (length reader.new < length reader.old) }
 {
     match key {
-        Key::Options => {
-            let none = Options {
-                untraced: false,
-                continued: false,
-            };
-            fields.options = read_set(reader, depth, none)?;
-        }
-        Key::Rules => fields.rules = read_rules(reader, depth)?,
-        Key::Set => fields.set = read_set(reader, depth, SigSet::empty())?,
-        Key::Mask => fields.mask = read_set(reader, depth, EventMask::none())?,
+        Key::Options => read_options(reader, depth, fields),
+        Key::Rules => read_policy_rules(reader, depth, fields),
+        Key::Set => read_signals(reader, depth, fields),
+        Key::Mask => read_mask(reader, depth, fields),
         _ => {
             let atom = next_scalar(reader, depth)?;
             set(fields, key, &atom);
+            Ok(())
         }
     }
-    Ok(())
 }
 
 /// Reads the value of the key with this name.

@@ -13,7 +13,6 @@ use crate::fields::{Fields, KeyError};
 use crate::members::read_step;
 use crate::parsing::MAX_DEPTH;
 use crate::stop::Stop;
-use json::Scratch;
 use json_values::Tokens;
 use pid_blocks::Uid;
 use std::alloc::Global;
@@ -23,7 +22,7 @@ use step_types::PlainStep;
 pub const MAX_STEP_BYTES: usize = 65536;
 
 /// Returns the step of a text, or its first flaw.
-fn read_text(text: &str, scratch: &mut Scratch) -> Result<Result<(Uid, PlainStep), KeyError>, Stop>
+fn read_text(text: &str, scratch: &mut Vec<u8>) -> Result<Result<(Uid, PlainStep), KeyError>, Stop>
     ensures { TriesText (λ x d. Gives asked x (step_of d)) (read text.now) result }
 {
     let mut reader = Tokens::new(text, scratch)?;
@@ -38,14 +37,14 @@ fn read_text(text: &str, scratch: &mut Scratch) -> Result<Result<(Uid, PlainStep
 /// Reads steps one after another, and uses the memory of one again for the next. It keeps room for the longest text.
 #[derive(Drop)]
 pub struct StepReader {
-    scratch: Scratch,
+    scratch: Vec<u8>,
 }
 
 impl StepReader {
     /// Creates a reader, which takes memory only once it reads.
     pub fn new(alloc: Global) -> StepReader {
         StepReader {
-            scratch: Scratch::new(alloc),
+            scratch: Vec::new(alloc),
         }
     }
 

@@ -17,7 +17,6 @@ use crate::listing::{Listed, read_steps};
 use crate::plan::{MAX_STEPS, Scenario};
 use crate::step_list::StepList;
 use crate::stop::Stop;
-use json::Scratch;
 use json_values::{Opening, Tokens, next_scalar, open_value, pass_items, pass_value};
 use std::alloc::Global;
 use step_types::Settings;
@@ -176,7 +175,7 @@ fn read_text(alloc: Global, text: &str) -> Result<Result<Scenario, Fault>, Stop>
     ensures scenario { TriesText (λ r d. Yields (λ s. s) r (plan_of d)) (read text.now) result }
     ensures no_read { IfOk result (λ r. IfErr r (λ e. e ≢ ReadFault)) }
 {
-    let mut scratch = Scratch::new(alloc);
+    let mut scratch = Vec::new(alloc);
     let mut reader = Tokens::new(text, &mut scratch)?;
     let scenario = read_scenario(alloc, &mut reader)?;
     if reader.next().is_some() {

@@ -1,6 +1,6 @@
 //! What a text is read as, by the parser of scenarios and by `serde_json`.
 
-use json::{Invalid, Scratch};
+use json::Invalid;
 use json_values::{Opening, Scalar, Tokens, open_value, pass_value};
 use scenario_runs::{Fault, parse};
 use serde_json::Value;
@@ -118,7 +118,7 @@ fn our_data(alloc: Global, reader: &mut Tokens<'_>, depth: usize) -> Result<Stri
 
 /// Reads the text as the parser of scenarios does.
 fn our_text(alloc: Global, text: &str) -> Result<String, Unread> {
-    let mut scratch = Scratch::new(alloc);
+    let mut scratch = Vec::new(alloc);
     let mut reader = Tokens::new(text, &mut scratch)?;
     let data = our_data(alloc, &mut reader, MAX_DEPTH)?;
     match reader.next() {
@@ -129,7 +129,7 @@ fn our_text(alloc: Global, text: &str) -> Result<String, Unread> {
 
 /// Returns whether the parser passes over the text as over one value.
 fn is_passed(alloc: Global, text: &str) -> Result<bool, AllocError> {
-    let mut scratch = Scratch::new(alloc);
+    let mut scratch = Vec::new(alloc);
     let mut reader = Tokens::new(text, &mut scratch)?;
     Ok(pass_value(&mut reader, MAX_DEPTH).is_ok() && reader.next().is_none())
 }

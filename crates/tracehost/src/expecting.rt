@@ -5,10 +5,10 @@ use crate::asking::Selection;
 use crate::differing::{Hunk, Row, head_of, hunks_of, rows_of};
 use crate::explaining::{FileName, unread, unwritten};
 use byte_lines::{Difference, first_difference};
-use json_trace::ScenarioSteps;
+use json_trace::{ScenarioSteps, write_fault};
 use scenario_runs::{Fault, RunFault, Scenario};
 use std::alloc::{AllocError, Global};
-use std::io::{BufWriter, Write};
+use std::io::{BufWriter, Read, Write};
 use std::rt::Files;
 use std::{fmt, fs, io};
 
@@ -38,6 +38,21 @@ fn is_no_file<R: Files>(rt: &R, path: &str) -> bool {
     }
 }
 
+/// How many bytes a file to compare with may have.
+const MAX_EXPECTED: usize = 1 << 30;
+
+/// Reads a file of lines, or of names. It may be a device without an end.
+pub(crate) fn bytes_of<R: Files + AllocGlobal>(rt: &R, path: &str) -> io::Result<Vec<u8>> {
+    let mut bytes = Vec::new(rt.alloc());
+    fs::open(rt, path)?
+        .take(MAX_EXPECTED as u64 + 1)
+        .read_to_end(&mut bytes)?;
+    if bytes.len() > MAX_EXPECTED {
+        return Err(io::Error::from(io::ErrorKind::FileTooLarge));
+    }
+    Ok(bytes)
+}
+
 /// Reads the expected file.
 pub(crate) fn read_expected<'a, R: Files + AllocGlobal>(
     rt: &R,
@@ -52,7 +67,7 @@ pub(crate) fn read_expected<'a, R: Files + AllocGlobal>(
             blesses,
         });
     }
-    let bytes = match fs::read(rt, path) {
+    let bytes = match bytes_of(rt, path) {
         Ok(bytes) => Some(bytes),
         Err(error) if blesses && error.kind() == io::ErrorKind::NotFound => None,
         Err(error) if explains || error.kind() == io::ErrorKind::OutOfMemory => {
@@ -91,8 +106,8 @@ pub(crate) fn compare<R: Files + Print + AllocGlobal>(
         &answered,
         rows.as_slice(),
     );
-    if written.is_err() {
-        return Err(CommandError::Run(RunFault::Write));
+    if let Err(error) = written {
+        return Err(CommandError::Run(write_fault(&error)));
     }
     if expected.blesses {
         return bless(rt, expected.path, run.text, explains);
@@ -166,21 +181,26 @@ fn bless<R: Files + AllocGlobal>(
             Err(unwritten(rt.alloc(), beside.as_str(), &error))
         }
         Err(error) if explains => Err(unwritten(rt.alloc(), path, &error)),
-        Err(_) => Err(CommandError::Run(RunFault::Write)),
+        Err(error) => Err(CommandError::Run(write_fault(&error))),
     }
 }
 
-/// Writes a file beside the one with this path, and gives it the path. What isn't a file is written to as it is.
+/// Writes a file beside the one with this path, with the same permissions, and gives it the path. What isn't a file is
+/// written to as it is.
 fn replace<R: Files>(rt: &R, path: &str, beside: &str, text: &[u8]) -> io::Result<()> {
-    match fs::symlink_metadata(rt, path) {
+    let permissions = match fs::symlink_metadata(rt, path) {
         Ok(found) if !found.is_file() => return fs::write(rt, path, text),
-        Ok(_) => {}
-        Err(error) if error.kind() == io::ErrorKind::NotFound => {}
+        Ok(found) => Some(found.permissions()),
+        Err(error) if error.kind() == io::ErrorKind::NotFound => None,
         Err(error) => return Err(error),
-    }
+    };
     let mut file = fs::File::create_new(rt, beside)?;
-    let written = file
-        .write_all(text)
+    let allowed = match permissions {
+        Some(permissions) => fs::set_permissions(rt, beside, permissions),
+        None => Ok(()),
+    };
+    let written = allowed
+        .and_then(|()| file.write_all(text))
         .and_then(|()| fs::rename(rt, beside, path));
     if written.is_err() {
         let _ = fs::remove_file(rt, beside);

@@ -1,14 +1,14 @@
 //! A list of scenarios, each compared with its expected lines.
 use crate::asking::Selection;
-use crate::expecting::first_line;
+use crate::expecting::{bytes_of, first_line};
 use crate::explaining::{FileName, unread};
 use crate::{CommandError, scenario_of, text_of_run};
 use byte_lines::first_difference;
 use scenario_runs::{Fault, RunFault, policy_handlers};
 use std::rt::Files;
+use std::str;
 use std::sync::Wait;
 use std::thread::Threads;
-use std::{fs, str};
 
 /// How the scenarios of a list went.
 #[derive(Clone, Copy, Drop)]
@@ -58,7 +58,7 @@ fn compare_files<R: Files + Input + Print + AllocGlobal + Threads + Wait + Sync>
         Ok(read) => read,
         Err(fault) => return said_of_fault(rt, scenario, fault),
     };
-    let Ok(wanted) = fs::read(rt, expected) else {
+    let Ok(wanted) = bytes_of(rt, expected) else {
         return said_of_fault(rt, expected, Fault::Read);
     };
     let handlers = policy_handlers(rt.alloc(), scenario.policies())?;
@@ -116,7 +116,7 @@ pub(crate) fn compare_list<R: Files + Input + Print + AllocGlobal + Threads + Wa
     shown: &Selection,
     explains: bool,
 ) -> Result<(), CommandError> {
-    let list = match fs::read(rt, path) {
+    let list = match bytes_of(rt, path) {
         Ok(list) => list,
         Err(error) if explains => return Err(unread(rt.alloc(), path, &error)),
         Err(_) => return Err(CommandError::Fault(Fault::Read)),

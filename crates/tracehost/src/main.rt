@@ -44,7 +44,7 @@ use stop_handlers::{Decider, Handler};
 use trace_stop::Settings;
 
 /// The version of the program and of all that comes with it.
-const VERSION: &str = "0.13.0";
+const VERSION: &str = "0.14.0";
 
 /// Why the program ends with another status than 0.
 #[derive(Drop)]

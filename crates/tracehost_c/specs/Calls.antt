@@ -2,6 +2,7 @@
 use Rattle.std.specs.Prelude.{◌≡◌, ◌≢◌, ◌⊎◌, ℕ, Bool, if◌then◌else◌, List, [], Option, Some, None, Ok, Err, IsSome, IsSomeAnd, length, map}
 use Rattle.{pid_blocks.specs.Users.IsUser, requests.specs.View.view, step_types.specs.Plain.{PlainStep, UserStep}, scenario_text.specs.{declared.fault.Fault.Fault, OneStep.IsStep}, scenario_runs.specs.declared.style.Style.{Style, TheVariants.{Text, Json}}}
 use Rattle.tracehost_c.specs.{declared.{replies.FlatReply.FlatReply, rows.{FlatProcess.FlatProcess, FlatLwp.FlatLwp}}, Replies.flat, FlatRows.{flat_process, flat_lwp}}
+use Rattle.json_trace.specs.Rows.{rows_json}
 use Rattle.open_sessions.specs.{Answers.{last_numbers, shown}, Calls.{OpenSession, last_text, state_of, LineOf, Steps, Answers, IsFull, FullFor}}
 
 abbrev pub style_of : Bool → Style
@@ -44,9 +45,9 @@ ShowsNumbers session room filled n = IsSomeAnd session (λ s. Shows (last_number
 abbrev pub ShowsState : ℕ → Option OpenSession → (room filled : List ℕ) → ℕ → Type 0
 ShowsState u session room filled n = IsSomeAnd session (λ s. IsUser u × Shows (state_of u s) room filled n)
 
--- some text; what it says is tested
-abbrev pub ShowsText : (room filled : List ℕ) → ℕ → Type 0
-ShowsText room filled n = (text : List ℕ) × Shows text room filled n
+-- the rows that a user sees of an open session, as text
+abbrev pub ShowsRows : ℕ → Option OpenSession → (room filled : List ℕ) → ℕ → Type 0
+ShowsRows u session room filled n = IsSomeAnd session (λ s. IsUser u × Shows (rows_json (view u s.host)) room filled n)
 
 -- a user's view of an open session: the rows of processes and of LWPs
 abbrev pub ShowsView : ℕ → Option OpenSession → (processes filled : List FlatProcess) → ℕ → (lwps filled_lwps : List FlatLwp) → ℕ → Type 0

@@ -1,10 +1,12 @@
 //! What the calls have in common.
 ghost use Rattle.std.specs.Prelude.{ℕ, List, [], ◌≡◌, ◌≢◌, ◌≤◌, None, Some, IfOk, string_bytes};
+ghost use Rattle.requests.specs.View.{view};
+ghost use Rattle.json_trace.specs.Rows.{rows_json};
 ghost use Rattle.open_sessions.specs.Answers.{last_numbers};
 ghost use Rattle.open_sessions.specs.Calls.{last_text, state_of, LineOf};
 ghost use Rattle.scenario_text.specs.declared.fault.Fault.TheVariants.{Memory as NoMemory};
 ghost use Rattle.tracehost_c.specs.declared.replies.FlatReply.{FlatReply as Flat};
-ghost use Rattle.tracehost_c.specs.Calls.{style_of, Explains, LineCall, Shows, ShowsText, StepOf, TypedCall};
+ghost use Rattle.tracehost_c.specs.Calls.{style_of, Explains, LineCall, Shows, StepOf, TypedCall};
 
 use crate::handle::Tracehost;
 use crate::replies::FlatReply;
@@ -131,7 +133,9 @@ pub(crate) fn put_state(
 }
 
 /// Returns the text of the rows that the user sees. An error means out of memory.
-fn text_of_rows(alloc: Global, session: &Session, user: Uid) -> Result<Vec<u8>, AllocError> {
+fn text_of_rows(alloc: Global, session: &Session, user: Uid) -> Result<Vec<u8>, AllocError>
+    ensures { IfOk result (λ text. text.items ≡ rows_json (view user session.now.host)) }
+{
     let seen = session.view(alloc, user)?;
     rows_text(alloc, &seen)
 }
@@ -144,7 +148,7 @@ pub(crate) fn put_rows(
     out: &mut [u8],
     whole: &mut usize,
 ) -> u32
-    ensures shown { result ≡ 0 → ShowsText out.old out.new whole.new }
+    ensures shown { result ≡ 0 → Shows (rows_json (view user session.now.host)) out.old out.new whole.new }
     ensures refused { result ≢ 0 → (result ≡ 2) × (out.new ≡ out.old) × (whole.new ≡ whole.old) }
 {
     match text_of_rows(alloc, session, user) {

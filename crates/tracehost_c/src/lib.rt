@@ -17,7 +17,7 @@ ghost use Rattle.signals.specs.Dispositions.{disposition_numbered};
 ghost use Rattle.step_types.specs.Names.{request_numbered};
 ghost use Rattle.tracehost_c.specs.Numbers.{act_of as numbered_act, options_numbered};
 ghost use Rattle.tracehost_c.specs.Rules.{policy_numbered};
-ghost use Rattle.tracehost_c.specs.Calls.{style_of, Explains, LineCall, ShowsLast, ShowsNumbers, ShowsState, ShowsStep, ShowsText, ShowsView, TypedCall};
+ghost use Rattle.tracehost_c.specs.Calls.{style_of, Explains, LineCall, ShowsLast, ShowsNumbers, ShowsRows, ShowsState, ShowsStep, ShowsView, TypedCall};
 
 mod acts;
 mod calls;
@@ -145,7 +145,8 @@ pub extern "C" fn tracehost_copy_over(
     let mut copy = Tracehost::closed(alloc);
     let code = tracehost_copy(alloc, from, &mut copy);
     if code == ANSWERED {
-        *to = copy;
+        let old = std::mem::replace(to, copy);
+        let _session = old.session();
     }
     code
 }
@@ -535,7 +536,7 @@ pub extern "C" fn tracehost_rows(
     ensures session { handle.new.held.session ≡ handle.old.held.session }
     ensures closed { (result ≡ 1) ↔ IsNone handle.old.held.session }
     ensures code { result ≤ 3 }
-    ensures shown { result ≡ 0 → ShowsText out.old out.new whole.new }
+    ensures shown { result ≡ 0 → ShowsRows user handle.old.held.session out.old out.new whole.new }
     ensures no_user { result ≡ 3 → ¬ IsUser user }
     ensures refused { result ≡ 2 → IsUser user }
     ensures kept { result ≢ 0 → (out.new ≡ out.old) × (whole.new ≡ whole.old) }

@@ -1,12 +1,11 @@
-//! Texts with and without escapes, which two readers read.
+//! Texts with and without escapes.
 
-use json::Scratch;
 use json_values::{Opening, Scalar, Tokens, next_scalar, open_value, pass_value};
 use std::alloc::{AllocError, Global};
 
 /// Returns the whole number at the key `ab` of an object that has only this key.
 fn number_of(alloc: Global, text: &str) -> Result<Option<i64>, AllocError> {
-    let mut scratch = Scratch::new(alloc);
+    let mut scratch = Vec::new(alloc);
     let mut reader = Tokens::new(text, &mut scratch)?;
     let Ok(Opening::Object) = open_value(&mut reader) else {
         return Ok(None);
@@ -23,13 +22,13 @@ fn number_of(alloc: Global, text: &str) -> Result<Option<i64>, AllocError> {
 
 /// Returns whether the text is one value, whose arrays and objects nest two deep.
 fn is_value(alloc: Global, text: &str) -> Result<bool, AllocError> {
-    let mut scratch = Scratch::new(alloc);
+    let mut scratch = Vec::new(alloc);
     let mut reader = Tokens::new(text, &mut scratch)?;
     Ok(pass_value(&mut reader, 2).is_ok() && reader.next().is_none())
 }
 
 #[test]
-fn a_number_is_read_by_either_reader(rt: HostRuntime) -> Result<(), AllocError> {
+fn a_number_is_read_behind_a_key(rt: HostRuntime) -> Result<(), AllocError> {
     let alloc = rt.alloc();
     assert_eq!(rt; number_of(alloc, "{\"ab\":-12}")?, Some(-12));
     assert_eq!(rt; number_of(alloc, " { \"a\\u0062\" :\t-12 }\n")?, Some(-12));
@@ -48,6 +47,20 @@ fn plain_values_are_passed_over(rt: HostRuntime) -> Result<(), AllocError> {
     assert!(rt; is_value(alloc, "[true,false,null,-0.5e+3]")?);
     assert!(rt; is_value(alloc, "\"a name of more than sixteen bytes\"")?);
     assert!(rt; is_value(alloc, "[ [ 1 , 2 ] , { \"a\" : 0 } ]")?);
+    Ok(())
+}
+
+#[test]
+fn escapes_are_read_in_pairs_where_they_have_to_be(rt: HostRuntime) -> Result<(), AllocError> {
+    let alloc = rt.alloc();
+    assert!(rt; is_value(alloc, "\"\\\"\\\\\\/\\b\\f\\n\\r\\t\"")?);
+    assert!(rt; is_value(alloc, "\"\\u00e9 \\ud83d\\ude00 \\uFFFF\"")?);
+    assert!(rt; !is_value(alloc, "\"\\ud83d\"")?);
+    assert!(rt; !is_value(alloc, "\"\\ude00\\ud83d\"")?);
+    assert!(rt; !is_value(alloc, "\"\\ud83d\\u0041\"")?);
+    assert!(rt; !is_value(alloc, "\"\\u00g0\"")?);
+    assert!(rt; !is_value(alloc, "\"\\u00e\"")?);
+    assert!(rt; !is_value(alloc, "\"\\a\"")?);
     Ok(())
 }
 
