@@ -9,7 +9,8 @@ attaches to a process, waits for it and detaches, again and again. Printed is fo
 difference of two runs; `-` if there is no valgrind, for Python, and for a pipe, whose other end is another process.
 The clients in C and Python make typed calls. Without cargo or c++ their rows are left out.
 Then come the instructions of one tracehost_view of a user, by the number of other users with 250 processes and 1,000
-LWPs each.
+LWPs each, and those of copying a session and closing the copy, of opening and closing one, and of copying one over
+another, by the number of its processes.
 """
 
 from __future__ import annotations
@@ -27,6 +28,7 @@ import tempfile
 TOP = pathlib.Path(__file__).resolve().parent.parent
 COUNTED = re.compile(r"Collected : (\d+)")
 FULL_USERS = (0, 16, 63)
+PROCESSES = (1, 3, 10, 100, 250)
 SECONDS = 600  # at most, for one run in valgrind
 
 
@@ -109,6 +111,23 @@ def instructions_of_view(views: pathlib.Path, own: int, full: int) -> int:
     return instructions([str(views), str(own), str(full)], "--toggle-collect=look")
 
 
+def compile_copies(room: pathlib.Path, library: pathlib.Path) -> pathlib.Path:
+    to = room / "copies"
+    source = TOP / "bench/in_process/copies.c"
+    wrapped = "-Wl,--wrap=malloc,--wrap=realloc,--wrap=free"
+    subprocess.run(["cc", "-O2", wrapped, "-I", TOP / "include", "-o", to, source, library], check=True)
+    return to
+
+
+def instructions_of_copies(copies: pathlib.Path, processes: int, what: str) -> int:
+    """Those of `what` in bench/in_process/copies.c, with a session of so many processes."""
+    return instructions([str(copies), str(processes)], f"--toggle-collect={what}")
+
+
+def bytes_of_copy(copies: pathlib.Path, processes: int) -> int:
+    return int(subprocess.run([copies, str(processes)], check=True, capture_output=True, text=True).stdout)
+
+
 def main() -> None:
     release = TOP / f"release/{platform.machine()}-linux"
     parser = argparse.ArgumentParser()
@@ -130,6 +149,7 @@ def main() -> None:
             print(f"{name:30} {best[name]:10,.0f} {instructions_a_step(way):>13}")
         if shutil.which("valgrind"):
             print_views(compile_views(pathlib.Path(room), library))
+            print_copies(compile_copies(pathlib.Path(room), library))
 
 
 def print_views(views: pathlib.Path) -> None:
@@ -137,6 +157,14 @@ def print_views(views: pathlib.Path) -> None:
     for own, name in ((1, "1 process"), (250, "250 processes")):
         counts = [instructions_of_view(views, own, full) for full in FULL_USERS]
         print(f"{name:22}" + "".join(f"{count:17,}" for count in counts))
+
+
+def print_copies(copies: pathlib.Path) -> None:
+    print("\nprocesses      " + "".join(f"{processes:>10}" for processes in PROCESSES))
+    for what in ("copy_and_close", "open_and_close", "copy_over"):
+        counts = [instructions_of_copies(copies, processes, what) for processes in PROCESSES]
+        print(f"{what:15}" + "".join(f"{count:10,}" for count in counts))
+    print("bytes          " + "".join(f"{bytes_of_copy(copies, processes):10,}" for processes in PROCESSES))
 
 
 if __name__ == "__main__":

@@ -1,14 +1,15 @@
 #!/usr/bin/env python3
 """Counts the instructions of whole runs and of their parts, by valgrind's callgrind: the count is the same each time.
 
-    python3 bench/instructions.py [PROGRAM ..] [--steps N] [--peak] [--top N]
+    python3 bench/instructions.py [PROGRAM ..] [--steps N] [--baseline] [--peak] [--top N]
 
 PROGRAM is a built program (default: crates/tracehost/out/tracehost, which ./tracehost builds); several are compared,
-numbered from 1. Each runs ten loads of N steps (default 40,000; as many as fit, if these are longer than the program
+numbered from 1. Each runs twelve loads of N steps (default 40,000; as many as fit, if these are longer than the program
 reads). Printed is a row for each load and program: millions of instructions of the whole run, of reading the scenario,
 of binding handlers to its steps, of the host's steps, and of the text; `-` if a part has no function of its own in
-that program. With --peak also the resident memory at most, in times the scenario's bytes. With --top the N functions
-that cost most by themselves follow, for each load and program.
+that program. With --baseline the program by hand in bench/baseline, which cargo builds, is the first one, and a column
+has the times of its instructions. With --peak also the resident memory at most, in times the scenario's bytes. With
+--top the N functions that cost most by themselves follow, for each load and program.
 """
 
 from __future__ import annotations
@@ -34,6 +35,14 @@ LOADS = {
     "lists of 64 users": scenarios.spawns_and_lists,
     "rules and sets": scenarios.of_one(scenarios.installs),
     "only parsing": scenarios.refusals,
+    "churn with one escape": scenarios.of_one(scenarios.forks_and_exits),
+    "only parsing, with escapes": scenarios.refusals,
+}
+
+# How the texts of loads are written, if not as programs write them
+SPELLINGS = {
+    "churn with one escape": scenarios.escaped_once,
+    "only parsing, with escapes": scenarios.escaped,
 }
 
 # The functions of each part, as regular expressions of their whole names. If the first one isn't there, since it was
@@ -112,6 +121,13 @@ def peak(program: str, scenario: str, room: str) -> float:
     return int(ran.stderr) * 1024 / os.path.getsize(scenario)
 
 
+def baseline() -> str:
+    """Builds the program by hand, and returns its path."""
+    folder = os.path.join(HERE, "baseline")
+    subprocess.run(["cargo", "build", "--quiet", "--release", "--offline"], cwd=folder, check=True)
+    return os.path.join(folder, "target/release/baseline")
+
+
 def print_row(cells: Iterable[object]) -> None:
     print("| " + " | ".join(map(str, cells)) + " |", flush=True)
 
@@ -128,13 +144,17 @@ class Alone(NamedTuple):
 def print_load(load: str, programs: Sequence[str], options: argparse.Namespace, room: str) -> list[Alone]:
     """A row for each program. Answers the functions of each by their own cost."""
     scenario = os.path.join(room, "scenario.json")
-    scenarios.write(LOADS[load](options.steps), scenario)
+    scenarios.write(LOADS[load](options.steps), scenario, SPELLINGS.get(load, scenarios.plain))
     alone: list[Alone] = []
+    first = 0
     for number, program in enumerate(programs, 1):
         file = os.path.join(room, "callgrind.out")
         profile(program, scenario, file)
         whole, functions = costs(file, inclusive=True)
+        first = first or whole
         cells: list[object] = [load, number, millions(whole), *(millions(part(functions, names)) for names in PARTS.values())]
+        if options.baseline:
+            cells.append(f"{whole / first:.2f}")
         if options.peak:
             cells.append(f"{peak(program, scenario, room):.1f}")
         print_row(cells)
@@ -156,10 +176,13 @@ def main() -> None:
     top = os.path.join(HERE, "..")
     parser.add_argument("programs", nargs="*", default=[os.path.join(top, "crates/tracehost/out/tracehost")])
     parser.add_argument("--steps", type=int, default=40000)
+    parser.add_argument("--baseline", action="store_true")
     parser.add_argument("--peak", action="store_true")
     parser.add_argument("--top", type=int, default=0)
     options = parser.parse_args()
-    heads = ["load", "program", "whole", *PARTS] + ["peak"] * options.peak
+    if options.baseline:
+        options.programs.insert(0, baseline())
+    heads = ["load", "program", "whole", *PARTS] + ["times"] * options.baseline + ["peak"] * options.peak
     print_row(heads)
     print("|" + "---|" * len(heads))
     alone: list[Alone] = []

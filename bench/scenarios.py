@@ -5,11 +5,13 @@ never end; `of_one`, `side_by_side` and `mixed` make loads of sources.
 """
 
 import json
+import re
 from collections.abc import Callable, Iterable, Iterator
 
 Step = dict[str, object]
 Load = Callable[[int], list[Step]]
 Source = Callable[[int], Iterator[Step]]
+Spelling = Callable[[int, str], str]  # from a step's number and its text to its text in the scenario
 
 USERS = range(1001, 1065)
 
@@ -246,12 +248,27 @@ for name, make in SOURCES.items():
 KINDS["all of these, 64 users"] = mixed
 
 
-def write(steps: Iterable[Step], file: str) -> int:
+def plain(number: int, text: str) -> str:
+    """A step's text as programs write it."""
+    return text
+
+
+def escaped(number: int, text: str) -> str:
+    """A step's text in which each key and each name begins with an escape."""
+    return re.sub('"([A-Za-z])', lambda first: f'"\\u{ord(first[1]):04x}', text)
+
+
+def escaped_once(number: int, text: str) -> str:
+    """A step's text as programs write it, except that of the first step."""
+    return escaped(number, text) if number == 0 else text
+
+
+def write(steps: Iterable[Step], file: str, spell: Spelling = plain) -> int:
     """Writes a scenario of as many of the steps as the program reads at most, and returns how many these are."""
     room = 4194304 - len('{"steps":[]}')
     texts: list[str] = []
-    for step in steps:
-        texts.append(json.dumps(step, separators=(",", ":")))
+    for number, step in enumerate(steps):
+        texts.append(spell(number, json.dumps(step, separators=(",", ":"))))
         room -= len(texts[-1]) + 1
         if room < 0:
             texts.pop()

@@ -27,25 +27,56 @@ Case = tuple[list[Step], Iterator[Step]]  # a preparation, and steps without end
 
 USER = 1001
 DEBUGGER = scenarios.first_pid(USER)
+TRACEE = DEBUGGER + 1
+FIRST = scenarios.Numbers(USER).lwp()
+TRACED = FIRST + 1
 MOST_PROCESSES = 250
 MOST_LWPS = 1000
-SIGURG, SIGTSTP, SIGCONT = 16, 18, 19
+SIGURG, SIGSTOP, SIGTSTP, SIGCONT, SIGUSR1 = 16, 17, 18, 19, 30
 
 
 def spawns(count: int) -> list[Step]:
     return [scenarios.spawn(USER) for _ in range(count)]
 
 
+def kill(which: int, signal: int) -> Step:
+    return {"user": USER, "op": "kill", "caller": DEBUGGER, "which": which, "signal": signal}
+
+
 def kill_all(signal: int) -> Step:
-    return {"user": USER, "op": "kill", "caller": DEBUGGER, "which": -1, "signal": signal}
+    return kill(-1, signal)
+
+
+def catch(process: int, signal: int) -> Step:
+    return {"user": USER, "op": "sigaction", "caller": process, "signal": signal, "action": "catch"}
+
+
+def turn(lwp: int, act: str = "compute", **more: object) -> Step:
+    return {"user": USER, "op": "turn", "lwp": lwp, "act": act, **more}
+
+
+def births(lwp: int, lwps: int) -> Iterator[Step]:
+    """The process of this LWP gets so many more."""
+    return itertools.chain.from_iterable(scenarios.call(USER, lwp, "thr_new") for _ in range(lwps))
 
 
 def threaded(processes: int, lwps: int) -> list[Step]:
     """Processes of so many LWPs each."""
     numbers = scenarios.Numbers(USER)
     oldest = [numbers.process()[1] for _ in range(processes)]
-    births = (scenarios.call(USER, lwp, "thr_new") for lwp in oldest for _ in range(lwps - 1))
-    return spawns(processes) + list(itertools.chain.from_iterable(births))
+    return spawns(processes) + [step for lwp in oldest for step in births(lwp, lwps - 1)]
+
+
+def tracee_of(lwps: int) -> list[Step]:
+    """A debugger, and a process of so many LWPs that it may trace, whose oldest is TRACED."""
+    return [*spawns(2), *births(TRACED, lwps - 1)]
+
+
+def pending(lwps: int) -> list[Step]:
+    """The same, each of whose LWPs blocks SIGUSR1, which is pending."""
+    blocked = turn(TRACED, "block", set=[SIGUSR1])
+    raised = [turn(TRACED + n, "raise", signal=SIGUSR1) for n in range(lwps)]
+    return [*spawns(2), blocked, *births(TRACED, lwps - 1), *raised]
 
 
 def attach(tracee: int) -> Iterator[Step]:
@@ -102,6 +133,62 @@ def dispositions(lwps: int) -> Case:
     return threaded(1, lwps), itertools.cycle([{**step, "action": "ignore"}, {**step, "action": "catch"}])
 
 
+def raises(lwps: int) -> Case:
+    """One of so many LWPs raises a signal that its process catches, and handles it."""
+    return [*threaded(1, lwps), catch(DEBUGGER, SIGUSR1)], itertools.cycle([turn(FIRST, "raise", signal=SIGUSR1), turn(FIRST)])
+
+
+def stepped(lwps: int) -> Case:
+    """One of so many LWPs steps once, again and again."""
+    step = scenarios.ptrace(USER, DEBUGGER, "PT_STEP", TRACEE)
+    return [*tracee_of(lwps), *attach(TRACEE)], itertools.cycle([step, turn(TRACED), scenarios.wait(USER, DEBUGGER)])
+
+
+def stopped(lwps: int) -> Case:
+    """A process of so many LWPs is continued, and stopped by SIGSTOP."""
+    rest = [kill(TRACEE, SIGSTOP), turn(TRACED), scenarios.wait(USER, DEBUGGER)]
+    return [*tracee_of(lwps), *attach(TRACEE)], itertools.cycle([scenarios.ptrace(USER, DEBUGGER, "PT_CONTINUE", TRACEE), *rest])
+
+
+def attaches_to_lwps(lwps: int) -> Case:
+    """A debugger attaches to a process of so many LWPs, and detaches."""
+    return tracee_of(lwps), itertools.cycle([*attach(TRACEE), scenarios.ptrace(USER, DEBUGGER, "PT_DETACH", TRACEE)])
+
+
+def stops_beside_pending(lwps: int) -> Case:
+    """SIGTSTP and SIGCONT for a process with a pending signal for each of its LWPs."""
+    return pending(lwps), itertools.cycle([kill(TRACEE, SIGTSTP), kill(TRACEE, SIGCONT)])
+
+
+def dispositions_beside_pending(lwps: int) -> Case:
+    """A process with a pending signal for each of its LWPs ignores SIGURG, and then catches it."""
+    step = catch(TRACEE, SIGURG)
+    return pending(lwps), itertools.cycle([{**step, "action": "ignore"}, step])
+
+
+def vforks(lwps: int) -> Case:
+    """One of so many LWPs makes a vfork, and its child exits."""
+    numbers = scenarios.Numbers(USER)
+    numbers.process()
+    for _ in range(lwps - 1):
+        numbers.lwp()
+
+    def rounds() -> Iterator[Step]:
+        while True:
+            pid, tid = numbers.process()
+            yield from scenarios.call(USER, FIRST, "vfork")
+            yield from scenarios.call(USER, tid, "exit", code=0)
+            yield scenarios.wait(USER, DEBUGGER)
+            numbers.gone(pid, tid)
+
+    return threaded(1, lwps), rounds()
+
+
+def caught_signals(processes: int) -> Case:
+    """SIGUSR1 for all others, which each of them catches, and which is pending already."""
+    return spawns(processes) + [catch(DEBUGGER + n, SIGUSR1) for n in range(processes)], itertools.repeat(kill_all(SIGUSR1))
+
+
 def spawns_and_exits(processes: int) -> Case:
     """A process more, which exits at once, beside so many others."""
     numbers = scenarios.Numbers(USER)
@@ -128,6 +215,14 @@ CASES: list[tuple[str, Callable[[int], Case], int, int]] = [
     ("kill -1 with SIGURG, four LWPs each", discarded_beside_lwps, MOST_PROCESSES, 2),
     ("kill -1 with SIGTSTP, SIGCONT, four LWPs each", stops_and_continues, MOST_PROCESSES, 2),
     ("sigaction", dispositions, MOST_LWPS, 1),
+    ("kill -1 with SIGUSR1, caught", caught_signals, MOST_PROCESSES, 2),
+    ("raise, turn", raises, MOST_LWPS, 1),
+    ("PT_STEP, turn, wait", stepped, MOST_LWPS - 1, 1),
+    ("PT_CONTINUE, SIGSTOP, turn, wait", stopped, MOST_LWPS - 1, 1),
+    ("PT_ATTACH, wait, PT_DETACH, many LWPs", attaches_to_lwps, MOST_LWPS - 1, 1),
+    ("kill with SIGTSTP, SIGCONT, beside pending signals", stops_beside_pending, MOST_LWPS - 1, 1),
+    ("sigaction beside pending signals", dispositions_beside_pending, MOST_LWPS - 1, 1),
+    ("vfork, exit, wait, many LWPs", vforks, MOST_LWPS - 1, 1),
     ("spawn and exit", spawns_and_exits, MOST_PROCESSES - 1, 1),
 ]
 
