@@ -182,6 +182,30 @@ impl Session {
         }
     }
 
+    /// Copies the session over another, whose session and recording end. The copy isn't recorded. After an error the other
+    /// session is as it was.
+    ///
+    /// ```
+    /// # fn main() -> Result<(), tracehost::Error> {
+    /// let mut session = tracehost::Session::new()?;
+    /// let mut scratch = tracehost::Session::new()?;
+    /// session.spawn(1001)?;
+    /// session.copy_over(&mut scratch)?;
+    /// assert_eq!(scratch.spawn(1001)?.pid, 1001);
+    /// # Ok(())
+    /// # }
+    /// ```
+    pub fn copy_over(&self, to: &mut Session) -> Result<(), Error> {
+        match self.handle.copy_over(&mut to.handle) {
+            sys::ANSWERED => {
+                to.settings = self.settings;
+                (to.recording, to.record_error, to.is_test, to.recorded) = (None, None, false, 0);
+                Ok(())
+            }
+            code => Err(Error::of_code(code)),
+        }
+    }
+
     /// Makes a process of the user with one LWP. Its parent is process 1.
     pub fn spawn(&mut self, user: u32) -> Result<New, Error> {
         let (code, raw) = self.handle.spawn(user);
@@ -391,6 +415,39 @@ impl Session {
             processes: processes.iter().map(Process::from).collect(),
             lwps: lwps.iter().map(Lwp::from).collect(),
         })
+    }
+
+    /// Stores all that a user sees as numbers: more than [`view`](Session::view), which lacks dispositions, handlers and the
+    /// next numbers of processes and LWPs. Sessions with the same numbers answer the user's next step alike, and have the
+    /// same numbers again, which is proved. It makes no step. The room's capacity is used again.
+    ///
+    /// ```
+    /// # fn main() -> Result<(), tracehost::Error> {
+    /// use tracehost::{Caller, Disposition, Session, Signal};
+    ///
+    /// let mut session = Session::new()?;
+    /// let caller = Caller { user: 1001, pid: session.spawn(1001)?.pid };
+    /// let (mut before, mut after) = (Vec::new(), Vec::new());
+    /// session.state(1001, &mut before)?;
+    /// session.sigaction(caller, Signal::SIGTERM, Disposition::Ignore)?;
+    /// session.state(1001, &mut after)?;
+    /// assert_ne!(before, after);
+    /// # Ok(())
+    /// # }
+    /// ```
+    pub fn state(&self, user: u32, numbers: &mut Vec<u32>) -> Result<(), Error> {
+        numbers.resize(numbers.capacity(), 0);
+        loop {
+            let (code, length) = self.handle.state(user, numbers);
+            if code != sys::ANSWERED {
+                return Err(Error::of_code(code));
+            }
+            let fits = length <= numbers.len();
+            numbers.resize(length, 0);
+            if fits {
+                return Ok(());
+            }
+        }
     }
 
     fn rows(&self, user: u32) -> Result<(Vec<sys::Process>, Vec<sys::Lwp>), Error> {

@@ -123,6 +123,7 @@ extern "C" {
     fn tracehost_open(kill_on_debugger_exit: bool, out: *mut Raw) -> u32;
     fn tracehost_close(h: *mut Raw) -> u32;
     fn tracehost_copy(from: *mut Raw, to: *mut Raw) -> u32;
+    fn tracehost_copy_over(from: *mut Raw, to: *mut Raw) -> u32;
     fn tracehost_line(
         h: *mut Raw,
         json: bool,
@@ -153,6 +154,7 @@ extern "C" {
         processes_length: *mut usize,
         lwps_length: *mut usize,
     ) -> u32;
+    fn tracehost_state(h: *mut Raw, user: u32, out: *mut u32, size: usize, length: *mut usize) -> u32;
 }
 
 /// The errno of a file that would be too long.
@@ -218,6 +220,12 @@ impl Handle {
         }
     }
 
+    /// Copies the session over that of another handle. The code.
+    pub fn copy_over(&self, to: &mut Handle) -> u32 {
+        // SAFETY: no other call is being made on either handle, and they differ, since `to` is borrowed mutably.
+        unsafe { tracehost_copy_over(self.0.get(), to.0.get()) }
+    }
+
     /// Makes the step that the line is. The code, and the length of the answer, whose front `out` has.
     pub fn line(&mut self, json: bool, line: &[u8], out: &mut [u8]) -> (u32, usize) {
         let mut length = 0;
@@ -280,6 +288,15 @@ impl Handle {
             )
         };
         (code, [processes_length, lwps_length])
+    }
+
+    /// All that a user sees, as numbers. The code, and how many there are; `out` has the first of them.
+    pub fn state(&self, user: u32, out: &mut [u32]) -> (u32, usize) {
+        let mut length = 0;
+        let (room, size) = (out.as_mut_ptr(), out.len());
+        // SAFETY: no other call is being made, and the slice and `length` are disjoint.
+        let code = unsafe { tracehost_state(self.0.get(), user, room, size, &mut length) };
+        (code, length)
     }
 
     /// Ends the session.

@@ -1,0 +1,428 @@
+//! What the model answers, asked of the library once: a step from a state is answered as it was before, which is proved.
+
+use crate::hash::{Hasher, Key};
+use crate::model::{killed, Kind, Property};
+use crate::process::Answer;
+use crate::step::Step;
+use std::hash::Hash;
+use tracehost::{Caller, Errno, Error, Reply, Session, SignalSet, State, WaitOptions, Which};
+
+/// A question about what the users see.
+#[derive(Clone, Copy, Debug, PartialEq, Eq, Hash)]
+enum Ask {
+    Step(Step),
+    /// Which processes a wait for any may report.
+    News(Caller, WaitOptions),
+    /// Whether an LWP of the user has a pending signal that it doesn't block.
+    Signal(u32, u32),
+    /// The user's processes.
+    There(u32),
+    /// The user's processes that haven't ended.
+    Live(u32),
+    /// The first property that the user's rows break; at an end, or always.
+    Broken(u32, bool),
+}
+
+/// A property by its place, and what is wrong.
+pub type Broken = Option<(usize, String)>;
+
+#[derive(Debug)]
+enum Known {
+    Step(Answer, Key),
+    Numbers(Box<[u32]>),
+    Met(Met),
+    Broken(Broken),
+}
+
+/// Whether an LWP meets a signal once it is in user mode.
+#[derive(Clone, Copy, Debug, PartialEq, Eq)]
+pub enum Met {
+    Yes,
+    No,
+    /// There is no such LWP.
+    Gone,
+}
+
+/// Where a question is asked: what the users see there, and how a session at the start comes there.
+pub struct At<'a> {
+    pub view: Key,
+    pub replay: &'a dyn Fn(&mut Session) -> Result<(), Error>,
+}
+
+/// How often the library was called.
+#[derive(Clone, Copy, Debug, Default, PartialEq, Eq)]
+pub struct Calls {
+    /// For steps.
+    pub steps: u64,
+    /// For copies of a session over another.
+    pub copies: u64,
+    /// Of these, copies of the start, from which the steps were made again.
+    pub replays: u64,
+}
+
+impl std::ops::Add for Calls {
+    type Output = Calls;
+
+    fn add(self, other: Calls) -> Calls {
+        Calls {
+            steps: self.steps + other.steps,
+            copies: self.copies + other.copies,
+            replays: self.replays + other.replays,
+        }
+    }
+}
+
+/// Sessions by what the users see in them, in sets of four.
+struct Sessions {
+    sets: Vec<[Option<(Key, Session)>; Sessions::WAYS]>,
+    turn: usize,
+}
+
+impl Sessions {
+    const WAYS: usize = 4;
+
+    fn new(count: usize) -> Sessions {
+        let sets = (count / Sessions::WAYS).next_power_of_two();
+        Sessions {
+            sets: (0..sets).map(|_| Default::default()).collect(),
+            turn: 0,
+        }
+    }
+
+    fn set(&self, view: Key) -> usize {
+        view.0 as usize & (self.sets.len() - 1)
+    }
+
+    fn get(&self, view: Key) -> Option<&Session> {
+        let set = &self.sets[self.set(view)];
+        set.iter()
+            .flatten()
+            .find(|(key, _)| *key == view)
+            .map(|(_, session)| session)
+    }
+
+    /// Keeps a session, and returns the one that had its place.
+    fn put(&mut self, view: Key, session: Session) -> Option<Session> {
+        let set = self.set(view);
+        let ways = &mut self.sets[set];
+        let free = ways.iter().position(Option::is_none);
+        self.turn = (self.turn + 1) % Sessions::WAYS;
+        let way = &mut ways[free.unwrap_or(self.turn)];
+        way.replace((view, session)).map(|(_, session)| session)
+    }
+}
+
+/// The sessions and answers of one thread.
+pub struct Hosts<'a> {
+    users: &'a [u32],
+    properties: &'a [Property],
+    start: Session,
+    start_view: Key,
+    /// A session to try steps on, and what the users see in it, if that is known. None if all sessions are kept.
+    scratch: Option<Session>,
+    scratch_view: Option<Key>,
+    spare: Vec<Session>,
+    sessions: Sessions,
+    memo: Answers,
+    /// The most answers, and how many were found out since there was room for more.
+    most: usize,
+    found_out: usize,
+    numbers: Vec<u32>,
+    /// Sessions whose states another thread owns are for that thread.
+    owns: Box<dyn Fn(Key) -> bool + Send + 'a>,
+    outgoing: Option<(Key, Session)>,
+    pub calls: Calls,
+}
+
+type Answers = Vec<Option<(Key, Ask, Known)>>;
+
+const FEW_ANSWERS: usize = 256;
+
+fn no_answers(size: usize) -> Answers {
+    let mut answers = Vec::new();
+    answers.resize_with(size, || None);
+    answers
+}
+
+fn slot_of(view: Key, ask: u64, answers: &Answers) -> usize {
+    (view.0 ^ ask) as usize & (answers.len() - 1)
+}
+
+/// What these users see.
+fn view_of(session: &Session, users: &[u32], numbers: &mut Vec<u32>) -> Result<Key, Error> {
+    let mut hasher = Hasher::new();
+    for user in users {
+        session.state(*user, numbers)?;
+        hasher.numbers(numbers);
+    }
+    Ok(hasher.key())
+}
+
+/// Memory that ran out isn't an answer of the model.
+pub fn checked(answer: Answer) -> Result<Answer, Error> {
+    match answer {
+        Err(Error::Errno(Errno::ENOMEM)) => Err(Error::NoMemory),
+        Err(error @ (Error::NoMemory | Error::NoText | Error::TooMany | Error::RecordingFailed)) => Err(error),
+        answer => Ok(answer),
+    }
+}
+
+impl<'a> Hosts<'a> {
+    pub fn new(
+        start: &Session,
+        users: &'a [u32],
+        properties: &'a [Property],
+        (answers, sessions): (usize, usize),
+        owns: Box<dyn Fn(Key) -> bool + Send + 'a>,
+    ) -> Result<Hosts<'a>, Error> {
+        Ok(Hosts {
+            users,
+            properties,
+            start: start.try_clone()?,
+            start_view: view_in(start, users)?,
+            scratch: None,
+            scratch_view: None,
+            spare: Vec::new(),
+            sessions: Sessions::new(sessions),
+            memo: no_answers(FEW_ANSWERS),
+            most: answers.next_power_of_two(),
+            found_out: 0,
+            numbers: Vec::with_capacity(256),
+            owns,
+            outgoing: None,
+            calls: Calls::default(),
+        })
+    }
+
+    /// A session that another thread has brought to a state of this one.
+    pub fn offer(&mut self, view: Key, session: Session) {
+        let left = match self.sessions.get(view) {
+            Some(_) => Some(session),
+            None => self.sessions.put(view, session),
+        };
+        self.spare.extend(left);
+    }
+
+    /// The session that has come to a state of another thread by the last step.
+    pub fn take_outgoing(&mut self) -> Option<(Key, Session)> {
+        self.outgoing.take()
+    }
+
+    /// The answer to a step, and what the users see after it.
+    pub fn step(&mut self, at: &At, step: Step) -> Result<(&Answer, Key), Error> {
+        match self.known(at, Ask::Step(step))? {
+            Known::Step(answer, after) => Ok((answer, *after)),
+            known => unreachable!("{known:?}"),
+        }
+    }
+
+    /// The processes that a wait for any may report.
+    pub fn news(&mut self, at: &At, caller: Caller, options: WaitOptions) -> Result<&[u32], Error> {
+        self.listed(at, Ask::News(caller, options))
+    }
+
+    /// The user's processes that haven't ended.
+    pub fn live(&mut self, at: &At, user: u32) -> Result<&[u32], Error> {
+        self.listed(at, Ask::Live(user))
+    }
+
+    fn listed(&mut self, at: &At, ask: Ask) -> Result<&[u32], Error> {
+        match self.known(at, ask)? {
+            Known::Numbers(numbers) => Ok(numbers),
+            known => unreachable!("{known:?}"),
+        }
+    }
+
+    /// The user's processes, zombies too.
+    pub fn there(&mut self, at: &At, user: u32) -> Result<&[u32], Error> {
+        self.listed(at, Ask::There(user))
+    }
+
+    /// Whether an LWP meets a signal once it is in user mode.
+    pub fn signal(&mut self, at: &At, user: u32, lwp: u32) -> Result<Met, Error> {
+        match self.known(at, Ask::Signal(user, lwp))? {
+            Known::Met(met) => Ok(*met),
+            known => unreachable!("{known:?}"),
+        }
+    }
+
+    /// The first property that the user's rows break.
+    pub fn broken(&mut self, at: &At, user: u32, at_end: bool) -> Result<&Broken, Error> {
+        match self.known(at, Ask::Broken(user, at_end))? {
+            Known::Broken(broken) => Ok(broken),
+            known => unreachable!("{known:?}"),
+        }
+    }
+
+    fn known(&mut self, at: &At, ask: Ask) -> Result<&Known, Error> {
+        let mut hasher = Hasher::new();
+        ask.hash(&mut hasher);
+        let hash = std::hash::Hasher::finish(&hasher);
+        let slot = slot_of(at.view, hash, &self.memo);
+        let is_known = matches!(&self.memo[slot], Some((view, asked, _)) if *view == at.view && *asked == ask);
+        if !is_known {
+            let known = self.find_out(at, ask)?;
+            if self.found_out > self.memo.len() / 4 && self.memo.len() < self.most {
+                self.make_room();
+            }
+            self.found_out += 1;
+            let slot = slot_of(at.view, hash, &self.memo);
+            self.memo[slot] = Some((at.view, ask, known));
+            return Ok(&self.memo[slot].as_ref().expect("it was filled").2);
+        }
+        Ok(&self.memo[slot].as_ref().expect("it is there").2)
+    }
+
+    fn make_room(&mut self) {
+        let room = no_answers(self.memo.len() * 4);
+        for (view, ask, known) in std::mem::replace(&mut self.memo, room).into_iter().flatten() {
+            let mut hasher = Hasher::new();
+            ask.hash(&mut hasher);
+            let slot = slot_of(view, std::hash::Hasher::finish(&hasher), &self.memo);
+            self.memo[slot] = Some((view, ask, known));
+        }
+    }
+
+    fn find_out(&mut self, at: &At, ask: Ask) -> Result<Known, Error> {
+        Ok(match ask {
+            Ask::Step(step) => {
+                let (answer, after) = self.make(at, step)?;
+                Known::Step(answer, after)
+            }
+            Ask::News(caller, options) => Known::Numbers(self.find_news(at, caller, options)?.into()),
+            Ask::Signal(user, lwp) => Known::Met(self.find_signal(at, user, lwp)?),
+            Ask::Live(user) => {
+                let rows = self.session_at(at)?.view(user)?.processes;
+                let live = rows.iter().filter(|row| !matches!(row.state, State::Zombie(_)));
+                Known::Numbers(live.map(|row| row.pid).collect())
+            }
+            Ask::There(user) => {
+                let rows = self.session_at(at)?.view(user)?.processes;
+                Known::Numbers(rows.iter().map(|row| row.pid).collect())
+            }
+            Ask::Broken(user, at_end) => Known::Broken(self.find_broken(at, user, at_end)?),
+        })
+    }
+
+    /// Makes a step on the scratch session.
+    fn make(&mut self, at: &At, step: Step) -> Result<(Answer, Key), Error> {
+        let mut scratch = self.come_to(at)?;
+        self.calls.steps += 1;
+        let answer = checked(step.make(&mut scratch))?;
+        let after = match answer {
+            Err(_) | Ok(Reply::Nothing) => at.view, // nothing has changed
+            _ => view_of(&scratch, self.users, &mut self.numbers)?,
+        };
+        if after != at.view && self.is_wanted(after) {
+            self.keep(after, scratch);
+        } else {
+            self.scratch = Some(scratch);
+            self.scratch_view = Some(after);
+        }
+        Ok((answer, after))
+    }
+
+    /// Whether a session at this state isn't kept yet.
+    fn is_wanted(&self, view: Key) -> bool {
+        !(self.owns)(view) || self.sessions.get(view).is_none()
+    }
+
+    /// Keeps a session for the steps that come later, or for the thread that owns its state.
+    fn keep(&mut self, view: Key, session: Session) {
+        let left = if (self.owns)(view) {
+            self.sessions.put(view, session)
+        } else {
+            self.outgoing.replace((view, session)).map(|(_, session)| session)
+        };
+        self.spare.extend(left);
+    }
+
+    /// Takes the scratch session, and brings it to a state.
+    fn come_to(&mut self, at: &At) -> Result<Session, Error> {
+        let unused = self.scratch.take();
+        if self.scratch_view.take() == Some(at.view) {
+            if let Some(scratch) = unused {
+                return Ok(scratch);
+            }
+        } else {
+            self.spare.extend(unused);
+        }
+        self.calls.copies += 1;
+        let from = self.sessions.get(at.view);
+        let source = from.unwrap_or(&self.start);
+        let mut session = match self.spare.pop() {
+            Some(mut session) => {
+                source.copy_over(&mut session)?;
+                session
+            }
+            None => source.try_clone()?,
+        };
+        if from.is_none() && at.view != self.start_view {
+            self.calls.replays += 1;
+            (at.replay)(&mut session)?;
+        }
+        Ok(session)
+    }
+
+    /// A session at a state, to look at.
+    fn session_at(&mut self, at: &At) -> Result<&Session, Error> {
+        if self.scratch_view != Some(at.view) {
+            if self.sessions.get(at.view).is_some() {
+                return Ok(self.sessions.get(at.view).expect("it is there"));
+            }
+            self.scratch = Some(self.come_to(at)?);
+            self.scratch_view = Some(at.view);
+        }
+        Ok(self.scratch.as_ref().expect("it has a view"))
+    }
+
+    fn find_news(&mut self, at: &At, caller: Caller, options: WaitOptions) -> Result<Vec<u32>, Error> {
+        let rows = self.session_at(at)?.view(caller.user)?.processes;
+        let mut news = Vec::new();
+        for row in rows {
+            if row.parent == caller.pid || row.tracer == Some(caller.pid) {
+                let wait = Step::Wait4(caller, Which::Process(row.pid), options);
+                if let (Ok(Reply::Status { .. }), _) = self.step(at, wait)? {
+                    news.push(row.pid);
+                }
+            }
+        }
+        Ok(news)
+    }
+
+    fn find_signal(&mut self, at: &At, user: u32, lwp: u32) -> Result<Met, Error> {
+        let view = self.session_at(at)?.view(user)?;
+        let Some(row) = view.lwp(lwp) else {
+            return Ok(Met::Gone);
+        };
+        let meets = |pending: SignalSet| pending.iter().any(|signal| !row.blocked.contains(signal));
+        let shared = view
+            .process(row.pid)
+            .map_or(SignalSet::empty(), |process| process.pending);
+        Ok(if meets(row.pending) || meets(shared) {
+            Met::Yes
+        } else {
+            Met::No
+        })
+    }
+
+    fn find_broken(&mut self, at: &At, user: u32, at_end: bool) -> Result<Broken, Error> {
+        let properties = self.properties;
+        let view = self.session_at(at)?.view(user)?;
+        let broken = properties.iter().enumerate().find_map(|(place, property)| {
+            let checked = match &property.kind {
+                Kind::Always(check) if !at_end => check(&view),
+                Kind::EndedBySignal if !at_end => killed(&view),
+                Kind::AtEnd(check) if at_end => check(&view),
+                _ => Ok(()),
+            };
+            checked.err().map(|wrong| (place, wrong))
+        });
+        Ok(broken)
+    }
+}
+
+/// What these users see in a session.
+pub fn view_in(session: &Session, users: &[u32]) -> Result<Key, Error> {
+    view_of(session, users, &mut Vec::new())
+}

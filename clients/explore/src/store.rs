@@ -1,0 +1,110 @@
+//! The states that one thread owns: what was met, and the front.
+
+use crate::hash::Key;
+use crate::packed::pack;
+use crate::search::Links;
+use crate::set::{Part, PARTS};
+
+/// A part of the set, and those of its states whose next ones aren't known yet.
+pub struct Level {
+    pub set: Part,
+    /// The links of the level that is being made, their orders, and its spots.
+    pub links: Vec<u64>,
+    orders: Vec<u64>,
+    spots: Vec<u8>,
+    /// The place of its first state.
+    pub first: usize,
+}
+
+/// The parts of a thread.
+pub struct Store {
+    thread: usize,
+    threads: usize,
+    pub levels: Vec<Level>,
+}
+
+/// The states of a part that are to be expanded.
+pub struct Front {
+    pub part: usize,
+    pub first: usize,
+    pub count: usize,
+    /// Where their processes are, packed.
+    pub spots: Vec<u8>,
+}
+
+impl Store {
+    pub fn new(thread: usize, threads: usize) -> Store {
+        let count = (thread..PARTS).step_by(threads).count();
+        let level = || Level {
+            set: Part::new(),
+            links: Vec::new(),
+            orders: Vec::new(),
+            spots: Vec::new(),
+            first: 0,
+        };
+        Store {
+            thread,
+            threads,
+            levels: (0..count).map(|_| level()).collect(),
+        }
+    }
+
+    /// The level of a part that this thread owns.
+    pub fn level(&mut self, part: usize) -> &mut Level {
+        debug_assert_eq!(part % self.threads, self.thread, "a part of this thread");
+        &mut self.levels[part / self.threads]
+    }
+
+    /// The part of each level.
+    pub fn parts(&self) -> impl Iterator<Item = usize> {
+        (self.thread..PARTS).step_by(self.threads)
+    }
+
+    /// Adds a state, and returns whether it is new. Of two ways to a state of the level, that of the lower order is kept.
+    pub fn insert(&mut self, part: usize, key: Key, spot: &[u64], (link, order): (u64, u64)) -> bool {
+        let level = self.level(part);
+        let (place, is_new) = level.set.insert(key);
+        if is_new {
+            level.links.push(link);
+            level.orders.push(order);
+            pack(spot, &mut level.spots);
+        } else if let Some(place) = (place as usize).checked_sub(level.first) {
+            if order < level.orders[place] {
+                level.orders[place] = order;
+                level.links[place] = link;
+            }
+        }
+        is_new
+    }
+
+    /// Ends the level: its links are told, and its states are to be expanded.
+    pub fn next_level(&mut self, links: &Links) -> Vec<Front> {
+        let parts = self.parts();
+        let mut fronts = Vec::new();
+        for (part, level) in parts.zip(&mut self.levels) {
+            let mut known = links[part].write().expect("no thread has panicked");
+            known.append(&mut level.links);
+            let first = std::mem::replace(&mut level.first, level.set.keys().len());
+            level.orders.clear();
+            let (count, spots) = (level.first - first, std::mem::take(&mut level.spots));
+            if count > 0 {
+                fronts.push(Front {
+                    part,
+                    first,
+                    count,
+                    spots,
+                });
+            }
+        }
+        fronts
+    }
+
+    /// The bytes of the set, with all links, and of the level that is being made.
+    pub fn bytes(&self) -> usize {
+        let of = |level: &Level| {
+            let words = level.first + level.links.capacity() + level.orders.capacity();
+            level.set.bytes() + words * 8 + level.spots.capacity()
+        };
+        self.levels.iter().map(of).sum()
+    }
+}
