@@ -10,6 +10,7 @@ import importlib.util
 import json
 import os
 import pathlib
+import re
 import subprocess
 import sys
 import xml.etree.ElementTree
@@ -353,3 +354,51 @@ def test_a_record_that_cannot_be_made(tmp_path: pathlib.Path) -> None:
         text=True,
     )
     assert "1 passed" in done.stdout and "tracehost: not recorded: " in done.stdout, done.stdout
+
+
+# ---- searches
+
+SEARCHES = """
+import os, pytest
+from tracehost import Action, Call, Compute, Enter, Leave, Raise, Request, Signal
+from tracehost.explore import LimitReached, Process, ended_by_signal
+
+def world(host):
+    user = host.user(1001)
+    debugger, target = Process(user, user.spawn()), Process(user, user.spawn())
+
+    async def debug():
+        await debugger.ptrace(Request.PT_ATTACH, target.pid)
+        status = (await debugger.wait4(target.pid)).status
+        await debugger.ptrace(Request.PT_DETACH, target.pid)
+        assert os.WSTOPSIG(status) == Signal.SIGSTOP, "another stop came first"
+
+    async def run():
+        await target.turn(Raise(Signal.SIGUSR1))
+        await target.turn(Compute())
+
+    return [debug, run]
+
+def test_finds(explore):
+    explore(world)
+
+@pytest.mark.interleavings(limit=3)
+def test_is_too_long(explore):
+    explore(world)
+
+@pytest.mark.interleavings(limit=3, properties=[])
+def test_options(explore):
+    explore(lambda host: world(host)[1:], limit=30, properties=[])
+"""
+
+
+@pytest.mark.parametrize("words", workers)
+def test_a_search_that_fails_leaves_its_trace(tmp_path: pathlib.Path, runs: Runs, words: tuple[str, ...]) -> None:
+    """A limit is a failure too. A test that passes leaves nothing."""
+    said = runs(SEARCHES, *words)
+    assert "2 failed, 1 passed" in said and "LimitReached: not all interleavings were searched: 3 states is the limit" in said
+    (left,) = (folder for folder in folders(tmp_path) if (folder / "session.json").exists())
+    assert "test_finds" in left.name and {file.name for file in left.iterdir()} == {"session.json", "session.out", "session.html"}
+    trace = [line for line in said.splitlines() if re.match(r"E +\d+ (debug|run): ", line)]
+    assert trace and steps(left) == 2 + len(trace)
+    assert f"page:     {left / 'session.html'}" in said

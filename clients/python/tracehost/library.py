@@ -199,6 +199,7 @@ class Session:
         self.handle = byref(self._handle)
         self._room = ctypes.create_string_buffer(_ROOM)
         self._length = c_size_t()
+        self._words = (c_uint32 * 0)()
         self._rows: Optional[RawRows] = None
         self.check(library["open"](kill_on_debugger_exit, self.handle))
 
@@ -214,6 +215,7 @@ class Session:
         made.handle = byref(made._handle)
         made._room = ctypes.create_string_buffer(_ROOM)
         made._length = c_size_t()
+        made._words = (c_uint32 * 0)()
         made._rows = None
         self.check(self.library["copy"](self.handle, made.handle))
         return made
@@ -269,12 +271,12 @@ class Session:
 
     def _array(self, name: str, *words: object) -> tuple[int, ...]:
         """The numbers that the call stores."""
-        array = (c_uint32 * 0)()
         while True:
-            self.check(self.library[name](self.handle, *words, array, len(array), byref(self._length)))
-            if self._length.value <= len(array):
-                return tuple(array[: self._length.value])
-            array = (c_uint32 * self._length.value)()
+            room = self._words
+            self.check(self.library[name](self.handle, *words, room, len(room), byref(self._length)))
+            if self._length.value <= len(room):
+                return tuple(room[: self._length.value])
+            self._words = (c_uint32 * (2 * self._length.value))()
 
     def numbers(self) -> tuple[int, ...]:
         """The list of the last answer."""

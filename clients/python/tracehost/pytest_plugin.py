@@ -4,6 +4,8 @@
   settings.
 - The fixture `new_tracehost` is a function that starts such a host, which is closed at the end of the test. A test with
   ``@given`` starts one for each example.
+- The fixture `explore` is `tracehost.explore.explore`, but a failure is one of the test, and leaves its trace as a session.
+  ``@pytest.mark.interleavings(limit=10**6)`` gives it options.
 - An assertion that compares replies shows statuses, signals and flags by name.
 - A test that fails, in a fixture too, leaves its scenario, its lines and its page in pytest's temporary folder, or in a
   folder of its own below the one that ``--tracehost-artifacts``, or the environment's ``TRACEHOST_ARTIFACTS``, names.
@@ -21,16 +23,21 @@ import sys
 import weakref
 from collections.abc import Callable, Generator, Iterator, Sequence
 from pathlib import Path
-from typing import Any, Optional, Protocol, TypeVar
+from typing import TYPE_CHECKING, Any, Optional, Protocol, TypeVar
 
 import pytest
 
+from .errors import RecordingFailed
 from .host import Host
 from .naming import REPLIES, describe, field_text
 from .replies import Waited
 from .viewing import view
 
-__all__ = ["NewHost", "new_tracehost", "tracehost"]
+if TYPE_CHECKING:
+    from .explore import Found
+    from .searching import World
+
+__all__ = ["Explore", "NewHost", "explore", "new_tracehost", "tracehost"]
 
 _Hook = TypeVar("_Hook", bound=Callable[..., Generator[None, Any, None]])
 _wrapper: Callable[[_Hook], _Hook] = pytest.hookimpl(hookwrapper=True)  # untyped in some versions of pytest
@@ -46,6 +53,13 @@ class NewHost(Protocol):
     """Starts a `Host` that records as `name` in the folder of the test. A further one of that name takes its place."""
 
     def __call__(self, name: str = "session", **settings: Any) -> Host:
+        ...
+
+
+class Explore(Protocol):
+    """Searches all interleavings of a world, and fails with a shortest trace, which is kept as `name`."""
+
+    def __call__(self, world: World, name: str = "session", **options: Any) -> Found:
         ...
 
 
@@ -105,6 +119,7 @@ def pytest_addoption(parser: pytest.Parser) -> None:
 
 def pytest_configure(config: pytest.Config) -> None:
     config.addinivalue_line("markers", "tracehost(**settings): settings of the Host that the fixture tracehost starts")
+    config.addinivalue_line("markers", "interleavings(**options): options of the searches by the fixture explore")
     named: Optional[str] = config.getoption("--tracehost-artifacts") or os.environ.get("TRACEHOST_ARTIFACTS") or None
     artifacts = None if named is None else Path(named).absolute()  # a test may change the folder that it runs in
     config.stash[_artifacts] = artifacts
@@ -128,6 +143,28 @@ def tracehost(request: pytest.FixtureRequest, new_tracehost: NewHost) -> Iterato
     marker = request.node.get_closest_marker("tracehost")
     with new_tracehost(**(marker.kwargs if marker else {})) as host:
         yield host
+
+
+@pytest.fixture
+def explore(request: pytest.FixtureRequest, tmp_path_factory: pytest.TempPathFactory) -> Explore:
+    """A function that searches all interleavings of a world, with the options of `tracehost.explore.explore`."""
+    marker = request.node.get_closest_marker("interleavings")
+
+    from . import explore as searches
+
+    def search(world: World, name: str = "session", **options: Any) -> Found:
+        __tracebackhide__ = True
+        found = searches.explore(world, **{**(marker.kwargs if marker else {}), **options})
+        if not found.passed:
+            scenario = _sessions(request.node, tmp_path_factory).folder / f"{name}.json"
+            try:
+                found.save(scenario)
+            except (OSError, RecordingFailed) as error:
+                print(f"tracehost: not recorded: {error}", file=sys.stderr)
+            raise AssertionError(str(found)) from found.error
+        return found
+
+    return search
 
 
 def pytest_assertrepr_compare(op: str, left: object, right: object) -> Optional[list[str]]:

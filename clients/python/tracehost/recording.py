@@ -47,11 +47,12 @@ class Recording:
         setting = "" if kill_on_debugger_exit is None else f'"kill_on_debugger_exit":{int(kill_on_debugger_exit)},'
         start = f'{{{setting}"steps":['.encode()
         self._scenario = _File(self.path)
+        self._lines: Optional[_File] = None
         try:
             self._lines = None if lines is None else _File(Path(lines))
             self._scenario.replace_end(start + _END, 0)
         except OSError as error:
-            self._scenario.close()
+            self.close()
             raise error if error.filename else OSError(error.errno, error.strerror, os.fspath(path)) from None
         self._steps, self._size, self._size_of_lines = 0, len(start), 0
         self.ends_session = True
