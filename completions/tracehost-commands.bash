@@ -1,6 +1,6 @@
-# Completion of tracehost-run, tracehost-view and tracehost-perfetto for bash, from what their own --help lists. Source
-# this file, or link each command's name to it in ~/.local/share/bash-completion/completions. tracehost-cc takes the
-# words of a compiler: there are files and the compiler's options.
+# Completion of tracehost-run, tracehost-corpus, tracehost-view and tracehost-perfetto for bash, from what their own --help
+# lists. Source this file, or link each command's name to it in ~/.local/share/bash-completion/completions. tracehost-cc
+# takes the words of a compiler: there are files and the compiler's options.
 
 # The options at the beginning of a line of help; those within a description are another command's.
 _tracehost_options()
@@ -31,4 +31,4 @@ _tracehost_command()
     mapfile -t COMPREPLY < <(compgen -f -- "$word")
 }
 
-complete -F _tracehost_command tracehost-cc tracehost-run tracehost-view tracehost-perfetto
+complete -F _tracehost_command tracehost-cc tracehost-run tracehost-corpus tracehost-view tracehost-perfetto

@@ -17,7 +17,7 @@ from .options import USAGE, model_of, one_of, parser, recordable, replayed
 from .outcome import Outcome, Result
 from .pool import WorkerEnded
 from .program import NotRunnable, check
-from .report import Unwritten, print_lines, say, writing
+from .report import print_lines, say, writing, written
 from .setting import Broken, Options, Refused, Setting, Switch, Task, text_of
 from .tally import Sums, sums_of
 
@@ -253,39 +253,9 @@ def _added(sums: Sums) -> Iterator[str]:
         yield f"{used}, which the model doesn't have: not proved (--strict: none)"
 
 
-def _standard_files() -> bool:
-    """Opens standard input and error if they are closed, since a socket would get their numbers. False if standard output is."""
-    if sys.stdout is None:
-        return False
-    while (number := os.open(os.devnull, os.O_RDWR)) <= 2:
-        os.set_inheritable(number, True)
-    os.close(number)
-    sys.stderr = sys.stderr or open(2, "w", closefd=False)
-    return True
-
-
 def main(words: Sequence[str] | None = None) -> int:
     """The command: its status, which isn't 0 if its output can't be written."""
-    if not _standard_files():
-        say("standard output is closed")
-        return BROKEN
-    try:
-        status = _command(words)
-        with writing():
-            sys.stdout.flush()
-        return status
-    except Unwritten as why:
-        _throw_away(why.number)
-        try:
-            say(str(why))
-        except Unwritten as also:
-            _throw_away(also.number)
-        return BROKEN
-
-
-def _throw_away(number: int) -> None:
-    """What Python writes there at its end."""
-    os.dup2(os.open(os.devnull, os.O_WRONLY), number)
+    return written(lambda: _command(words), BROKEN)
 
 
 def _command(words: Sequence[str] | None) -> int:

@@ -1,8 +1,8 @@
-"""Seeds on other machines, over the workers of Dask distributed, which is imported only here.
+"""Work on other machines, over the workers of Dask distributed, which is imported only here: shares of it, answered in order.
 
-A worker runs its own `tracehost-run` on some blocks, whose ledger is the answer: so the blocks are those of one machine, byte
-for byte, once they are counted in their order. The program is sent once to each worker. A worker with another model or broker
-is refused.
+A worker runs its own `tracehost-run` on some blocks of seeds, whose ledger is the answer: so the blocks are those of one
+machine, byte for byte, once they are counted in their order. The program is sent once to each worker. A worker with another
+model or broker is refused.
 """
 
 from __future__ import annotations
@@ -14,12 +14,13 @@ import logging
 import site
 import sys
 from collections import deque
-from collections.abc import Iterator, Sequence
-from typing import Any, NamedTuple
+from collections.abc import Callable, Iterator, Sequence
+from typing import Any, NamedTuple, NoReturn, TypeVar
 
 from .ledger import BLOCK, Block, block_of
 from .setting import Broken, Refused
 
+_Share = TypeVar("_Share")
 SHARE = 4 * BLOCK
 """Seeds that a worker is given at a time: at least a second of work."""
 AHEAD = 64
@@ -73,10 +74,18 @@ def run_share(program: bytes, name: str, words: Sequence[str], arguments: Sequen
     return socket.gethostname(), done.returncode, done.stderr[-500:], text
 
 
+def run_text(module: str, name: str, *arguments: object) -> object:
+    """Calls a function of a module on the worker, which needn't have it. Its classes can't be sent by their values."""
+    names: dict[str, Any] = {"__name__": "sent"}
+    exec(module, names)
+    result: object = names[name](*arguments)
+    return result
+
+
 class Farm:
     """The workers of a scheduler."""
 
-    def __init__(self, address: str, order: Order) -> None:
+    def __init__(self, address: str) -> None:
         site.main()  # tracehost-run starts without it: installed modules are found now
         try:  # by their names, since mypy would read all of them
             pickle, distributed = (importlib.import_module(name) for name in ("cloudpickle", "distributed"))
@@ -88,61 +97,72 @@ class Farm:
             self._client: Any = distributed.Client(address, set_as_default=False)
         except (OSError, ValueError, TypeError) as why:
             raise Refused(f"--workers: {address}: {why}") from why
-        self._order = order
-        with open(order.program, "rb") as file:
-            self._program = self._client.scatter(file.read(), hash=True)
 
-    def blocks(self, seeds: range) -> Iterator[Block]:
-        """The blocks of these seeds, in their order."""
-        shares = _shares(seeds)
-        waiting: deque[tuple[range, Any]] = deque()
+    def sent(self, data: bytes) -> Any:
+        """Sends it to the workers, once to each: what a call is given for it."""
+        return self._client.scatter(data, hash=True)
+
+    def answers(self, shares: Iterator[_Share], words: Callable[[_Share], Sequence[Any]]) -> Iterator[tuple[_Share, Any]]:
+        """Each share with its answer, in their order: that of a call, a function and what it is given."""
+        waiting: deque[tuple[_Share, Any]] = deque()
         try:
             while True:
                 while len(waiting) < AHEAD and (share := next(shares, None)) is not None:
-                    waiting.append((share, self._submit(share)))
+                    waiting.append((share, self._client.submit(*words(share), pure=False)))
                 if not waiting:
                     return
                 share, future = waiting.popleft()
-                yield from self._answer(share, Said(*self._result(future)))
+                yield share, _result(future)
         finally:
             self._client.cancel([future for _, future in waiting])
-
-    def _submit(self, share: range) -> Any:
-        order = self._order
-        seeds = ["--seeds", f"{share.start}..{share.stop - 1}"] if share.start else ["--schedules", str(share.stop - 1)]
-        words = [*seeds, *order.options]
-        name = order.program.rpartition("/")[2]
-        return self._client.submit(run_share, self._program, name, words, list(order.arguments), pure=False)
-
-    def _result(self, future: Any) -> tuple[str, int, str, str]:
-        try:
-            answer: tuple[str, int, str, str] = future.result()
-        except Exception as why:  # of Dask: the workers have died
-            raise Broken(f"--workers: {why}") from why
-        return answer
-
-    def _answer(self, share: range, said: Said) -> Iterator[Block]:
-        if said.status not in (0, 1, 4) or not said.ledger:
-            raise Broken(f"--workers: {said.worker}: status {said.status}: {said.errors.strip()}")
-        head, *lines = said.ledger.splitlines()
-        found = json.loads(head)
-        for name, here in self._order.identity.items():
-            if name != "seeds" and found.get(name) != json.loads(json.dumps(here)):
-                there = json.dumps(found.get(name))
-                raise Refused(f"--workers: {said.worker}: another {name}: {there} there, and {json.dumps(here)} here")
-        first = share.start
-        for line in lines:
-            block = block_of(line, first)
-            first = block.last + 1
-            yield block
-            if block.sums.failures and not self._order.keeps_going:
-                return
-        if first != share.stop:
-            raise Broken(f"--workers: {said.worker}: it has only run the seeds up to {first - 1} of {share.stop - 1}")
 
     def close(self) -> None:
         with contextlib.suppress(Exception):
             self._client.close(timeout=5)
+
+
+def _result(future: Any) -> Any:
+    try:
+        return future.result()
+    except Exception as why:  # of Dask: the workers have died
+        raise Broken(f"--workers: {why}") from why
+
+
+def blocks(farm: Farm, order: Order, seeds: range) -> Iterator[Block]:
+    """The blocks of these seeds, in their order."""
+    with open(order.program, "rb") as file:
+        program = farm.sent(file.read())
+    name = order.program.rpartition("/")[2]
+
+    def words(share: range) -> Sequence[Any]:
+        chosen = ["--seeds", f"{share.start}..{share.stop - 1}"] if share.start else ["--schedules", str(share.stop - 1)]
+        return run_share, program, name, [*chosen, *order.options], list(order.arguments)
+
+    for share, said in farm.answers(_shares(seeds), words):
+        yield from _answer(order, share, Said(*said))
+
+
+def _answer(order: Order, share: range, said: Said) -> Iterator[Block]:
+    if said.status not in (0, 1, 4) or not said.ledger:
+        raise Broken(f"--workers: {said.worker}: status {said.status}: {said.errors.strip()}")
+    head, *lines = said.ledger.splitlines()
+    found = json.loads(head)
+    for name, here in order.identity.items():
+        if name != "seeds" and found.get(name) != json.loads(json.dumps(here)):
+            refuse(said.worker, name, json.dumps(found.get(name)), json.dumps(here))
+    first = share.start
+    for line in lines:
+        block = block_of(line, first)
+        first = block.last + 1
+        yield block
+        if block.sums.failures and not order.keeps_going:
+            return
+    if first != share.stop:
+        raise Broken(f"--workers: {said.worker}: it has only run the seeds up to {first - 1} of {share.stop - 1}")
+
+
+def refuse(worker: str, name: str, there: str, here: str) -> NoReturn:
+    raise Refused(f"--workers: {worker}: another {name}: {there} there, and {here} here")
 
 
 def _shares(seeds: range) -> Iterator[range]:

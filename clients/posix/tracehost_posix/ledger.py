@@ -14,6 +14,7 @@ import stat
 from collections.abc import Mapping
 from typing import Any
 
+from .comparing import digest_of as digest_of
 from .outcome import Result
 from .setting import Refused
 from .tally import Failures, Sums, sums_of
@@ -21,12 +22,6 @@ from .tally import Failures, Sums, sums_of
 _KIND = "tracehost-run ledger"
 BLOCK = 256
 """The seeds of a block: from a multiple of this on. The plain schedule counts as seed 0."""
-
-
-def digest_of(path: str) -> str:
-    """A file's."""
-    with open(path, "rb") as file:
-        return hashlib.sha256(file.read()).hexdigest()[:16]
 
 
 class Block:

@@ -86,13 +86,14 @@ class Search:
                 return
 
     def _run_on_workers(self, seeds: range, ledger: Ledger | None) -> None:
-        from .farm import Farm, Order
+        from .farm import Farm, Order, blocks
 
         setting, given = self._command.setting, self._given
         program, *arguments = setting.command
-        farm = Farm(given.workers, Order(program, arguments, self._options(), self._identity(seeds), given.keep_going))
+        order = Order(program, arguments, self._options(), self._identity(seeds), given.keep_going)
+        farm = Farm(given.workers)
         try:
-            for block in farm.blocks(seeds):
+            for block in blocks(farm, order, seeds):
                 self._tally.recount(block)
                 self._tally.take(block)
                 if ledger is not None:

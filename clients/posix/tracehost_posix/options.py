@@ -14,7 +14,7 @@ from .report import say, writing
 
 USAGE = 2
 # tools/format version
-VERSION = "0.13.0"
+VERSION = "0.14.0"
 # end
 
 
@@ -58,7 +58,7 @@ def _number(text: str, least: int, most: int) -> int:
     return int(text)
 
 
-def _count(text: str) -> int:
+def count(text: str) -> int:
     return _number(text, 1, MOST)
 
 
@@ -72,12 +72,12 @@ def _natural(text: str) -> int:
 
 def _seeds(text: str) -> range:
     first, dots, last = text.partition("..")
-    if not dots or _count(last) < _count(first):
+    if not dots or count(last) < count(first):
         raise argparse.ArgumentTypeError(f"{text!r} is no range A..B of seeds")
     return range(int(first), int(last) + 1)
 
 
-def _seconds(text: str) -> float:
+def seconds(text: str) -> float:
     try:
         number = float(text)
     except ValueError:
@@ -87,20 +87,24 @@ def _seconds(text: str) -> float:
     return number
 
 
+def begun(prog: str, description: str) -> Parser:
+    """A command with --help, to which other options are added, and --version at last."""
+    made = Parser(prog=prog, description=description, formatter_class=_formatter, allow_abbrev=False, add_help=False)
+    made.add_argument("-h", "--help", action=_Print, text=made.format_help, help="prints this")
+    return made
+
+
+def add_version(made: Parser) -> None:
+    made.add_argument("--version", action=_Print, text=lambda: f"{made.prog} {VERSION}\n", help="prints the version")
+
+
 def parser() -> Parser:
     """The options."""
-    made = Parser(
-        prog="tracehost-run",
-        description="Runs a program of tracehost-cc on the model of FreeBSD's process tracing.",
-        formatter_class=_formatter,
-        allow_abbrev=False,
-        add_help=False,
-    )
+    made = begun("tracehost-run", "Runs a program of tracehost-cc on the model of FreeBSD's process tracing.")
     add = made.add_argument
-    add("-h", "--help", action=_Print, text=made.format_help, help="prints this")
     which = made.add_argument_group("which schedules").add_argument
-    which("--seed", type=_count, metavar="N", help="this schedule; else the plain one: a thread goes on until it waits")
-    which("--schedules", type=_count, metavar="N", help="the plain one and those of the seeds 1 to N, until one fails")
+    which("--seed", type=count, metavar="N", help="this schedule; else the plain one: a thread goes on until it waits")
+    which("--schedules", type=count, metavar="N", help="the plain one and those of the seeds 1 to N, until one fails")
     which("--seeds", type=_seeds, metavar="A..B", help="those of the seeds A to B, until one fails")
     which(
         "--preemptions",
@@ -124,7 +128,7 @@ def parser() -> Parser:
         help="under a seed a sleep ends at any time, or when nobody else can go on",
     )
     which("--calls", action="store_true", help="others go on only between calls, not inside of them")
-    add("--jobs", type=_count, default=1, metavar="N", help="makes N runs at a time (1)")
+    add("--jobs", type=count, default=1, metavar="N", help="makes N runs at a time (1)")
     add("--keep-going", action="store_true", help="runs all of --schedules or --seeds; failures in the same words count as one")
     add("--ledger", metavar="FILE", help="keeps what they come to, for each 256 seeds; a search that has ended goes on from there")
     add("--workers", metavar="URL", help="runs them on the workers of a scheduler of Dask distributed: tcp://.. or tls://..")
@@ -140,11 +144,11 @@ def parser() -> Parser:
         "discarded signals too, and no registers",
     )
     add("--kill-on-debugger-exit", choices=["0", "1"], help="the sysctl of this name (1)")
-    add("--limit", type=_count, default=20000, metavar="N", help="a run of more questions has no end (20000)")
-    add("--patience", type=_seconds, default=20.0, metavar="S", help="a thread that makes no call for S seconds hangs (20)")
+    add("--limit", type=count, default=20000, metavar="N", help="a run of more questions has no end (20000)")
+    add("--patience", type=seconds, default=20.0, metavar="S", help="a thread that makes no call for S seconds hangs (20)")
     add(
         "--output-limit",
-        type=_count,
+        type=count,
         default=64 << 20,
         metavar="BYTES",
         help="a run whose output is kept may print so much (67108864)",
@@ -158,7 +162,7 @@ def parser() -> Parser:
         metavar="PROGRAM",
         help="the program tracehost, for --verify, --record and --compare; else $TRACEHOST, else tracehost on the path",
     )
-    add("--version", action=_Print, text=lambda: f"tracehost-run {VERSION}\n", help="prints the version")
+    add_version(made)
     add("program", nargs="?", metavar="PROGRAM")
     add("arguments", nargs=argparse.REMAINDER, metavar="ARGUMENT")
     return made

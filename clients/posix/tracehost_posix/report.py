@@ -4,7 +4,7 @@ from __future__ import annotations
 
 import os
 import sys
-from collections.abc import Iterable, Iterator, Mapping
+from collections.abc import Callable, Iterable, Iterator, Mapping
 from contextlib import contextmanager
 from typing import TYPE_CHECKING
 
@@ -35,9 +35,48 @@ def writing(number: int = 1) -> Iterator[None]:
         raise Unwritten(number, why.strerror) from why
 
 
+command = "tracehost-run"
+"""Which is said to speak."""
+
+
 def say(text: str) -> None:
     """A line on standard error."""
-    print_lines([f"tracehost-run: {text}"])
+    print_lines([f"{command}: {text}"])
+
+
+def standard_files() -> bool:
+    """Opens standard input and error if they are closed, since a socket would get their numbers. False if standard output is."""
+    if sys.stdout is None:
+        return False
+    while (number := os.open(os.devnull, os.O_RDWR)) <= 2:
+        os.set_inheritable(number, True)
+    os.close(number)
+    sys.stderr = sys.stderr or open(2, "w", closefd=False)
+    return True
+
+
+def written(run: Callable[[], int], broken: int) -> int:
+    """The status of a command, and `broken` if its output can't be written."""
+    if not standard_files():
+        say("standard output is closed")
+        return broken
+    try:
+        status = run()
+        with writing():
+            sys.stdout.flush()
+        return status
+    except Unwritten as why:
+        _throw_away(why.number)
+        try:
+            say(str(why))
+        except Unwritten as also:
+            _throw_away(also.number)
+        return broken
+
+
+def _throw_away(number: int) -> None:
+    """What Python writes there at its end."""
+    os.dup2(os.open(os.devnull, os.O_WRONLY), number)
 
 
 def print_lines(lines: Iterable[str]) -> None:

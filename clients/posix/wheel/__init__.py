@@ -2,8 +2,10 @@
 
 from __future__ import annotations
 
+import importlib
 import os
 import sys
+from collections.abc import Callable
 from typing import NoReturn
 
 HOME = os.path.dirname(os.path.abspath(__file__))
@@ -16,9 +18,17 @@ def cc() -> NoReturn:
 
 def run() -> int:
     """tracehost-run: in this process, whose name says in which folder other commands are."""
-    sys.path[:0] = [HOME, os.path.join(HOME, "python")]
-    from tracehost_posix.command import main
+    return _main("command")
 
+
+def corpus() -> int:
+    """tracehost-corpus."""
+    return _main("corpus")
+
+
+def _main(module: str) -> int:
+    sys.path[:0] = [HOME, os.path.join(HOME, "python")]
+    main: Callable[[], int] = importlib.import_module(f"tracehost_posix.{module}").main
     try:
         return main()
     except KeyboardInterrupt:
