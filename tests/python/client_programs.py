@@ -37,7 +37,8 @@ WAYS = {
 }
 # the scenarios without options and without a fault
 FILES = [file for file in accepted_files() if not any((TOP / file).with_suffix(end).exists() for end in (".err", ".args"))]
-EXAMPLES = sorted(path.stem for path in (CLIENT / "examples").glob("*.c"))
+# the examples of the client; others use the library
+EXAMPLES = sorted(path.stem for path in (CLIENT / "examples").glob("*.c") if "tracehost_client.h" in path.read_text())
 # each program of each way
 PROGRAMS = [(way, name) for way, how in WAYS.items() for name in how.words]
 PROGRAMS += [("pipe", "replay"), ("in process", "replay"), *(("pipe", name) for name in EXAMPLES)]

@@ -142,13 +142,14 @@ def test_zsh_reads_the_completions(file: str) -> None:
 
 COMMANDS = {
     "tracehost-run": "clients/posix/tracehost-run", "tracehost-cc": "clients/posix/tracehost-cc",
-    "tracehost-view": "viewer/make", "tracehost-perfetto": "viewer/perfetto",
+    "tracehost-corpus": "clients/posix/tracehost-corpus", "tracehost-view": "viewer/make", "tracehost-perfetto": "viewer/perfetto",
 }  # fmt: skip
 # the words before the cursor, and what bash offers: the options of each manual page
 OFFERED_BY = [
     ("tracehost-view -", "--at --failed --help --message --note --output --title --version -h -o -t"),
     ("tracehost-perfetto -", "--help --output --version -h -o"),
     ("tracehost-run --s", "--schedules --seed --seeds --sleeps --strategy --strict --switches"),
+    ("tracehost-corpus -", "--help --jobs --json --model --patience --version --workers -h"),
     ("tracehost-run --e", ""),  # --expect is another command's
     ("tracehost-run --strategy ", "random pct"),
     ("tracehost-run --kill-on-debugger-exit = ", "0 1"),

@@ -234,6 +234,14 @@ def test_a_file_with_the_lines_stays(program: Path, folder: Path) -> None:
     assert (after.st_ino, after.st_mtime_ns) == (before.st_ino, before.st_mtime_ns)
 
 
+@pytest.mark.parametrize("mode", [0o400, 0o600, 0o644, 0o666, 0o755])
+def test_a_file_keeps_its_mode(program: Path, folder: Path, mode: int) -> None:
+    (folder / "wanted").write_text("old\n")
+    (folder / "wanted").chmod(mode)
+    assert bless(program, folder, "wanted").status == 0
+    assert (folder / "wanted").read_text() == LINES and (folder / "wanted").stat().st_mode & 0o7777 == mode
+
+
 def test_a_link_stays_a_link(program: Path, folder: Path) -> None:
     (folder / "target").write_text("old\n")
     (folder / "link").symlink_to("target")
@@ -296,6 +304,14 @@ def test_bless_after_a_refused_scenario_leaves_the_file(program: Path, folder: P
 @pytest.mark.parametrize("name", ["nothing", "folder"])
 def test_what_cannot_be_read(program: Path, folder: Path, name: str) -> None:
     answers(program, "scenario.json", "--expect", name, status=3, err=CANNOT_READ, cwd=folder)
+
+
+@pytest.mark.skipif(not Path("/dev/zero").exists(), reason="needs /dev/zero")
+def test_a_file_without_an_end(program: Path, folder: Path) -> None:
+    said = CANNOT_READ + "  /dev/zero: file too large\n"
+    answers(program, "scenario.json", "--explain", "--expect", "/dev/zero", status=3, err=said, cwd=folder)
+    (folder / "list").write_text("scenario.json\t/dev/zero\n")
+    assert run(program, "--expect-list", "list", cwd=folder).status == 3
 
 
 # names of files, and how messages show them: none writes to a terminal's title or cursor

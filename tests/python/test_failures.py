@@ -107,6 +107,29 @@ def refused_allocations(
             yield Run(command, given, {"CHANCE": chance, "SEED": seed}, ends)
 
 
+class FrontOf:
+    """The ends of a run that prints this text and has this status; if memory ran out, it printed a front of the text."""
+
+    def __init__(self, text: bytes, status: int, err: bytes) -> None:
+        self.text = text
+        self.end = End(status, text, err)
+
+    def __eq__(self, end: object) -> bool:
+        if not isinstance(end, End):
+            return NotImplemented
+        return end == self.end or ((end.status, end.err) == (3, MEMORY.err) and self.text.startswith(end.out))
+
+
+def refused_diffs(shim: Shim, program: str, wanted: Path) -> Iterator[Run]:
+    """Each allocation refused while lines are compared with others: want of memory is told as that."""
+    file, text = row("every_kind_of_step")
+    wanted.write_bytes(text.replace(b"new", b"old"))
+    command = (program, "--expect", str(wanted), file)
+    ran = subprocess.run(command, capture_output=True, timeout=SECONDS)
+    assert ran.returncode == 4 and ran.stdout.count(b"\n+") > 3
+    return refused_allocations(shim, command, b"", (FrontOf(ran.stdout, 4, ran.stderr),), CHANCES, 5)
+
+
 def refused_explanations(shim: Shim, program: str) -> Iterator[Run]:
     """Each allocation refused while a fault is explained: the fault is printed, with or without its place."""
     row = TOP / "tests/rows/explain/request_in_small_letters"
@@ -429,6 +452,10 @@ def test_failing_writes(shim: Shim, program: Path, checks: Checks) -> None:
 
 def test_refused_allocations_of_an_explanation(shim: Shim, program: Path, checks: Checks) -> None:
     check_all(checks, shim, refused_explanations(shim, str(program)))
+
+
+def test_refused_allocations_of_a_diff(shim: Shim, program: Path, checks: Checks, tmp_path: Path) -> None:
+    check_all(checks, shim, refused_diffs(shim, str(program), tmp_path / "wanted"))
 
 
 def test_a_fault_told_in_pieces(shim: Shim, program: Path, checks: Checks) -> None:

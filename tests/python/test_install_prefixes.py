@@ -20,7 +20,7 @@ from stranger import block, copy_with_builds
 MACHINE = os.uname().machine
 FIRST = (TOP / "examples/first.out").read_text()
 EXAMPLE = TOP / "examples/first.json"
-PAGES = ["tracehost", "tracehost-view", "tracehost-perfetto", "tracehost-cc", "tracehost-run"]
+PAGES = ["tracehost", "tracehost-view", "tracehost-perfetto", "tracehost-cc", "tracehost-run", "tracehost-corpus"]
 STOPPED = "1001 stopped: word 4479\n"
 # a trace of one step, since the program that is installed may be older than traces
 TRACE = '{"user":1001,"step":1,"index":1,"asked":{"op":"spawn"},"reply":"new","pid":1000,"lwp":100000}\n'
@@ -188,6 +188,16 @@ def test_a_c_program_on_the_model(installed: Installed, tmp_path: Path) -> None:
     assert Path(f"{record}.html").read_text().rstrip().endswith("</html>")
 
 
+@needs("cc")
+def test_a_corpus(installed: Installed, tmp_path: Path) -> None:
+    """tracehost-corpus finds the program."""
+    for kind in ("json", "out"):
+        shutil.copy(TOP / f"examples/first.{kind}", tmp_path)
+    assert installed.run("tracehost-corpus", tmp_path) == ""
+    (tmp_path / "first.out").write_text("?\n")
+    assert installed.shell(f"tracehost-corpus '{tmp_path}' || echo $?").endswith("\n1\n")
+
+
 @needs("pkg-config", "cc")
 def test_a_c_program_by_the_flags(installed: Installed, tmp_path: Path) -> None:
     """By the line that docs/POSIX.md shows."""
@@ -202,7 +212,7 @@ def test_without_a_compiler(sources: Path, tmp_path: Path) -> None:
     words = ["CC=no-such-compiler", f"PREFIX={tmp_path}"]
     ran = subprocess.run(["make", "install", *words], cwd=sources, capture_output=True, text=True, check=False)
     assert ran.returncode == 0
-    said = "there is no no-such-compiler: tracehost-cc and tracehost-run"
+    said = "there is no no-such-compiler: tracehost-cc, tracehost-run and tracehost-corpus"
     assert any(line.startswith(said) for line in (ran.stdout + ran.stderr).splitlines())
     assert output(tmp_path / "bin/tracehost", EXAMPLE) == FIRST
     assert not (tmp_path / "bin/tracehost-run").exists()

@@ -91,7 +91,9 @@ def test_the_version(program: Path, word: str) -> None:
     assert run(program, word).out == f"tracehost {found[1]}\n"
 
 
-@pytest.mark.parametrize("command", ["viewer/make", "viewer/perfetto", "clients/posix/tracehost-run"])
+@pytest.mark.parametrize(
+    "command", ["viewer/make", "viewer/perfetto", "clients/posix/tracehost-run", "clients/posix/tracehost-corpus"]
+)
 def test_the_version_of_another_command(command: str) -> None:
     version = run(TOP / "tools/version").out.strip()
     assert run(TOP / command, "--version").out in (f"{command} {version}\n", f"{Path(command).name} {version}\n")

@@ -40,6 +40,8 @@ HOSTILE = {
     "a fraction of many digits": ('{"steps":[{"user":1001,"op":0.', "5", "", ',"op":"spawn"}]}'),
     "a text of many escapes": ('{"steps":[{"user":1001,"op":"spawn","x":"', "\\u0041", "", '"}]}'),
     "a text of many escapes, with its key again": ('{"steps":[{"user":1001,"op":"', "\\n", "", '","op":"spawn"}]}'),
+    "a text of many surrogate pairs": ('{"steps":[{"user":1001,"op":"spawn","x":"', "\\ud83d\\ude00", "", '"}]}'),
+    "keys with escapes": ('{"steps":[{"user":1001,"op":"spawn",', '"\\u0061b":1', ",", "}]}"),
     "a key of many bytes": ('{"steps":[{"user":1001,"op":"spawn","', "x", "", '":1}]}'),
     "arrays nested 60 deep": ('{"steps":[{"user":1001,"op":"spawn","x":[', "[" * 60 + "]" * 60, ",", "]}]}"),
     "arrays nested at a key that comes again": ('{"steps":[{"user":1001,"op":[', "[" * 60 + "]" * 60, ",", '],"op":"spawn"}]}'),

@@ -203,8 +203,9 @@ def test_a_race_by_the_runtime_of_a_wheel(with_runtime: Environment, tmp_path: P
 
 
 @needs("cc", "make")
-def test_the_version_of_the_runtime_of_a_wheel(with_runtime: Environment, tmp_path: Path) -> None:
-    assert run([with_runtime.bin / "tracehost-run", "--version"], tmp_path) == f"tracehost-run {VERSION}\n"
+@pytest.mark.parametrize("command", ["tracehost-run", "tracehost-corpus"])
+def test_the_version_of_the_runtime_of_a_wheel(with_runtime: Environment, tmp_path: Path, command: str) -> None:
+    assert run([with_runtime.bin / command, "--version"], tmp_path) == f"{command} {VERSION}\n"
 
 
 @pytest.mark.parametrize("command", ["tracehost-view", "tracehost-perfetto"])

@@ -5,70 +5,23 @@ A worker that is killed, and one with another model.
 
 from __future__ import annotations
 
-import importlib.util
-import json
 import os
 import shutil
 import signal
 import subprocess
 import sys
 import time
-from collections.abc import Iterator, Mapping
 from pathlib import Path
 
 import pytest
-from posix_kit import POSIX, RUN, Posix
+from dask_cluster import Cluster, cluster, needs_dask
+from posix_kit import RUN, Posix
 
-pytestmark = pytest.mark.skipif(importlib.util.find_spec("distributed") is None, reason="python3-distributed isn't installed")
+__all__ = ["cluster"]  # a fixture
+pytestmark = needs_dask
 
 SEEDS = "100..3500"
 """Four shares, and parts of two more."""
-
-
-class Cluster:
-    """A scheduler with workers of one thread."""
-
-    def __init__(self, room: Path) -> None:
-        self._room, self._file = room, room / "scheduler.json"
-        self._started: list[subprocess.Popen[bytes]] = []
-        self._start("scheduler", {}, "--host", "127.0.0.1", "--port", "0", "--no-dashboard")
-        while not (self._file.exists() and self._file.stat().st_size > 0):
-            time.sleep(0.05)
-        time.sleep(0.2)
-        self.address = json.loads(self._file.read_text())["address"]
-
-    def _start(self, kind: str, environment: Mapping[str, str], *words: str) -> subprocess.Popen[bytes]:
-        command = [sys.executable, "-m", f"distributed.cli.dask_{kind}", "--scheduler-file", str(self._file), *words]
-        with open(self._room / f"{kind}.log", "ab") as log:
-            started = subprocess.Popen(command, env={**os.environ, **environment}, stdout=log, stderr=log, cwd=self._room)
-        self._started.append(started)
-        return started
-
-    def worker(self, **environment: str) -> subprocess.Popen[bytes]:
-        """Another worker."""
-        log = self._room / "worker.log"
-        before = log.read_text().count("Registered to") if log.exists() else 0
-        path = f"{POSIX}:{os.environ['PATH']}"
-        words = ("--nthreads", "1", "--no-nanny", "--no-dashboard", "--local-directory", str(self._room))
-        started = self._start("worker", {"PATH": path, **environment}, *words)
-        while log.read_text().count("Registered to") == before:
-            assert started.poll() is None, log.read_text()
-            time.sleep(0.05)
-        return started
-
-    def end(self) -> None:
-        for started in reversed(self._started):
-            started.kill()
-            started.wait()
-
-
-@pytest.fixture
-def cluster(tmp_path: Path) -> Iterator[Cluster]:
-    made = Cluster(tmp_path)
-    try:
-        yield made
-    finally:
-        made.end()
 
 
 def test_workers_come_to_what_one_job_does(posix: Posix, cluster: Cluster, tmp_path: Path) -> None:

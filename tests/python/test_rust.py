@@ -1,5 +1,5 @@
-"""The client in Rust, clients/rust, over the library: its tests and the code of its documentation, every scenario of tests/rows
-and examples by typed calls, random typed calls beside the same calls by text, and its example.
+"""The client in Rust, clients/rust, over the library: every scenario of tests/rows and examples by typed calls, random typed
+calls beside the same calls by text, and its example. test_rust_crates.py has its tests and its documentation.
 """
 
 from __future__ import annotations
@@ -8,12 +8,12 @@ import os
 import re
 import shutil
 import subprocess
-from collections.abc import Mapping
 from pathlib import Path
 
 import pytest
-from c_programs import NONE, output
-from checking import TOP, Checks, needs, run
+from c_programs import output
+from cargo import Cargo
+from checking import TOP, needs
 from client_programs import FILES, words
 from stranger import block
 
@@ -24,58 +24,9 @@ PAGE = ["1001 stopped SIGSTOP", "1001 signaled SIGKILL", "99: No such process"]
 pytestmark = needs("cargo")
 
 
-class Cargo:
-    """cargo for the crate, over the library to test, in a folder of its own."""
-
-    def __init__(self, library: Path, target: Path) -> None:
-        self.environment = {"TRACEHOST_LIB_DIR": str(library), "CARGO_TARGET_DIR": str(target)}
-
-    def __call__(self, command: str, *words: str, environment: Mapping[str, str] = NONE) -> str:
-        return output("cargo", command, "--offline", *words, cwd=CRATE, environment={**self.environment, **environment})
-
-
 @pytest.fixture(scope="module")
 def cargo(library: Path, tmp_path_factory: pytest.TempPathFactory) -> Cargo:
-    return Cargo(library, tmp_path_factory.mktemp("cargo"))
-
-
-def needs_part(part: str) -> None:
-    if subprocess.run(["cargo", part, "--version"], capture_output=True, check=False).returncode:
-        pytest.skip(f"cargo has no {part}")
-
-
-def test_the_version() -> None:
-    named = re.search(r'^version = "(.*)"', (CRATE / "Cargo.toml").read_text(), re.MULTILINE)
-    assert named and named[1] == run(TOP / "tools/version").out.strip()
-
-
-def test_it_has_the_license() -> None:
-    assert (CRATE / "LICENSE").read_bytes() == (TOP / "LICENSE").read_bytes()
-
-
-def test_it_compiles(cargo: Cargo) -> None:
-    cargo("build", "--quiet", "--all-targets")
-
-
-def test_clippy(cargo: Cargo) -> None:
-    needs_part("clippy")
-    cargo("clippy", "--quiet", "--all-targets", "--", "-D", "warnings")
-
-
-def test_its_format() -> None:
-    needs_part("fmt")
-    output("cargo", "fmt", "--check", cwd=CRATE)
-
-
-def test_its_documentation(cargo: Cargo) -> None:
-    cargo("doc", "--quiet", "--no-deps", environment={"RUSTDOCFLAGS": "-Dwarnings"})
-
-
-def test_its_own_tests(cargo: Cargo, checks: Checks) -> None:
-    """Each of them counts as a check."""
-    for name, result in re.findall(r"^test (.*) \.\.\. (\w+)", cargo("test"), re.MULTILINE):
-        if result != "ignored":
-            checks.check(result == "ok", name)
+    return Cargo(CRATE, library, tmp_path_factory.mktemp("cargo"))
 
 
 def test_the_scenarios(cargo: Cargo, words: Path, tmp_path: Path) -> None:

@@ -17,7 +17,10 @@ PARTS: dict[str, tuple[list[str], list[str]]] = {
     "the viewer": (["viewer/*.py", "viewer/*"], ["viewer"]),
     "the benchmarks": (["bench/*.py", "bench/*"], ["bench", "clients/python"]),
     "steps of a benchmark": (["bench/in_process/*.py"], ["clients/python"]),
-    "the client in Python": (["clients/conftest.py", "clients/python/*/*.py"], ["clients/python", "clients/python/examples"]),
+    "the client in Python": (
+        ["clients/conftest.py", "clients/python/*/*.py"],
+        ["clients/python", "clients/python/examples", "tests/python"],
+    ),
     "its package": (["clients/python/setup.py"], []),
     "tests of the client in C": (["clients/c/tests/*.py"], ["clients/python"]),
     "C programs on the model": (["clients/posix/*", "clients/posix/**/*.py"], ["clients/posix", "clients/python"]),

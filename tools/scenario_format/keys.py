@@ -39,7 +39,12 @@ def variants(form: Format) -> str:
 
 
 def names(form: Format) -> str:
-    return "".join(f'        "{key.name}" => Some(Key::{key.variant}),\n' for key in form.keys)
+    """The arms of `key_named`, in crates/scenario_text/src/keys.rt: by the length of the name, and then by the name."""
+    arms = []
+    for length in sorted({len(key.name) for key in form.keys}):
+        rows = [f'            "{key.name}" => Some(Key::{key.variant}),\n' for key in form.keys if len(key.name) == length]
+        arms.append(f"        {length} => match text {{\n{''.join(rows)}            _ => None,\n        }},\n")
+    return "".join(arms)
 
 
 def sets(form: Format) -> str:

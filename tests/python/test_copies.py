@@ -1,0 +1,47 @@
+"""A model checker copies a session at each step that it tries: a copy of a small one is small and takes few instructions,
+and each frees what it has taken.
+
+callgrind counts, so each run has the same result.
+"""
+
+from __future__ import annotations
+
+import pathlib
+import shutil
+import sys
+
+import pytest
+
+TOP = pathlib.Path(__file__).resolve().parents[2]
+sys.path.insert(0, str(TOP / "bench"))
+
+from in_process import bytes_of_copy, compile_copies, instructions_of_copies  # noqa: E402
+
+MOST_BYTES_OF_TWO_ROWS = 8_192
+MOST_OF_COPY_AND_CLOSE = 8_000  # of three processes
+MOST_OF_OPEN_AND_CLOSE = 10_000
+
+pytestmark = pytest.mark.skipif(not shutil.which("cc"), reason="needs cc")
+needs_valgrind = pytest.mark.skipif(not shutil.which("valgrind"), reason="needs valgrind")
+
+
+@pytest.fixture(scope="module")
+def copies(library: pathlib.Path, tmp_path_factory: pytest.TempPathFactory) -> pathlib.Path:
+    return compile_copies(tmp_path_factory.mktemp("copies"), library / "libtracehost.a")
+
+
+def test_a_session_of_two_rows_is_small(copies: pathlib.Path) -> None:
+    none, two = bytes_of_copy(copies, 0), bytes_of_copy(copies, 1)
+    assert 0 < none < two <= MOST_BYTES_OF_TWO_ROWS
+
+
+@needs_valgrind
+def test_a_copy_takes_few_instructions(copies: pathlib.Path) -> None:
+    three, many = (instructions_of_copies(copies, processes, "copy_and_close") for processes in (3, 100))
+    assert 0 < three < many
+    assert three <= MOST_OF_COPY_AND_CLOSE
+
+
+@needs_valgrind
+def test_an_unused_session_takes_few_instructions(copies: pathlib.Path) -> None:
+    assert 0 < instructions_of_copies(copies, 0, "open_and_close") <= MOST_OF_OPEN_AND_CLOSE

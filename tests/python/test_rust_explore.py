@@ -1,0 +1,114 @@
+"""clients/explore: its command, and the traces that it leaves."""
+
+from __future__ import annotations
+
+import os
+import re
+import signal
+import subprocess
+import time
+from pathlib import Path
+
+import pytest
+from c_programs import output
+from cargo import Cargo
+from checking import TOP, needs
+from stranger import block
+
+CRATE = TOP / "clients/explore"
+RACES = sorted(path.stem for path in (TOP / "clients/posix/races").glob("*.c"))
+
+pytestmark = needs("cargo")
+
+
+@pytest.fixture(scope="module")
+def cargo(library: Path, tmp_path_factory: pytest.TempPathFactory) -> Cargo:
+    made = Cargo(CRATE, library, tmp_path_factory.mktemp("cargo"))
+    made("build", "--quiet", "--release", "--bins")
+    return made
+
+
+@pytest.fixture(scope="module")
+def command(cargo: Cargo) -> str:
+    return str(cargo.target / "release/tracehost-explore")
+
+
+def test_it_has_all_races(command: str) -> None:
+    assert [line.split()[0] for line in output(command, "--list").splitlines()] == RACES
+
+
+@pytest.mark.parametrize("race", RACES)
+def test_a_race_and_its_remedy(command: str, program: Path, race: str, tmp_path: Path) -> None:
+    """The program replays the trace, whose end the search has told."""
+    scenario = tmp_path / "race.json"
+    said = output(command, race, "--save", scenario, status=1)
+    output(program, scenario, "--expect", tmp_path / "race.out")
+    steps = re.findall(r"^ *\d+ .* -> ", said, re.MULTILINE)
+    assert len(steps) == int(re.findall(r"after (\d+) steps", said)[0]) <= len(scenario.read_text().splitlines()) - 2
+    assert output(command, race, "--right").startswith("all interleavings passed: ")
+
+
+@pytest.mark.parametrize(
+    ("words", "why"),
+    [
+        ([], "a model is missing"),
+        (["nix"], "there is no model nix"),
+        (["lost_wakeup", "group_stop"], "a second model, group_stop"),
+        (["lost_wakeup", "--fast"], "there is no option --fast"),
+        (["lost_wakeup", "--threads"], "--threads needs a value"),
+        (["lost_wakeup", "--limit", "-1"], "--limit -1: "),
+        (["lost_wakeup", "--users", "65"], "--users is 1 to 64"),
+        (["lost_wakeup", "--resume"], "--resume needs --checkpoint"),
+        (["stop_lost_at_detach", "--size", "0"], "--size of stop_lost_at_detach is 1..=20"),
+    ],
+)
+def test_a_mistake(command: str, words: list[str], why: str) -> None:
+    ended = subprocess.run([command, *words], capture_output=True, text=True, check=False)
+    assert ended.returncode == 2 and not ended.stdout
+    assert ended.stderr.startswith(f"tracehost-explore: {why}")
+
+
+def test_what_is_not_finished(command: str, tmp_path: Path) -> None:
+    """A limit, a full disk and a checkpoint of another search are no pass."""
+    right = ["stop_lost_at_detach", "--right"]
+    assert output(command, *right, "--limit", "100", status=3).startswith("not all states were seen: ")
+    assert not output(command, *right, "--memory", "0", status=3).startswith("all")
+    for words in (right, ["--list"], ["--help"]):
+        with open("/dev/full", "wb") as full:
+            assert subprocess.run([command, *words], stdout=full, stderr=subprocess.DEVNULL, check=False).returncode == 3
+    output(command, "lost_wakeup", "--save", tmp_path / "no/race.json", status=3)
+    saved = ["--checkpoint", str(tmp_path / "search"), "--every", "0"]
+    output(command, *right, *saved)
+    output(command, *right, "--size", "3", *saved, "--resume", status=3)
+    output(command, *right, *saved, "--resume")
+
+
+def test_odd_names(command: str, tmp_path: Path) -> None:
+    """A path may be any bytes; other words are refused, and nothing panics."""
+    odd = os.fsdecode(os.fsencode(tmp_path) + b"/\xff race.json")
+    output(command, "lost_wakeup", "--save", odd, status=1)
+    assert sorted(os.listdir(os.fsencode(tmp_path))) == [b"\xff race.json", b"\xff race.out"]
+    output(command, os.fsdecode(b"\xff"), status=2)
+    output(command, "lost_wakeup", "--limit", os.fsdecode(b"\xff"), status=2)
+
+
+def test_a_search_that_is_killed(command: str, tmp_path: Path) -> None:
+    """Its checkpoint is whole, and the rest of the search comes to the same."""
+    words = [command, "stop_lost_at_detach", "--right", "--size", "4"]
+    whole = output(*words)
+    saved = tmp_path / "search"
+    searching = subprocess.Popen([*words, "--checkpoint", saved, "--every", "0"], stdout=subprocess.DEVNULL)
+    until = time.monotonic() + 60
+    while not Path(f"{saved}.1001").exists():
+        assert time.monotonic() < until and searching.poll() is None
+        time.sleep(0.001)
+    searching.send_signal(signal.SIGKILL)
+    assert searching.wait() == -signal.SIGKILL
+    assert output(*words, "--checkpoint", saved, "--resume") == whole
+
+
+def test_the_example(cargo: Cargo, program: Path, tmp_path: Path) -> None:
+    words = ["cargo", "run", "--offline", "--quiet", "--manifest-path", str(CRATE / "Cargo.toml")]
+    said = output(*words, "--example", "lost_wakeup", cwd=tmp_path, environment=cargo.environment)
+    assert said == block("../clients/explore/README.md", "text")
+    output(program, tmp_path / "race.json", "--expect", tmp_path / "race.out")
