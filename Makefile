@@ -45,7 +45,7 @@ staged = $(if $(filter /%,$(firstword $(DESTDIR)$(bindir))),$(DESTDIR),$(CURDIR)
 POSIX = -C clients/posix --no-print-directory DESTDIR='$(staged)' bindir='$(bindir)' libdir='$(libdir)' \
   man1dir='$(man1dir)' libpkgconfigdir='$(libpkgconfigdir)'
 # commands whose completions come from their own --help
-HELPED = tracehost-cc tracehost-run tracehost-view tracehost-perfetto
+HELPED = tracehost-cc tracehost-run tracehost-corpus tracehost-view tracehost-perfetto
 # what the linker finds without being told
 SYSTEM_LIBRARIES = /usr/lib /usr/lib/% /usr/lib64 /lib /lib/% /lib64
 
@@ -90,7 +90,7 @@ install-files:
 	for name in $(filter-out tracehost-run,$(HELPED)); do \
 	  ln -sf tracehost-run "$(DESTDIR)$(bashcompletiondir)/$$name" || exit; done
 	if command -v $(CC) >/dev/null; then $(MAKE) $(POSIX) install; \
-	  else echo "there is no $(CC): tracehost-cc and tracehost-run are not installed" >&2; fi
+	  else echo "there is no $(CC): tracehost-cc, tracehost-run and tracehost-corpus are not installed" >&2; fi
 
 # the library of the present sources, from the folder that tools/library prints
 install-library:
