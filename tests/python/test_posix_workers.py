@@ -14,8 +14,9 @@ import time
 from pathlib import Path
 
 import pytest
+from checking import run
 from dask_cluster import Cluster, cluster, needs_dask
-from posix_kit import RUN, Posix
+from posix_kit import POSIX, RUN, Posix
 
 __all__ = ["cluster"]  # a fixture
 pytestmark = needs_dask
@@ -45,6 +46,19 @@ def test_workers_come_to_what_one_job_does(posix: Posix, cluster: Cluster, tmp_p
     assert (again.returncode, again.stdout, again.stderr) == (1, first.stdout, first.stderr)
     passed = posix.run("--workers", cluster.address, "--schedules", 1500, posix.remedy("stale_lwp"))
     assert passed.returncode == 0 and "1501 schedules passed" in passed.stderr, passed.stderr
+
+
+def test_dask_logs_nothing(cluster: Cluster, monkeypatch: pytest.MonkeyPatch) -> None:
+    """What its libraries log isn't among the lines of the search."""
+    monkeypatch.setenv("PYTHONPATH", str(POSIX))
+    code = (
+        "import logging, sys; from tracehost_posix.farm import Farm; Farm(sys.argv[1])\n"
+        "for name in ('distributed', 'distributed.client', 'distributed.comm.tcp', 'tornado.application', 'asyncio'):\n"
+        "    logging.getLogger(name).critical('logged by %s', name)\n"
+        "print('answered')\n"
+    )
+    done = run(sys.executable, "-c", code, cluster.address)
+    assert (done.status, done.out, done.err) == (0, "answered\n", "")
 
 
 def test_a_worker_with_another_model_is_refused(posix: Posix, cluster: Cluster, program: Path, tmp_path: Path) -> None:

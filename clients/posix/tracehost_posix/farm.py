@@ -82,6 +82,13 @@ def run_text(module: str, name: str, *arguments: object) -> object:
     return result
 
 
+def _silence(*names: str) -> None:
+    """Prints nothing of what these libraries log: a worker's death, say, after which another has its share."""
+    for name in names:
+        logger = logging.getLogger(name)
+        logger.handlers, logger.propagate = [logging.NullHandler()], False
+
+
 class Farm:
     """The workers of a scheduler."""
 
@@ -92,7 +99,7 @@ class Farm:
         except ImportError as why:
             raise Refused(f"--workers: {why.name} isn't here: Debian's python3-distributed has it") from why
         pickle.register_pickle_by_value(sys.modules[__name__])
-        logging.getLogger("distributed").setLevel(logging.CRITICAL)
+        _silence("distributed", "tornado", "asyncio")
         try:
             self._client: Any = distributed.Client(address, set_as_default=False)
         except (OSError, ValueError, TypeError) as why:
