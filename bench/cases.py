@@ -1,6 +1,7 @@
 """Steps that cost most: of a user with as many processes, LWPs, pending signals or handlers as one may have.
 
-A case is a function from a size to a preparation, and to steps without end.
+A case is a function from a size to a preparation, and to steps without end. A re-attach is a PT_DETACH, a PT_ATTACH and
+the wait that is told of the stop.
 """
 
 from __future__ import annotations
@@ -361,11 +362,11 @@ def refused_turns(count: int) -> Case:
 
 # The case, what makes it, and how many processes, tracees, children, LWPs or handlers there are at most
 CASES: list[tuple[str, Make, int]] = [
-    ("wait, nothing to report, tracees", waits, PROCESSES - 1),
-    ("PT_DETACH, PT_ATTACH, wait, last of tracees", reattached_last, PROCESSES - 1),
-    ("the same, the middle of tracees", reattached_middle, PROCESSES - 1),
-    ("the same, after a chain of debuggers", reattached_after_a_chain, PROCESSES - 1),
-    ("the same, of LWPs", reattached_lwps, LWPS - 1),
+    ("wait for any, tracees with nothing to report", waits, PROCESSES - 1),
+    ("re-attach, last of tracees", reattached_last, PROCESSES - 1),
+    ("re-attach, middle of tracees", reattached_middle, PROCESSES - 1),
+    ("re-attach, after a chain of debuggers", reattached_after_a_chain, PROCESSES - 1),
+    ("re-attach, LWPs", reattached_lwps, LWPS - 1),
     ("PT_STEP, turn, wait, LWPs", stepped, LWPS - 1),
     ("PT_CONTINUE, SIGSTOP, turn, wait, LWPs", stopped, LWPS - 1),
     ("PT_LWPINFO, last of LWPs", of_the_last(["PT_LWPINFO"]), LWPS - 1),
@@ -374,16 +375,16 @@ CASES: list[tuple[str, Make, int]] = [
     ("PT_GETLWPLIST", lists_lwps, LWPS - 1),
     ("list, processes", lambda processes: lists(spawns(processes)), PROCESSES),
     ("list, zombies", lambda count: lists(zombies(count)), PROCESSES - 1),
-    ("kill -1 with signal 0, processes", checks, PROCESSES),
-    ("kill -1 with SIGURG, processes", discarded_signals, PROCESSES),
-    ("the same, of four LWPs", discarded_beside_lwps, PROCESSES),
-    ("kill -1 with SIGUSR1, caught, of four LWPs", caught_signals, PROCESSES),
-    ("kill -1 with SIGTSTP, SIGCONT, of four LWPs", stops_and_continues, PROCESSES),
-    ("the same, each with a pending signal", stops_and_continues_all_pending, PROCESSES),
-    ("kill -1 with SIGUSR1, stopped tracees", signals_to_stopped_tracees, PROCESSES - 1),
-    ("kill -1 with SIGTSTP, SIGCONT, SIGSTOP, running tracees", signals_to_running_tracees, PROCESSES - 1),
+    ("kill -1 signal 0, processes", checks, PROCESSES),
+    ("kill -1 SIGURG, processes", discarded_signals, PROCESSES),
+    ("kill -1 SIGURG, processes of four LWPs", discarded_beside_lwps, PROCESSES),
+    ("kill -1 SIGUSR1, caught, processes of four LWPs", caught_signals, PROCESSES),
+    ("kill -1 SIGTSTP, SIGCONT, processes of four LWPs", stops_and_continues, PROCESSES),
+    ("kill -1 SIGTSTP, SIGCONT, processes of four LWPs with pending signals", stops_and_continues_all_pending, PROCESSES),
+    ("kill -1 SIGUSR1, stopped tracees", signals_to_stopped_tracees, PROCESSES - 1),
+    ("kill -1 SIGTSTP, SIGCONT, SIGSTOP, running tracees", signals_to_running_tracees, PROCESSES - 1),
     ("SIGTSTP, turn, SIGCONT, children", job_stops, PROCESSES - 1),
-    ("kill with SIGTSTP, SIGCONT, LWPs with pending signals", stops_beside_pending, LWPS - 1),
+    ("kill SIGTSTP, SIGCONT, LWPs with pending signals", stops_beside_pending, LWPS - 1),
     ("sigaction, LWPs", dispositions, LWPS),
     ("sigaction, LWPs with pending signals", dispositions_beside_pending, LWPS),
     ("raise, turn, LWPs", raises, LWPS),
@@ -436,25 +437,35 @@ def ends_beside_handlers(count: int) -> Case:
     return made + handlers(count, OTHER_SIGNAL), rounds
 
 
+# Those of the cases that are run at many sizes, too
+SCALED: list[Make] = [
+    waits,
+    reattached_middle,
+    reattached_after_a_chain,
+    reattached_lwps,
+    stepped,
+    stopped,
+    stops_beside_pending,
+    raises_beside_pending,
+    job_stops,
+    vforks,
+    vforks_beside_waiters,
+    refused_turns,
+]
+
 # The case, what makes it, and the greatest size
 SCALES: list[tuple[str, Make, int]] = [
-    ("PT_DETACH, PT_ATTACH, wait, users", beside_users, len(scenarios.USERS)),
-    ("the same, processes", lambda count: beside(spawns(count)), PROCESSES - 2),
-    ("the same, zombies", beside_zombies, PROCESSES - 3),
-    ("the same, tracees", beside_tracees, PROCESSES - 2),
-    ("the same, LWPs of the tracee", reattached_lwps, LWPS - 1),
-    ("the same, LWPs of another process", lambda count: beside([*spawns(1), *births(TRACED + 1, count - 1)]), LWPS - 2),
+    ("re-attach, users", beside_users, len(scenarios.USERS)),
+    ("re-attach, processes", lambda count: beside(spawns(count)), PROCESSES - 2),
+    ("re-attach, zombies", beside_zombies, PROCESSES - 3),
+    ("re-attach, other tracees", beside_tracees, PROCESSES - 2),
+    ("re-attach, LWPs of another process", lambda count: beside([*spawns(1), *births(TRACED + 1, count - 1)]), LWPS - 2),
     (
-        "the same, handlers of another process",
+        "re-attach, handlers of another process",
         lambda count: beside(spawns(1) + handlers(count, OTHER_SIGNAL, TRACEE + 1)),
         HANDLERS,
     ),
     ("spawn, exit, handlers of another process", ends_beside_handlers, HANDLERS),
     ("raise, turn, handle, handlers that are asked", handled(OTHER_SIGNAL), HANDLERS),
-    ("wait for any, tracees", waits, PROCESSES - 1),
-    *[(name, make, most) for name, make, most in CASES if make in (stopped, stepped, raises_beside_pending, vforks)],
-    ("vfork, exec, exit, wait, LWPs that wait for theirs", vforks_beside_waiters, 200),
-    ("PT_DETACH, PT_ATTACH, wait, after a chain of debuggers", reattached_after_a_chain, PROCESSES - 1),
-    ("kill -1 with SIGURG, processes", lambda count: discarded_signals(1 + count), PROCESSES - 1),
-    ("list, processes", lambda processes: lists(spawns(processes)), PROCESSES),
+    *[case for case in CASES if case[1] in SCALED],
 ]

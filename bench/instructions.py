@@ -4,7 +4,7 @@
     python3 bench/instructions.py [PROGRAM ..] [--steps N] [--baseline] [--times N] [--peak] [--top N]
 
 PROGRAM is a built program (default: crates/tracehost/out/tracehost, which ./tracehost builds); several are compared,
-numbered from 1. Each runs twelve loads of N steps (default 40,000; as many as fit, if these are longer than the program
+numbered from 1. Each runs thirteen loads of N steps (default 40,000; as many as fit, if these are longer than the program
 reads). Printed is a row for each load and program: millions of instructions of the whole run, of reading the scenario,
 of binding handlers to its steps, of the host's steps, and of the text; `-` if a part has no function of its own in
 that program. With --baseline the program by hand in bench/baseline, which cargo builds, is the first one, and a column
@@ -34,6 +34,7 @@ LOADS = {
     "the same beside 248 tracees": scenarios.of_one(scenarios.attach_among_tracees),
     "chains of debuggers that end": scenarios.of_one(scenarios.chains_that_end),
     "forks that are followed": scenarios.of_one(scenarios.fork_events),
+    "system calls that are handled": scenarios.of_one(scenarios.handled_calls),
     "threads": scenarios.of_one(scenarios.threads),
     "all kinds, 64 users": scenarios.mixed,
     "lists of 64 users": scenarios.spawns_and_lists,

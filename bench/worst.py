@@ -13,7 +13,8 @@ differ; then all ten.
 
 With --longest each case has as many steps as the program reads, and hostile texts of so many bytes follow. A row has
 milliseconds of processors, in the program and in the system, by the median of N runs (default 3) in turn. A text that
-takes more than 300 and prints no more than 64 MiB is marked.
+takes more than 300 and prints no more than 64 MiB is marked. The baseline stops at the first fault of a text, so it has
+no figure for one that it refuses.
 """
 
 from __future__ import annotations
@@ -123,7 +124,7 @@ def print_scaling(programs: list[str], steps: int) -> bool:
 def longest_texts(room: str) -> Iterator[tuple[str, str]]:
     """The names of the cases and of the hostile texts, each with a file."""
     file = os.path.join(room, "scenario.json")
-    for name, make, most in [*cases.CASES, *cases.SCALES]:
+    for name, make, most in dict.fromkeys([*cases.CASES, *cases.SCALES]):
         prepared, rounds = make(most)
         scenarios.write(itertools.islice(itertools.chain(prepared, rounds), MOST_STEPS), file)
         yield f"{name} {most}", file
@@ -139,11 +140,13 @@ def print_longest(programs: list[str], count: int) -> bool:
     with tempfile.TemporaryDirectory() as room:
         for name, file in longest_texts(room):
             ended = [subprocess.run([program, file], stdout=subprocess.PIPE, stderr=subprocess.DEVNULL) for program in programs]
-            failed |= differ(name, [(run.returncode, run.stdout) for run in ended])
+            failed |= differ(name, [run.stdout for run in ended if run.returncode == 0])
             rounds = [[runs.timed(program, file).processors for program in programs] for _ in range(count)]
             ours, *others = (statistics.median(times) * 1000 for times in zip(*rounds))
             printed = len(ended[0].stdout) / MEBIBYTE
             cells = [text for other in others for text in (f"{other:.0f}", f"{ours / other:.2f}")]
+            if ended[-1].returncode != 0:
+                cells = ["-"] * len(cells)
             runs.print_row(name, f"{printed:.0f}", f"{ours:.0f}", *cells, "too long" if ours > 300 and printed <= 64 else "")
     return failed
 
