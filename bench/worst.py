@@ -5,7 +5,7 @@
 
 PROGRAM is the built program (default: crates/tracehost/out/tracehost, which ./tracehost builds). A row has a case of
 bench/cases.py with as many processes, LWPs or handlers as it can have, and the instructions of one step from bytes to
-text (valgrind's callgrind), by N steps (default 2,000). What the preparation costs is taken off. With --baseline
+text (valgrind's callgrind), by N steps (default 1,000). What the preparation costs is taken off. With --baseline
 columns of the program by hand in bench/baseline, which cargo builds, follow; the status is 1 if it prints other lines.
 
 With --scaling each case is run at ten sizes. A row has the least and the greatest of these costs, and by how much they
@@ -154,7 +154,7 @@ def print_longest(programs: list[str], count: int) -> bool:
 def main() -> None:
     parser = argparse.ArgumentParser()
     parser.add_argument("program", nargs="?", default=runs.BUILT)
-    parser.add_argument("--steps", type=int, default=2000)
+    parser.add_argument("--steps", type=int, default=1000)
     parser.add_argument("--baseline", action="store_true")
     parser.add_argument("--runs", type=int, default=3)
     parts = parser.add_mutually_exclusive_group()
