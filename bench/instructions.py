@@ -1,15 +1,17 @@
 #!/usr/bin/env python3
 """Counts the instructions of whole runs and of their parts, by valgrind's callgrind: the count is the same each time.
 
-    python3 bench/instructions.py [PROGRAM ..] [--steps N] [--baseline] [--peak] [--top N]
+    python3 bench/instructions.py [PROGRAM ..] [--steps N] [--baseline] [--times N] [--peak] [--top N]
 
 PROGRAM is a built program (default: crates/tracehost/out/tracehost, which ./tracehost builds); several are compared,
-numbered from 1. Each runs twelve loads of N steps (default 40,000; as many as fit, if these are longer than the program
+numbered from 1. Each runs thirteen loads of N steps (default 40,000; as many as fit, if these are longer than the program
 reads). Printed is a row for each load and program: millions of instructions of the whole run, of reading the scenario,
 of binding handlers to its steps, of the host's steps, and of the text; `-` if a part has no function of its own in
 that program. With --baseline the program by hand in bench/baseline, which cargo builds, is the first one, and a column
-has the times of its instructions. With --peak also the resident memory at most, in times the scenario's bytes. With
---top the N functions that cost most by themselves follow, for each load and program.
+has the times of its instructions. With --times also milliseconds of processors, in the program and in the system, the
+median of N runs in turn, and in times the first program's. With --peak also the resident memory at most, in times the
+scenario's bytes: plain, with --json, and with --expect and the run's own lines. With --top the N functions that cost
+most by themselves follow, for each load and program.
 """
 
 from __future__ import annotations
@@ -17,11 +19,13 @@ from __future__ import annotations
 import argparse
 import os
 import re
+import statistics
 import subprocess
 import tempfile
 from collections.abc import Iterable, Sequence
 from typing import NamedTuple, Optional
 
+import runs
 import scenarios
 
 LOADS = {
@@ -30,6 +34,7 @@ LOADS = {
     "the same beside 248 tracees": scenarios.of_one(scenarios.attach_among_tracees),
     "chains of debuggers that end": scenarios.of_one(scenarios.chains_that_end),
     "forks that are followed": scenarios.of_one(scenarios.fork_events),
+    "system calls that are handled": scenarios.of_one(scenarios.handled_calls),
     "threads": scenarios.of_one(scenarios.threads),
     "all kinds, 64 users": scenarios.mixed,
     "lists of 64 users": scenarios.spawns_and_lists,
@@ -69,19 +74,14 @@ PARTS = {
     ),
 }
 
+# The columns of memory
+WAYS = ("peak", "peak, --json", "peak, --expect")
+
 # A line of callgrind_annotate: the cost, its share, and the function as FILE:NAME [OBJECT]
 COST = re.compile(r"\s*([\d,]+) \(\s*[\d.]+%\)\s+(.*)")
 FUNCTION = re.compile(r"[^:]*:(.*?)(?: \[[^\]]*\])?$")
 
 Functions = list[tuple[str, int]]  # names and instructions, most first
-
-HERE = os.path.dirname(os.path.abspath(__file__))
-
-
-def profile(program: str, scenario: str, file: str) -> None:
-    """Writes callgrind's profile of a run to the file."""
-    words = ["valgrind", "--tool=callgrind", "--quiet", f"--callgrind-out-file={file}", program, scenario]
-    subprocess.run(words, stdout=subprocess.DEVNULL, check=True)
 
 
 def costs(file: str, inclusive: bool) -> tuple[int, Functions]:
@@ -112,24 +112,14 @@ def millions(count: Optional[int]) -> str:
     return "-" if count is None else f"{count / 1e6:.1f}"
 
 
-def peak(program: str, scenario: str, room: str) -> float:
-    """The resident memory at most, in times the scenario's bytes."""
-    small = os.path.join(room, "peak")
-    if not os.path.exists(small):
-        subprocess.run(["cc", "-O1", "-o", small, os.path.join(HERE, "peak.c")], check=True)
-    ran = subprocess.run([small, program, scenario], stdout=subprocess.DEVNULL, stderr=subprocess.PIPE, check=True)
-    return int(ran.stderr) * 1024 / os.path.getsize(scenario)
-
-
-def baseline() -> str:
-    """Builds the program by hand, and returns its path."""
-    folder = os.path.join(HERE, "baseline")
-    subprocess.run(["cargo", "build", "--quiet", "--release", "--offline"], cwd=folder, check=True)
-    return os.path.join(folder, "target/release/baseline")
-
-
-def print_row(cells: Iterable[object]) -> None:
-    print("| " + " | ".join(map(str, cells)) + " |", flush=True)
+def peaks(program: str, scenario: str, room: str) -> list[str]:
+    """The resident memory at most of the ways to run, in times the scenario's bytes; the baseline has but one way."""
+    lines = os.path.join(room, "lines")
+    with open(lines, "wb") as out:
+        subprocess.run([program, scenario], stdout=out, check=True)
+    ways: list[list[str]] = [[]] if program == runs.BASELINE else [[], ["--json"], ["--expect", lines]]
+    times = [runs.peak(program, room, *way, scenario) / os.path.getsize(scenario) for way in ways]
+    return [f"{it:.2f}" for it in times] + ["-"] * (len(WAYS) - len(ways))
 
 
 class Alone(NamedTuple):
@@ -145,46 +135,48 @@ def print_load(load: str, programs: Sequence[str], options: argparse.Namespace, 
     """A row for each program. Answers the functions of each by their own cost."""
     scenario = os.path.join(room, "scenario.json")
     scenarios.write(LOADS[load](options.steps), scenario, SPELLINGS.get(load, scenarios.plain))
+    rounds = [[runs.accepted(program, scenario).processors for program in programs] for _ in range(options.times)]
+    processors = [statistics.median(times) for times in zip(*rounds)]
     alone: list[Alone] = []
     first = 0
-    for number, program in enumerate(programs, 1):
+    for number, program in enumerate(programs):
         file = os.path.join(room, "callgrind.out")
-        profile(program, scenario, file)
+        runs.profile(program, scenario, file)
         whole, functions = costs(file, inclusive=True)
         first = first or whole
-        cells: list[object] = [load, number, millions(whole), *(millions(part(functions, names)) for names in PARTS.values())]
+        cells: list[object] = [load, number + 1, millions(whole), *(millions(part(functions, names)) for names in PARTS.values())]
         if options.baseline:
             cells.append(f"{whole / first:.2f}")
+        if options.times:
+            cells += [f"{processors[number] * 1000:.0f}", f"{processors[number] / processors[0]:.2f}"]
         if options.peak:
-            cells.append(f"{peak(program, scenario, room):.1f}")
-        print_row(cells)
+            cells += peaks(program, scenario, room)
+        runs.print_row(*cells)
         if options.top:
-            alone.append(Alone(load, number, *costs(file, inclusive=False)))
+            alone.append(Alone(load, number + 1, *costs(file, inclusive=False)))
     return alone
 
 
 def print_top(run: Alone, count: int) -> None:
     print(f"\n{run.load}, program {run.number}: the functions that cost most by themselves\n")
-    print_row(["millions", "share", "function"])
-    print("|---|---|---|")
+    runs.print_heads("millions", "share", "function")
     for name, cost in run.functions[:count]:
-        print_row([millions(cost), f"{cost / run.whole:.1%}", f"`{name}`"])
+        runs.print_row(millions(cost), f"{cost / run.whole:.1%}", f"`{name}`")
 
 
 def main() -> None:
     parser = argparse.ArgumentParser()
-    top = os.path.join(HERE, "..")
-    parser.add_argument("programs", nargs="*", default=[os.path.join(top, "crates/tracehost/out/tracehost")])
+    parser.add_argument("programs", nargs="*", default=[runs.BUILT])
     parser.add_argument("--steps", type=int, default=40000)
     parser.add_argument("--baseline", action="store_true")
+    parser.add_argument("--times", type=int, default=0)
     parser.add_argument("--peak", action="store_true")
     parser.add_argument("--top", type=int, default=0)
     options = parser.parse_args()
     if options.baseline:
-        options.programs.insert(0, baseline())
-    heads = ["load", "program", "whole", *PARTS] + ["times"] * options.baseline + ["peak"] * options.peak
-    print_row(heads)
-    print("|" + "---|" * len(heads))
+        options.programs.insert(0, runs.baseline())
+    heads = ["load", "program", "whole", *PARTS] + ["times"] * options.baseline
+    runs.print_heads(*heads, *(["milliseconds", "times"] if options.times else []), *(WAYS if options.peak else []))
     alone: list[Alone] = []
     with tempfile.TemporaryDirectory() as room:
         for load in LOADS:

@@ -4,6 +4,7 @@ A load is a function from a length to that many steps. A source is a function fr
 never end; `of_one`, `side_by_side` and `mixed` make loads of sources.
 """
 
+import itertools
 import json
 import re
 from collections.abc import Callable, Iterable, Iterator
@@ -200,6 +201,21 @@ def fork_events(user: int) -> Iterator[Step]:
         yield {"user": user, "op": "turn", "lwp": lwp, "act": "compute"}
         yield wait(user, debugger)
         yield ptrace(user, debugger, "PT_CONTINUE", tracee)
+
+
+def handled_calls(user: int) -> Iterator[Step]:
+    """A tracee stops at the entry and the exit of each system call, and a handler continues it."""
+    debugger, tracee = first_pid(user), first_pid(user) + 1
+    handle = {"user": user, "op": "handle", "caller": debugger}
+    yield spawn(user)
+    yield spawn(user)
+    yield ptrace(user, debugger, "PT_ATTACH", tracee)
+    yield wait(user, debugger)
+    yield {"user": user, "op": "install", "caller": debugger, "rules": [{"decision": "continue"}]}
+    yield ptrace(user, debugger, "PT_SYSCALL", tracee)
+    for step in itertools.cycle(call(user, Numbers(user).lwp() + 1, "other", code=4)):
+        yield step
+        yield handle
 
 
 def installs(user: int) -> Iterator[Step]:

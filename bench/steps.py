@@ -13,29 +13,17 @@ from __future__ import annotations
 
 import argparse
 import os
-import subprocess
 import tempfile
-import time
 
+import runs
 from scenarios import KINDS, write
 
 LENGTHS = (10000, 30000, 60000)
 
 
-def best(program: str, file: str, runs: int) -> float:
-    """Seconds of the fastest run."""
-    times = []
-    for _ in range(runs):
-        began = time.perf_counter()
-        subprocess.run([program, file], stdout=subprocess.DEVNULL, check=True)
-        times.append(time.perf_counter() - began)
-    return min(times)
-
-
 def main() -> None:
     parser = argparse.ArgumentParser()
-    top = os.path.join(os.path.dirname(os.path.abspath(__file__)), "..")
-    parser.add_argument("program", nargs="?", default=os.path.join(top, "crates/tracehost/out/tracehost"))
+    parser.add_argument("program", nargs="?", default=runs.BUILT)
     parser.add_argument("--runs", type=int, default=5)
     options = parser.parse_args()
     print(f'{"scenario":45} {"steps":>7} {"seconds":>9} {"us a step":>10}')
@@ -44,7 +32,7 @@ def main() -> None:
             for length in LENGTHS:
                 file = os.path.join(room, "scenario.json")
                 count = write(make(length), file)
-                seconds = best(options.program, file, options.runs)
+                seconds = min(runs.accepted(options.program, file).clock for _ in range(options.runs))
                 print(f"{kind:45} {count:7} {seconds:9.3f} {seconds / count * 1e6:10.2f}")
 
 

@@ -31,9 +31,9 @@ import statistics
 import subprocess
 import sys
 import tempfile
-import time
 from collections.abc import Iterator, Sequence
 
+import runs
 import scenarios
 from scenarios import Step
 
@@ -94,17 +94,6 @@ def lines(program: str, *words: str) -> bytes:
     return run.stdout
 
 
-def timed(program: str, *words: str) -> tuple[float, float]:
-    """The wall time and the processor time of one run, in seconds."""
-    quiet = [(os.POSIX_SPAWN_OPEN, 1, os.devnull, os.O_WRONLY, 0)]
-    began = time.perf_counter()
-    child = os.posix_spawn(program, [program, *words], os.environ, file_actions=quiet)
-    _, status, used = os.wait4(child, 0)
-    if status != 0:
-        sys.exit(f'bench/threads.py: {program} {" ".join(words)} ended with status {status}')
-    return time.perf_counter() - began, used.ru_utime + used.ru_stime
-
-
 @contextlib.contextmanager
 def busy(loops: int) -> Iterator[None]:
     """So many busy loops run at the same time."""
@@ -124,15 +113,15 @@ WIDTHS = (13, 8, 15, 8, 13, 8, 17)
 Made = list[tuple[str, int, str]]  # the shape, the number of users, and the file of each scenario
 
 
-def measure(program: str, made: Made, runs: int, loops: int) -> int:
+def measure(program: str, made: Made, count: int, loops: int) -> int:
     """A line for each scenario. Answers how many passed a bound."""
     passed = 0
     print(f"\nwith {loops} busy loops" if loops else "\nas the machine is")
     heads = ("plain: median", "longest", "threads: median", "longest", "times: median", "longest", "processor: median")
     print(f'{"shape":8} {"users":>5} ' + " ".join(f"{head:>{width}}" for head, width in zip(heads, WIDTHS)))
     for shape, users, file in made:
-        pairs = [(timed(program, file), timed(program, "--threads", file)) for _ in range(runs)]
-        (plain, plain_work), (threads, work) = (zip(*runs_of) for runs_of in zip(*pairs))
+        pairs = [(runs.accepted(program, file), runs.accepted(program, "--threads", file)) for _ in range(count)]
+        (plain, plain_work, _), (threads, work, _) = (zip(*of_one) for of_one in zip(*pairs))
         median = statistics.median(plain)
         usual, longest = statistics.median(threads) / median, max(threads) / median
         worked = statistics.median(work) / statistics.median(plain_work)
@@ -147,8 +136,7 @@ def measure(program: str, made: Made, runs: int, loops: int) -> int:
 
 def main() -> None:
     parser = argparse.ArgumentParser()
-    top = os.path.join(os.path.dirname(os.path.abspath(__file__)), "..")
-    parser.add_argument("program", nargs="?", default=os.path.join(top, "crates/tracehost/out/tracehost"))
+    parser.add_argument("program", nargs="?", default=runs.BUILT)
     parser.add_argument("--runs", type=int, default=20)
     parser.add_argument("--steps", type=int, default=20000)
     parser.add_argument("--busy", type=int, default=2 * (os.cpu_count() or 1))

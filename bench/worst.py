@@ -1,13 +1,20 @@
 #!/usr/bin/env python3
-"""What steps cost at worst: with as many processes or LWPs as a user may have, and on a host that is as good as empty.
+"""What steps cost at worst, and whether a step costs more beside others.
 
-    python3 bench/worst.py [PROGRAM] [--steps N] [--runs N]
+    python3 bench/worst.py [PROGRAM] [--steps N] [--baseline] [--scaling | --longest] [--runs N]
 
-PROGRAM is the built program (default: crates/tracehost/out/tracehost, which ./tracehost builds). Each case is made by a
-fixed rule, with many processes and with the fewest that it can have: a preparation, and then the steps of a round again
-and again, N in all (default 20,000). Printed are, for one step, nanoseconds by the best of N runs (default 5), the
-instructions from bytes to text, and those of only the host's steps (valgrind's callgrind). What the preparation costs
-is measured by itself and taken off.
+PROGRAM is the built program (default: crates/tracehost/out/tracehost, which ./tracehost builds). A row has a case of
+bench/cases.py with as many processes, LWPs or handlers as it can have, and the instructions of one step from bytes to
+text (valgrind's callgrind), by N steps (default 1,000). What the preparation costs is taken off. With --baseline
+columns of the program by hand in bench/baseline, which cargo builds, follow; the status is 1 if it prints other lines.
+
+With --scaling each case is run at ten sizes. A row has the least and the greatest of these costs, and by how much they
+differ; then all ten.
+
+With --longest each case has as many steps as the program reads, and hostile texts of so many bytes follow. A row has
+milliseconds of processors, in the program and in the system, by the median of N runs (default 3) in turn. A text that
+takes more than 300 and prints no more than 64 MiB is marked. The baseline stops at the first fault of a text, so it has
+no figure for one that it refuses.
 """
 
 from __future__ import annotations
@@ -15,256 +22,153 @@ from __future__ import annotations
 import argparse
 import itertools
 import os
+import statistics
+import subprocess
+import sys
 import tempfile
-from collections.abc import Callable, Iterator
+from collections.abc import Iterable, Iterator
+from concurrent.futures import ThreadPoolExecutor
+from typing import NamedTuple
 
-import instructions
+import cases
+import hostile
+import runs
 import scenarios
 from scenarios import Step
-from steps import best
 
-Case = tuple[list[Step], Iterator[Step]]  # a preparation, and steps without end
+MOST_STEPS = 100000
+MEBIBYTE = 1 << 20
 
-USER = 1001
-DEBUGGER = scenarios.first_pid(USER)
-TRACEE = DEBUGGER + 1
-FIRST = scenarios.Numbers(USER).lwp()
-TRACED = FIRST + 1
-MOST_PROCESSES = 250
-MOST_LWPS = 1000
-SIGURG, SIGSTOP, SIGTSTP, SIGCONT, SIGUSR1 = 16, 17, 18, 19, 30
 
+class Made(NamedTuple):
+    prepared: list[Step]
+    steps: list[Step]
 
-def spawns(count: int) -> list[Step]:
-    return [scenarios.spawn(USER) for _ in range(count)]
 
+class Cost(NamedTuple):
+    instructions: float  # of a step
+    printed: bytes
 
-def kill(which: int, signal: int) -> Step:
-    return {"user": USER, "op": "kill", "caller": DEBUGGER, "which": which, "signal": signal}
 
-
-def kill_all(signal: int) -> Step:
-    return kill(-1, signal)
-
-
-def catch(process: int, signal: int) -> Step:
-    return {"user": USER, "op": "sigaction", "caller": process, "signal": signal, "action": "catch"}
-
-
-def turn(lwp: int, act: str = "compute", **more: object) -> Step:
-    return {"user": USER, "op": "turn", "lwp": lwp, "act": act, **more}
-
-
-def births(lwp: int, lwps: int) -> Iterator[Step]:
-    """The process of this LWP gets so many more."""
-    return itertools.chain.from_iterable(scenarios.call(USER, lwp, "thr_new") for _ in range(lwps))
-
-
-def threaded(processes: int, lwps: int) -> list[Step]:
-    """Processes of so many LWPs each."""
-    numbers = scenarios.Numbers(USER)
-    oldest = [numbers.process()[1] for _ in range(processes)]
-    return spawns(processes) + [step for lwp in oldest for step in births(lwp, lwps - 1)]
-
-
-def tracee_of(lwps: int) -> list[Step]:
-    """A debugger, and a process of so many LWPs that it may trace, whose oldest is TRACED."""
-    return [*spawns(2), *births(TRACED, lwps - 1)]
-
-
-def pending(lwps: int) -> list[Step]:
-    """The same, each of whose LWPs blocks SIGUSR1, which is pending."""
-    blocked = turn(TRACED, "block", set=[SIGUSR1])
-    raised = [turn(TRACED + n, "raise", signal=SIGUSR1) for n in range(lwps)]
-    return [*spawns(2), blocked, *births(TRACED, lwps - 1), *raised]
-
-
-def attach(tracee: int) -> Iterator[Step]:
-    """The attach, and the wait that is told of the stop."""
-    yield scenarios.ptrace(USER, DEBUGGER, "PT_ATTACH", tracee)
-    yield {"user": USER, "op": "wait4", "caller": DEBUGGER, "which": tracee}
-
-
-def attached(tracees: int) -> list[Step]:
-    """A debugger that was told of the stop of each of its tracees."""
-    numbers = range(DEBUGGER + 1, DEBUGGER + 1 + tracees)
-    return spawns(1 + tracees) + list(itertools.chain.from_iterable(map(attach, numbers)))
-
-
-def waits(tracees: int) -> Case:
-    """The debugger waits, and no tracee has anything to tell."""
-    return attached(tracees), itertools.repeat(scenarios.wait(USER, DEBUGGER))
-
-
-def attaches(tracees: int) -> Case:
-    """The debugger detaches from the tracee that was attached last, and attaches to it again."""
-    last = DEBUGGER + tracees
-    round_of_steps = [scenarios.ptrace(USER, DEBUGGER, "PT_DETACH", last), *attach(last)]
-    return attached(tracees), itertools.cycle(round_of_steps)
-
-
-def lists(processes: int) -> Case:
-    return spawns(processes), itertools.repeat({"user": USER, "op": "list", "caller": DEBUGGER})
-
-
-def checks(processes: int) -> Case:
-    """Signal 0 for all others: only whether there are any is looked at."""
-    return spawns(processes), itertools.repeat(kill_all(0))
-
-
-def discarded_signals(processes: int) -> Case:
-    """SIGURG for all others, which each of them discards."""
-    return spawns(processes), itertools.repeat(kill_all(SIGURG))
-
-
-def discarded_beside_lwps(processes: int) -> Case:
-    """SIGURG for all others, of four LWPs each."""
-    return threaded(processes, 4), itertools.repeat(kill_all(SIGURG))
-
-
-def stops_and_continues(processes: int) -> Case:
-    """SIGTSTP and SIGCONT for all others, of four LWPs each: each takes the other out of what is pending."""
-    return threaded(processes, 4), itertools.cycle([kill_all(SIGTSTP), kill_all(SIGCONT)])
-
-
-def dispositions(lwps: int) -> Case:
-    """A process of so many LWPs ignores SIGURG, and then catches it."""
-    step = {"user": USER, "op": "sigaction", "caller": DEBUGGER, "signal": SIGURG}
-    return threaded(1, lwps), itertools.cycle([{**step, "action": "ignore"}, {**step, "action": "catch"}])
-
-
-def raises(lwps: int) -> Case:
-    """One of so many LWPs raises a signal that its process catches, and handles it."""
-    return [*threaded(1, lwps), catch(DEBUGGER, SIGUSR1)], itertools.cycle([turn(FIRST, "raise", signal=SIGUSR1), turn(FIRST)])
-
-
-def stepped(lwps: int) -> Case:
-    """One of so many LWPs steps once, again and again."""
-    step = scenarios.ptrace(USER, DEBUGGER, "PT_STEP", TRACEE)
-    return [*tracee_of(lwps), *attach(TRACEE)], itertools.cycle([step, turn(TRACED), scenarios.wait(USER, DEBUGGER)])
-
-
-def stopped(lwps: int) -> Case:
-    """A process of so many LWPs is continued, and stopped by SIGSTOP."""
-    rest = [kill(TRACEE, SIGSTOP), turn(TRACED), scenarios.wait(USER, DEBUGGER)]
-    return [*tracee_of(lwps), *attach(TRACEE)], itertools.cycle([scenarios.ptrace(USER, DEBUGGER, "PT_CONTINUE", TRACEE), *rest])
-
-
-def attaches_to_lwps(lwps: int) -> Case:
-    """A debugger attaches to a process of so many LWPs, and detaches."""
-    return tracee_of(lwps), itertools.cycle([*attach(TRACEE), scenarios.ptrace(USER, DEBUGGER, "PT_DETACH", TRACEE)])
-
-
-def stops_beside_pending(lwps: int) -> Case:
-    """SIGTSTP and SIGCONT for a process with a pending signal for each of its LWPs."""
-    return pending(lwps), itertools.cycle([kill(TRACEE, SIGTSTP), kill(TRACEE, SIGCONT)])
-
-
-def dispositions_beside_pending(lwps: int) -> Case:
-    """A process with a pending signal for each of its LWPs ignores SIGURG, and then catches it."""
-    step = catch(TRACEE, SIGURG)
-    return pending(lwps), itertools.cycle([{**step, "action": "ignore"}, step])
-
-
-def vforks(lwps: int) -> Case:
-    """One of so many LWPs makes a vfork, and its child exits."""
-    numbers = scenarios.Numbers(USER)
-    numbers.process()
-    for _ in range(lwps - 1):
-        numbers.lwp()
-
-    def rounds() -> Iterator[Step]:
-        while True:
-            pid, tid = numbers.process()
-            yield from scenarios.call(USER, FIRST, "vfork")
-            yield from scenarios.call(USER, tid, "exit", code=0)
-            yield scenarios.wait(USER, DEBUGGER)
-            numbers.gone(pid, tid)
-
-    return threaded(1, lwps), rounds()
-
-
-def caught_signals(processes: int) -> Case:
-    """SIGUSR1 for all others, which each of them catches, and which is pending already."""
-    return spawns(processes) + [catch(DEBUGGER + n, SIGUSR1) for n in range(processes)], itertools.repeat(kill_all(SIGUSR1))
-
-
-def spawns_and_exits(processes: int) -> Case:
-    """A process more, which exits at once, beside so many others."""
-    numbers = scenarios.Numbers(USER)
-    for _ in range(processes):
-        numbers.process()
-
-    def rounds() -> Iterator[Step]:
-        while True:
-            pid, tid = numbers.process()
-            yield scenarios.spawn(USER)
-            yield from scenarios.call(USER, tid, "exit", code=0)
-            numbers.gone(pid, tid)
-
-    return spawns(processes), rounds()
-
-
-# The case, what makes it, and how many tracees, processes or LWPs there are at most and at least
-CASES: list[tuple[str, Callable[[int], Case], int, int]] = [
-    ("wait, nothing to report", waits, MOST_PROCESSES - 2, 1),
-    ("detach, attach, wait for the last tracee", attaches, MOST_PROCESSES - 2, 1),
-    ("list", lists, MOST_PROCESSES, 1),
-    ("kill -1 with signal 0", checks, MOST_PROCESSES, 2),
-    ("kill -1 with SIGURG", discarded_signals, MOST_PROCESSES, 2),
-    ("kill -1 with SIGURG, four LWPs each", discarded_beside_lwps, MOST_PROCESSES, 2),
-    ("kill -1 with SIGTSTP, SIGCONT, four LWPs each", stops_and_continues, MOST_PROCESSES, 2),
-    ("sigaction", dispositions, MOST_LWPS, 1),
-    ("kill -1 with SIGUSR1, caught", caught_signals, MOST_PROCESSES, 2),
-    ("raise, turn", raises, MOST_LWPS, 1),
-    ("PT_STEP, turn, wait", stepped, MOST_LWPS - 1, 1),
-    ("PT_CONTINUE, SIGSTOP, turn, wait", stopped, MOST_LWPS - 1, 1),
-    ("PT_ATTACH, wait, PT_DETACH, many LWPs", attaches_to_lwps, MOST_LWPS - 1, 1),
-    ("kill with SIGTSTP, SIGCONT, beside pending signals", stops_beside_pending, MOST_LWPS - 1, 1),
-    ("sigaction beside pending signals", dispositions_beside_pending, MOST_LWPS - 1, 1),
-    ("vfork, exit, wait, many LWPs", vforks, MOST_LWPS - 1, 1),
-    ("spawn and exit", spawns_and_exits, MOST_PROCESSES - 1, 1),
-]
-
-
-def measured(program: str, made: list[Step], runs: int, room: str) -> tuple[float, int, int]:
-    """Seconds of a run, its instructions, and those of the host's steps."""
-    scenario = os.path.join(room, "scenario.json")
-    if scenarios.write(made, scenario) < len(made):
-        raise SystemExit("bench/worst.py: the program reads no scenario of so many steps")
-    file = os.path.join(room, "callgrind.out")
-    instructions.profile(program, scenario, file)
-    whole, functions = instructions.costs(file, inclusive=True)
-    hosts = instructions.part(functions, instructions.PARTS["steps"])
-    if hosts is None:
-        raise SystemExit("bench/worst.py: no function of the program is the part steps of bench/instructions.py")
-    return best(program, scenario, runs), whole, hosts
-
-
-def cost_of_a_step(make: Callable[[int], Case], size: int, options: argparse.Namespace, room: str) -> tuple[float, float, float]:
-    """Nanoseconds, instructions, and those of the host's steps."""
+def made(make: cases.Make, size: int, count: int) -> Made:
     prepared, rounds = make(size)
-    before = measured(options.program, prepared, options.runs, room)
-    after = measured(options.program, prepared + list(itertools.islice(rounds, options.steps)), options.runs, room)
-    seconds, whole, hosts = ((b - a) / options.steps for a, b in zip(before, after))
-    return seconds * 1e9, whole, hosts
+    return Made(prepared, list(itertools.islice(rounds, count)))
+
+
+def cost(program: str, case: Made) -> Cost:
+    with tempfile.TemporaryDirectory() as room:
+        scenario, file = os.path.join(room, "scenario.json"), os.path.join(room, "callgrind.out")
+        counts = []
+        for steps in (case.prepared, case.prepared + case.steps):
+            if scenarios.write(steps, scenario) < len(steps):
+                sys.exit("bench/worst.py: the program reads no scenario of so many steps")
+            printed = runs.profile(program, scenario, file)
+            counts.append(runs.whole(file))
+    return Cost((counts[1] - counts[0]) / len(case.steps), printed)
+
+
+def costs(programs: list[str], all_made: list[Made]) -> list[list[Cost]]:
+    """For each case the cost in each program."""
+    with ThreadPoolExecutor(os.cpu_count()) as pool:
+        waiting = [[pool.submit(cost, program, case) for program in programs] for case in all_made]
+        return [[one.result() for one in row] for row in waiting]
+
+
+def padded(all_made: list[Made]) -> list[Made]:
+    """The same with preparations of one length: tables that grow with a run's length are then copied as often."""
+    most = max(len(case.prepared) for case in all_made)
+    return [Made([cases.turn(cases.FIRST)] * (most - len(case.prepared)) + case.prepared, case.steps) for case in all_made]
+
+
+def differ(name: str, printed: Iterable[object]) -> bool:
+    """Whether the programs print different lines. Then it says so."""
+    different = len(set(printed)) > 1
+    if different:
+        print(f"FAILED: {name}: the baseline prints other lines", file=sys.stderr)
+    return different
+
+
+def print_worst(programs: list[str], steps: int) -> bool:
+    failed = False
+    runs.print_heads("steps", "beside", "instructions", *["baseline", "times"] * (len(programs) - 1))
+    found = costs(programs, [made(make, most, steps) for _, make, most in cases.CASES])
+    for (name, _, most), row in zip(cases.CASES, found):
+        failed |= differ(name, [one.printed for one in row])
+        ours, *others = (one.instructions for one in row)
+        runs.print_row(name, most, f"{ours:.0f}", *(text for other in others for text in (f"{other:.0f}", f"{ours / other:.2f}")))
+    return failed
+
+
+def ten_sizes(most: int) -> list[int]:
+    return [1 + (most - 1) * part // 9 for part in range(10)]
+
+
+def print_scaling(programs: list[str], steps: int) -> bool:
+    failed = False
+    heads = ["least", "greatest", "more"]
+    runs.print_heads("steps", "beside", *heads, *[f"baseline: {head}" for head in heads] * (len(programs) - 1), "ten sizes")
+    for name, make, most in cases.SCALES:
+        sizes = ten_sizes(most)
+        found = costs(programs, padded([made(make, size, steps) for size in sizes]))
+        for size, row in zip(sizes, found):
+            failed |= differ(f"{name}, {size}", [one.printed for one in row])
+        cells = []
+        for points in zip(*found):
+            counts = [point.instructions for point in points]
+            least, greatest = min(counts), max(counts)
+            cells += [f"{least:.0f}", f"{greatest:.0f}", f"{greatest / least - 1:.0%}"]
+        runs.print_row(name, f"1 to {most}", *cells, " ".join(f"{row[0].instructions:.0f}" for row in found))
+    return failed
+
+
+def longest_texts(room: str) -> Iterator[tuple[str, str]]:
+    """The names of the cases and of the hostile texts, each with a file."""
+    file = os.path.join(room, "scenario.json")
+    for name, make, most in dict.fromkeys([*cases.CASES, *cases.SCALES]):
+        prepared, rounds = make(most)
+        scenarios.write(itertools.islice(itertools.chain(prepared, rounds), MOST_STEPS), file)
+        yield f"{name} {most}", file
+    for name in hostile.PARTS:
+        with open(file, "w") as out:
+            out.write(hostile.text(name))
+        yield name, file
+
+
+def print_longest(programs: list[str], count: int) -> bool:
+    failed = False
+    runs.print_heads("text", "MiB printed", "milliseconds", *["baseline", "times"] * (len(programs) - 1), "")
+    with tempfile.TemporaryDirectory() as room:
+        for name, file in longest_texts(room):
+            ended = [subprocess.run([program, file], stdout=subprocess.PIPE, stderr=subprocess.DEVNULL) for program in programs]
+            failed |= differ(name, [run.stdout for run in ended if run.returncode == 0])
+            rounds = [[runs.timed(program, file).processors for program in programs] for _ in range(count)]
+            ours, *others = (statistics.median(times) * 1000 for times in zip(*rounds))
+            printed = len(ended[0].stdout) / MEBIBYTE
+            cells = [text for other in others for text in (f"{other:.0f}", f"{ours / other:.2f}")]
+            if ended[-1].returncode != 0:
+                cells = ["-"] * len(cells)
+            runs.print_row(name, f"{printed:.0f}", f"{ours:.0f}", *cells, "too long" if ours > 300 and printed <= 64 else "")
+    return failed
 
 
 def main() -> None:
     parser = argparse.ArgumentParser()
-    top = os.path.join(os.path.dirname(os.path.abspath(__file__)), "..")
-    parser.add_argument("program", nargs="?", default=os.path.join(top, "crates/tracehost/out/tracehost"))
-    parser.add_argument("--steps", type=int, default=20000)
-    parser.add_argument("--runs", type=int, default=5)
+    parser.add_argument("program", nargs="?", default=runs.BUILT)
+    parser.add_argument("--steps", type=int, default=1000)
+    parser.add_argument("--baseline", action="store_true")
+    parser.add_argument("--runs", type=int, default=3)
+    parts = parser.add_mutually_exclusive_group()
+    parts.add_argument("--scaling", action="store_true")
+    parts.add_argument("--longest", action="store_true")
     options = parser.parse_args()
-    heads = ["steps", "tracees, processes or LWPs", "nanoseconds", "instructions", "instructions of the host's steps"]
-    instructions.print_row(heads)
-    print("|" + "---|" * len(heads))
-    with tempfile.TemporaryDirectory() as room:
-        for case, make, *sizes in CASES:
-            for size in sizes:
-                costs = cost_of_a_step(make, size, options, room)
-                instructions.print_row([case, size, *(f"{cost:.0f}" for cost in costs)])
+    programs = [options.program] + ([runs.baseline()] if options.baseline else [])
+    if options.longest:
+        failed = print_longest(programs, options.runs)
+    elif options.scaling:
+        failed = print_scaling(programs, options.steps)
+    else:
+        failed = print_worst(programs, options.steps)
+    sys.exit(1 if failed else 0)
 
 
 if __name__ == "__main__":

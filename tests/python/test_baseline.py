@@ -1,14 +1,17 @@
-"""The benchmarks' yardstick, bench/baseline, prints what the program prints: all row files, examples and random scenarios."""
+"""The benchmarks' yardstick, bench/baseline, prints what the program prints: row files, examples, cases and random scenarios."""
 
 from __future__ import annotations
 
+import itertools
 import os
 import random
 import shutil
 import subprocess
 from pathlib import Path
 
+import cases
 import pytest
+import scenarios
 
 from checking import TOP, Checks
 from fuzz import Fuzz, text_of
@@ -38,6 +41,16 @@ def agrees(program: Path, baseline: Path, file: Path) -> bool:
 def test_row_files_and_examples(program: Path, baseline: Path, checks: Checks) -> None:
     for file in FILES:
         checks.check(agrees(program, baseline, file), str(file))
+
+
+def test_cases(program: Path, baseline: Path, checks: Checks, tmp_path: Path) -> None:
+    """Those of bench/worst.py, small."""
+    file = tmp_path / "scenario.json"
+    for name, make, _ in [*cases.CASES, *cases.SCALES]:
+        for size in (2, 5):
+            prepared, rounds = make(size)
+            scenarios.write([*prepared, *itertools.islice(rounds, 50)], str(file))
+            checks.check(agrees(program, baseline, file), f"{name}, {size}")
 
 
 def test_random_scenarios(program: Path, baseline: Path, checks: Checks, tmp_path: Path) -> None:
