@@ -111,4 +111,8 @@ def test_the_example(cargo: Cargo, program: Path, tmp_path: Path) -> None:
     words = ["cargo", "run", "--offline", "--quiet", "--manifest-path", str(CRATE / "Cargo.toml")]
     said = output(*words, "--example", "lost_wakeup", cwd=tmp_path, environment=cargo.environment)
     assert said == block("../clients/explore/README.md", "text")
+    page = (TOP / "docs/SEARCH.md").read_text(encoding="utf-8")
+    assert "".join(f"    {line}\n" for line in said.splitlines()) in page
+    left = map(str.strip, (CRATE / "examples/lost_wakeup.rs").read_text(encoding="utf-8").splitlines())
+    assert all(line in left for line in block("SEARCH.md", "rust").splitlines())  # in this order
     output(program, tmp_path / "race.json", "--expect", tmp_path / "race.out")
