@@ -1,14 +1,15 @@
 //! What was asked and answered before. A question, an answer and what they are of are kept as numbers, so that many fit.
 
-use crate::hash::{mixed, Hasher, Key};
+use crate::hash::{Hasher, Key};
 use std::collections::HashMap;
 use std::hash::{BuildHasherDefault, Hash};
+use std::num::NonZeroU32;
 
-/// Different values, numbered in the order in which they came.
+/// Different values, numbered from 1 in the order in which they came.
 #[derive(Debug)]
 struct Numbered<T> {
     values: Vec<T>,
-    numbers: HashMap<T, u32, BuildHasherDefault<Hasher>>,
+    numbers: HashMap<T, NonZeroU32, BuildHasherDefault<Hasher>>,
 }
 
 impl<T: Clone + Eq + Hash> Numbered<T> {
@@ -19,12 +20,13 @@ impl<T: Clone + Eq + Hash> Numbered<T> {
         }
     }
 
-    fn number(&mut self, value: &T) -> u32 {
+    fn number(&mut self, value: &T) -> NonZeroU32 {
         if let Some(number) = self.numbers.get(value) {
             return *number;
         }
-        let number = self.values.len() as u32; // at most MOST_VALUES
         self.values.push(value.clone());
+        let count = u32::try_from(self.values.len()).ok().and_then(NonZeroU32::new);
+        let number = count.expect("there are about MOST_VALUES");
         self.numbers.insert(value.clone(), number);
         number
     }
@@ -33,7 +35,7 @@ impl<T: Clone + Eq + Hash> Numbered<T> {
 /// An answer by its number, and what the users see after it.
 #[derive(Clone, Copy, Debug, PartialEq, Eq)]
 pub struct Known {
-    answer: u32,
+    answer: NonZeroU32,
     pub after: Key,
 }
 
@@ -41,11 +43,13 @@ pub struct Known {
 #[derive(Clone, Copy, Debug)]
 struct Slot {
     view: Key,
-    question: u32,
+    question: NonZeroU32,
     known: Known,
 }
 
-const WAYS: usize = 4;
+/// The answers of a view are side by side: in its set, or if that is full, in the ones after it, so many at most.
+const WAYS: usize = 8;
+const PROBED: usize = 4;
 type Set = [Option<Slot>; WAYS];
 
 /// Answers `A` to questions `Q`.
@@ -77,18 +81,24 @@ impl<Q: Clone + Eq + Hash, A: Clone + Eq + Hash> Answers<Q, A> {
         }
     }
 
-    fn set(&self, view: Key, question: u32) -> usize {
-        mixed(view.0 ^ u64::from(question)) as usize & (self.sets.len() - 1)
+    /// The sets for a view's answers.
+    fn probed(&self, view: Key) -> impl Iterator<Item = usize> {
+        let last = self.sets.len() - 1;
+        (0..PROBED).map(move |n| (view.0 as usize).wrapping_add(n) & last)
     }
 
     pub fn get(&mut self, view: Key, question: &Q) -> Option<Known> {
         let question = self.questions.number(question);
-        let set = &self.sets[self.set(view, question)];
-        let slot = set
-            .iter()
-            .flatten()
-            .find(|slot| slot.view == view && slot.question == question);
-        slot.map(|slot| slot.known)
+        for set in self.probed(view) {
+            for slot in &self.sets[set] {
+                match slot {
+                    Some(slot) if slot.question == question && slot.view == view => return Some(slot.known),
+                    Some(_) => (),
+                    None => return None, // the ways are filled in order
+                }
+            }
+        }
+        None
     }
 
     /// Keeps an answer, perhaps in the place of another.
@@ -110,14 +120,17 @@ impl<Q: Clone + Eq + Hash, A: Clone + Eq + Hash> Answers<Q, A> {
 
     fn fill(&mut self, slot: Slot) {
         loop {
-            let set = self.set(slot.view, slot.question);
-            if let Some(way) = self.sets[set].iter_mut().find(|way| way.is_none()) {
-                *way = Some(slot);
+            let mut ways = self
+                .probed(slot.view)
+                .flat_map(|set| (0..WAYS).map(move |way| (set, way)));
+            if let Some((set, way)) = ways.find(|(set, way)| self.sets[*set][*way].is_none()) {
+                self.sets[set][way] = Some(slot);
                 self.used += 1;
                 return;
             }
             if self.sets.len() >= self.most || self.used < self.sets.len() {
                 self.turn = (self.turn + 1) % WAYS;
+                let set = self.probed(slot.view).next().expect("a set");
                 self.sets[set][self.turn] = Some(slot);
                 return;
             }
@@ -129,13 +142,14 @@ impl<Q: Clone + Eq + Hash, A: Clone + Eq + Hash> Answers<Q, A> {
     }
 
     pub fn answer(&self, known: Known) -> &A {
-        &self.answers.values[known.answer as usize]
+        &self.answers.values[known.answer.get() as usize - 1]
     }
 }
 
 #[cfg(test)]
 mod tests {
     use super::*;
+    use crate::hash::mixed;
 
     fn view(number: u64) -> Key {
         Key(mixed(number), mixed(number + 1))

@@ -28,6 +28,7 @@ mod process;
 mod script;
 mod search;
 mod set;
+mod spot;
 mod step;
 mod store;
 mod symmetry;

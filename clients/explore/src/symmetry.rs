@@ -6,7 +6,7 @@
 
 use crate::hash::{mixed, Hasher, Key};
 use crate::process::{Place, Process};
-use crate::search::Spot;
+use crate::spot::Spot;
 use std::sync::Arc;
 use tracehost::New;
 
