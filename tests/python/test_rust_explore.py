@@ -7,6 +7,7 @@ import re
 import signal
 import subprocess
 import time
+from math import comb
 from pathlib import Path
 
 import pytest
@@ -81,6 +82,13 @@ def test_what_is_not_finished(command: str, tmp_path: Path) -> None:
     output(command, *right, *saved)
     output(command, *right, "--size", "3", *saved, "--resume", status=3)
     output(command, *right, *saved, "--resume")
+
+
+def test_equal_processes(command: str) -> None:
+    """Of a target's states 12 are without the debugger, which has one of 3 targets at hand at most: 12^3 + 3 * 2 * 12^2."""
+    words = [command, "tracees", "--size", "3"]
+    assert output(*words).startswith("all interleavings passed: 2592 states")
+    assert output(*words, "--symmetric").startswith(f"all interleavings passed: {comb(14, 3) + 2 * comb(13, 2)} states")
 
 
 def test_odd_names(command: str, tmp_path: Path) -> None:
