@@ -12,7 +12,7 @@ import subprocess
 from typing import NamedTuple
 
 import pytest
-from stranger import PATH, TOP, clone, needs, run
+from stranger import PATH, TOP, block, clone, needs, run
 
 __all__ = ["clone"]  # a fixture
 SUITE = "PLANT=coalesce ./test_suite"  # by test_clients_examples.py, which has compiled it
@@ -103,6 +103,26 @@ def test_the_commands_of_the_viewer(clone: pathlib.Path, tmp_path: pathlib.Path)
         assert reader.types(command) == Printed("", 0)
     assert (clone / "page.html").read_text(encoding="utf-8").rstrip().endswith("</html>")
     assert (clone / "fork.json").read_text(encoding="utf-8").startswith("{")
+
+
+@needs("python3")
+def test_the_search_in_python(clone: pathlib.Path, tmp_path: pathlib.Path) -> None:
+    """The test of the page fails with the lines after it, and passes once `debug` returns at ProcessLookupError."""
+    reader, attach = Reader(clone, tmp_path), "        await debugger.ptrace(Request.PT_ATTACH, target.pid)\n"
+    page, code = (TOP / "docs/SEARCH.md").read_text(encoding="utf-8"), block("SEARCH.md", "python")
+    command, lines = re.findall(r"^`(PYTHONPATH=.*)` fails.*\n.*\n*((?:    .*\n)+)", page, re.MULTILINE)[0]
+    (clone / "test_attach.py").write_text(code, encoding="utf-8")
+    failed = reader.types(command)
+    assert failed.status == 1
+    printed = re.sub(r"^E? *", "", failed.text, flags=re.MULTILINE)
+    assert re.sub(r"^ *", "", lines, flags=re.MULTILINE) in printed, failed.text
+    mended = f"        try:\n    {attach}        except ProcessLookupError:\n            return\n"
+    assert code.count(attach) == 1
+    (clone / "test_attach.py").write_text(code.replace(attach, mended), encoding="utf-8")
+    assert reader.types(command).status == 0
+    said = " ".join(re.findall(r"prints `(all[^`]*)`", page)[0].split())
+    searched = "from tracehost.explore import explore; from test_attach import world; print(explore(world))"
+    assert reader.types(f'python3 -c "{searched}"') == Printed(f"{said}\n", 0)
 
 
 def test_the_session_of_the_format(program: pathlib.Path) -> None:

@@ -248,6 +248,25 @@ def test_the_harness_of_afl(library: Path, tmp_path: Path) -> None:
     assert run(made, tmp_path / "nothing").status == 1
 
 
+@needs("afl-clang-fast", "afl-fuzz")
+def test_what_afl_keeps_is_run(library: Path, program: Path, tmp_path: Path, monkeypatch: pytest.MonkeyPatch) -> None:
+    """As the harness says it. AFL asks for settings of the machine, which it does without."""
+    seeds, found = tmp_path / "corpus", tmp_path / "found"
+    seeds.mkdir()
+    for example in TOP.glob("examples/*.json"):
+        shutil.copy(example, seeds)
+    harness = TOP / "clients/c/examples/fuzz_scenario.c"
+    words = "-DAFL", f"-I{TOP}/include", harness, library / "libtracehost.a", "-o", tmp_path / "fuzz"
+    assert run("afl-clang-fast", *words).status == 0
+    for setting in ("I_DONT_CARE_ABOUT_MISSING_CRASHES", "NO_UI", "SKIP_CPUFREQ", "TRY_AFFINITY"):
+        monkeypatch.setenv(f"AFL_{setting}", "1")
+    ran = run("afl-fuzz", "-E", "3000", "-i", seeds, "-o", found, tmp_path / "fuzz", "@@")
+    assert ran.status == 0, ran.out[-2000:]
+    kept = [path for path in (found / "default/queue").iterdir() if path.is_file()]
+    sums = json.loads(corpus(program, "--json", found / "default/queue").out)
+    assert sums["run"] == len(kept) > len(list(seeds.iterdir())) and sums["run_refused"] < len(kept)
+
+
 def test_a_folder_of_afl(program: Path, tmp_path: Path) -> None:
     queue, crashes = tmp_path / "found/default/queue", tmp_path / "found/default/crashes"
     put(queue / ".state/auto_extras", extra=b"\0")

@@ -7,6 +7,7 @@ import re
 import signal
 import subprocess
 import time
+from math import comb
 from pathlib import Path
 
 import pytest
@@ -83,6 +84,13 @@ def test_what_is_not_finished(command: str, tmp_path: Path) -> None:
     output(command, *right, *saved, "--resume")
 
 
+def test_equal_processes(command: str) -> None:
+    """Of a target's states 12 are without the debugger, which has one of 3 targets at hand at most: 12^3 + 3 * 2 * 12^2."""
+    words = [command, "tracees", "--size", "3"]
+    assert output(*words).startswith("all interleavings passed: 2592 states")
+    assert output(*words, "--symmetric").startswith(f"all interleavings passed: {comb(14, 3) + 2 * comb(13, 2)} states")
+
+
 def test_odd_names(command: str, tmp_path: Path) -> None:
     """A path may be any bytes; other words are refused, and nothing panics."""
     odd = os.fsdecode(os.fsencode(tmp_path) + b"/\xff race.json")
@@ -111,4 +119,8 @@ def test_the_example(cargo: Cargo, program: Path, tmp_path: Path) -> None:
     words = ["cargo", "run", "--offline", "--quiet", "--manifest-path", str(CRATE / "Cargo.toml")]
     said = output(*words, "--example", "lost_wakeup", cwd=tmp_path, environment=cargo.environment)
     assert said == block("../clients/explore/README.md", "text")
+    page = (TOP / "docs/SEARCH.md").read_text(encoding="utf-8")
+    assert "".join(f"    {line}\n" for line in said.splitlines()) in page
+    left = map(str.strip, (CRATE / "examples/lost_wakeup.rs").read_text(encoding="utf-8").splitlines())
+    assert all(line in left for line in block("SEARCH.md", "rust").splitlines())  # in this order
     output(program, tmp_path / "race.json", "--expect", tmp_path / "race.out")

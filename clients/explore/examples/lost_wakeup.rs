@@ -29,9 +29,9 @@ fn world(host: &mut Session, right: bool) -> Result<Vec<Box<dyn Process>>, trace
     }
     debugger.jump_if(NEWS, 1, "news");
     if right {
-        debugger.sigsuspend(all, chld)
+        debugger.sigsuspend(all, chld);
     } else {
-        debugger.pause()
+        debugger.pause();
     }
     debugger.label("news");
     debugger.set(NEWS, 0);

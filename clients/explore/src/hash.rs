@@ -58,6 +58,12 @@ impl Hasher {
     }
 }
 
+impl Default for Hasher {
+    fn default() -> Hasher {
+        Hasher::new()
+    }
+}
+
 /// For the derived `Hash` of small values.
 impl std::hash::Hasher for Hasher {
     fn write(&mut self, bytes: &[u8]) {

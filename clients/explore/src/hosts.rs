@@ -1,10 +1,11 @@
 //! What the model answers, asked of the library once: a step from a state is answered as it was before, which is proved.
 
+use crate::answers::{Answers, Known};
 use crate::hash::{Hasher, Key};
 use crate::model::{killed, Kind, Property};
 use crate::process::Answer;
 use crate::step::Step;
-use std::hash::Hash;
+use std::sync::Arc;
 use tracehost::{Caller, Errno, Error, Reply, Session, SignalSet, State, WaitOptions, Which};
 
 /// A question about what the users see.
@@ -15,6 +16,8 @@ enum Ask {
     News(Caller, WaitOptions),
     /// Whether an LWP of the user has a pending signal that it doesn't block.
     Signal(u32, u32),
+    /// All that the user sees.
+    State(u32),
     /// The user's processes.
     There(u32),
     /// The user's processes that haven't ended.
@@ -26,16 +29,16 @@ enum Ask {
 /// A property by its place, and what is wrong.
 pub type Broken = Option<(usize, String)>;
 
-#[derive(Debug)]
-enum Known {
-    Step(Answer, Key),
-    Numbers(Box<[u32]>),
+#[derive(Clone, Debug, PartialEq, Eq, Hash)]
+enum Told {
+    Step(Answer),
+    Numbers(Arc<[u32]>),
     Met(Met),
     Broken(Broken),
 }
 
 /// Whether an LWP meets a signal once it is in user mode.
-#[derive(Clone, Copy, Debug, PartialEq, Eq)]
+#[derive(Clone, Copy, Debug, PartialEq, Eq, Hash)]
 pub enum Met {
     Yes,
     No,
@@ -74,18 +77,21 @@ impl std::ops::Add for Calls {
 
 /// Sessions by what the users see in them, in sets of four.
 struct Sessions {
-    sets: Vec<[Option<(Key, Session)>; Sessions::WAYS]>,
-    turn: usize,
+    sets: Vec<Ways>,
+}
+
+/// The one at `oldest` is replaced next.
+#[derive(Default)]
+struct Ways {
+    ways: [Option<(Key, Session)>; 4],
+    oldest: usize,
 }
 
 impl Sessions {
-    const WAYS: usize = 4;
-
     fn new(count: usize) -> Sessions {
-        let sets = (count / Sessions::WAYS).next_power_of_two();
+        let sets = (count / 4).next_power_of_two();
         Sessions {
-            sets: (0..sets).map(|_| Default::default()).collect(),
-            turn: 0,
+            sets: (0..sets).map(|_| Ways::default()).collect(),
         }
     }
 
@@ -95,7 +101,8 @@ impl Sessions {
 
     fn get(&self, view: Key) -> Option<&Session> {
         let set = &self.sets[self.set(view)];
-        set.iter()
+        set.ways
+            .iter()
             .flatten()
             .find(|(key, _)| *key == view)
             .map(|(_, session)| session)
@@ -104,11 +111,10 @@ impl Sessions {
     /// Keeps a session, and returns the one that had its place.
     fn put(&mut self, view: Key, session: Session) -> Option<Session> {
         let set = self.set(view);
-        let ways = &mut self.sets[set];
-        let free = ways.iter().position(Option::is_none);
-        self.turn = (self.turn + 1) % Sessions::WAYS;
-        let way = &mut ways[free.unwrap_or(self.turn)];
-        way.replace((view, session)).map(|(_, session)| session)
+        let set = &mut self.sets[set];
+        let place = set.oldest;
+        set.oldest = (place + 1) % set.ways.len();
+        set.ways[place].replace((view, session)).map(|(_, session)| session)
     }
 }
 
@@ -123,29 +129,12 @@ pub struct Hosts<'a> {
     scratch_view: Option<Key>,
     spare: Vec<Session>,
     sessions: Sessions,
-    memo: Answers,
-    /// The most answers, and how many were found out since there was room for more.
-    most: usize,
-    found_out: usize,
+    answers: Answers<Ask, Told>,
     numbers: Vec<u32>,
     /// Sessions whose states another thread owns are for that thread.
     owns: Box<dyn Fn(Key) -> bool + Send + 'a>,
     outgoing: Option<(Key, Session)>,
     pub calls: Calls,
-}
-
-type Answers = Vec<Option<(Key, Ask, Known)>>;
-
-const FEW_ANSWERS: usize = 256;
-
-fn no_answers(size: usize) -> Answers {
-    let mut answers = Vec::new();
-    answers.resize_with(size, || None);
-    answers
-}
-
-fn slot_of(view: Key, ask: u64, answers: &Answers) -> usize {
-    (view.0 ^ ask) as usize & (answers.len() - 1)
 }
 
 /// What these users see.
@@ -184,9 +173,7 @@ impl<'a> Hosts<'a> {
             scratch_view: None,
             spare: Vec::new(),
             sessions: Sessions::new(sessions),
-            memo: no_answers(FEW_ANSWERS),
-            most: answers.next_power_of_two(),
-            found_out: 0,
+            answers: Answers::new(answers),
             numbers: Vec::with_capacity(256),
             owns,
             outgoing: None,
@@ -210,98 +197,95 @@ impl<'a> Hosts<'a> {
 
     /// The answer to a step, and what the users see after it.
     pub fn step(&mut self, at: &At, step: Step) -> Result<(&Answer, Key), Error> {
-        match self.known(at, Ask::Step(step))? {
-            Known::Step(answer, after) => Ok((answer, *after)),
-            known => unreachable!("{known:?}"),
+        let known = self.known(at, Ask::Step(step))?;
+        match self.answers.answer(known) {
+            Told::Step(answer) => Ok((answer, known.after)),
+            told => unreachable!("{told:?}"),
         }
     }
 
     /// The processes that a wait for any may report.
-    pub fn news(&mut self, at: &At, caller: Caller, options: WaitOptions) -> Result<&[u32], Error> {
+    pub fn news(&mut self, at: &At, caller: Caller, options: WaitOptions) -> Result<Arc<[u32]>, Error> {
         self.listed(at, Ask::News(caller, options))
     }
 
     /// The user's processes that haven't ended.
-    pub fn live(&mut self, at: &At, user: u32) -> Result<&[u32], Error> {
+    pub fn live(&mut self, at: &At, user: u32) -> Result<Arc<[u32]>, Error> {
         self.listed(at, Ask::Live(user))
     }
 
-    fn listed(&mut self, at: &At, ask: Ask) -> Result<&[u32], Error> {
-        match self.known(at, ask)? {
-            Known::Numbers(numbers) => Ok(numbers),
-            known => unreachable!("{known:?}"),
+    fn listed(&mut self, at: &At, ask: Ask) -> Result<Arc<[u32]>, Error> {
+        match self.told(at, ask)? {
+            Told::Numbers(numbers) => Ok(Arc::clone(numbers)),
+            told => unreachable!("{told:?}"),
         }
     }
 
+    /// All that the user sees, by `tracehost_state`.
+    pub fn state(&mut self, at: &At, user: u32) -> Result<Arc<[u32]>, Error> {
+        self.listed(at, Ask::State(user))
+    }
+
     /// The user's processes, zombies too.
-    pub fn there(&mut self, at: &At, user: u32) -> Result<&[u32], Error> {
+    pub fn there(&mut self, at: &At, user: u32) -> Result<Arc<[u32]>, Error> {
         self.listed(at, Ask::There(user))
     }
 
     /// Whether an LWP meets a signal once it is in user mode.
     pub fn signal(&mut self, at: &At, user: u32, lwp: u32) -> Result<Met, Error> {
-        match self.known(at, Ask::Signal(user, lwp))? {
-            Known::Met(met) => Ok(*met),
-            known => unreachable!("{known:?}"),
+        match self.told(at, Ask::Signal(user, lwp))? {
+            Told::Met(met) => Ok(*met),
+            told => unreachable!("{told:?}"),
         }
     }
 
     /// The first property that the user's rows break.
     pub fn broken(&mut self, at: &At, user: u32, at_end: bool) -> Result<&Broken, Error> {
-        match self.known(at, Ask::Broken(user, at_end))? {
-            Known::Broken(broken) => Ok(broken),
-            known => unreachable!("{known:?}"),
+        match self.told(at, Ask::Broken(user, at_end))? {
+            Told::Broken(broken) => Ok(broken),
+            told => unreachable!("{told:?}"),
         }
     }
 
-    fn known(&mut self, at: &At, ask: Ask) -> Result<&Known, Error> {
-        let mut hasher = Hasher::new();
-        ask.hash(&mut hasher);
-        let hash = std::hash::Hasher::finish(&hasher);
-        let slot = slot_of(at.view, hash, &self.memo);
-        let is_known = matches!(&self.memo[slot], Some((view, asked, _)) if *view == at.view && *asked == ask);
-        if !is_known {
-            let known = self.find_out(at, ask)?;
-            if self.found_out > self.memo.len() / 4 && self.memo.len() < self.most {
-                self.make_room();
-            }
-            self.found_out += 1;
-            let slot = slot_of(at.view, hash, &self.memo);
-            self.memo[slot] = Some((at.view, ask, known));
-            return Ok(&self.memo[slot].as_ref().expect("it was filled").2);
-        }
-        Ok(&self.memo[slot].as_ref().expect("it is there").2)
+    fn told(&mut self, at: &At, ask: Ask) -> Result<&Told, Error> {
+        let known = self.known(at, ask)?;
+        Ok(self.answers.answer(known))
     }
 
-    fn make_room(&mut self) {
-        let room = no_answers(self.memo.len() * 4);
-        for (view, ask, known) in std::mem::replace(&mut self.memo, room).into_iter().flatten() {
-            let mut hasher = Hasher::new();
-            ask.hash(&mut hasher);
-            let slot = slot_of(view, std::hash::Hasher::finish(&hasher), &self.memo);
-            self.memo[slot] = Some((view, ask, known));
+    fn known(&mut self, at: &At, ask: Ask) -> Result<Known, Error> {
+        if let Some(known) = self.answers.get(at.view, &ask) {
+            return Ok(known);
         }
+        let (told, after) = self.find_out(at, ask)?;
+        Ok(self.answers.put(at.view, &ask, &told, after))
     }
 
-    fn find_out(&mut self, at: &At, ask: Ask) -> Result<Known, Error> {
-        Ok(match ask {
+    /// The answer, and what the users see after it.
+    fn find_out(&mut self, at: &At, ask: Ask) -> Result<(Told, Key), Error> {
+        let told = match ask {
             Ask::Step(step) => {
                 let (answer, after) = self.make(at, step)?;
-                Known::Step(answer, after)
+                return Ok((Told::Step(answer), after));
             }
-            Ask::News(caller, options) => Known::Numbers(self.find_news(at, caller, options)?.into()),
-            Ask::Signal(user, lwp) => Known::Met(self.find_signal(at, user, lwp)?),
+            Ask::News(caller, options) => Told::Numbers(self.find_news(at, caller, options)?.into()),
+            Ask::Signal(user, lwp) => Told::Met(self.find_signal(at, user, lwp)?),
             Ask::Live(user) => {
                 let rows = self.session_at(at)?.view(user)?.processes;
                 let live = rows.iter().filter(|row| !matches!(row.state, State::Zombie(_)));
-                Known::Numbers(live.map(|row| row.pid).collect())
+                Told::Numbers(live.map(|row| row.pid).collect())
+            }
+            Ask::State(user) => {
+                let mut state = Vec::new();
+                self.session_at(at)?.state(user, &mut state)?;
+                Told::Numbers(state.into())
             }
             Ask::There(user) => {
                 let rows = self.session_at(at)?.view(user)?.processes;
-                Known::Numbers(rows.iter().map(|row| row.pid).collect())
+                Told::Numbers(rows.iter().map(|row| row.pid).collect())
             }
-            Ask::Broken(user, at_end) => Known::Broken(self.find_broken(at, user, at_end)?),
-        })
+            Ask::Broken(user, at_end) => Told::Broken(self.find_broken(at, user, at_end)?),
+        };
+        Ok((told, at.view))
     }
 
     /// Makes a step on the scratch session.
@@ -347,21 +331,24 @@ impl<'a> Hosts<'a> {
         } else {
             self.spare.extend(unused);
         }
-        self.calls.copies += 1;
-        let from = self.sessions.get(at.view);
-        let source = from.unwrap_or(&self.start);
-        let mut session = match self.spare.pop() {
-            Some(mut session) => {
-                source.copy_over(&mut session)?;
-                session
-            }
-            None => source.try_clone()?,
-        };
-        if from.is_none() && at.view != self.start_view {
+        if self.sessions.get(at.view).is_none() && at.view != self.start_view {
             self.calls.replays += 1;
+            let mut session = self.copy_of(self.start_view)?;
             (at.replay)(&mut session)?;
+            let left = self.sessions.put(at.view, session);
+            self.spare.extend(left);
         }
-        Ok(session)
+        self.copy_of(at.view)
+    }
+
+    /// A copy of a session that is kept, or of that at the start.
+    fn copy_of(&mut self, view: Key) -> Result<Session, Error> {
+        self.calls.copies += 1;
+        let source = self.sessions.get(view).unwrap_or(&self.start);
+        match self.spare.pop() {
+            Some(mut session) => source.copy_over(&mut session).map(|()| session),
+            None => source.try_clone(),
+        }
     }
 
     /// A session at a state, to look at.

@@ -14,6 +14,7 @@
 //! - Trusted: that the search tries every step; the set of states, whose keys are 128 bits of a hash
 //!   ([`Found::collision`]); that scripts return the same for the same place and memory, and share nothing else.
 
+mod answers;
 mod checkpoint;
 mod explore;
 mod found;
@@ -27,8 +28,10 @@ mod process;
 mod script;
 mod search;
 mod set;
+mod spot;
 mod step;
 mod store;
+mod symmetry;
 
 pub use explore::{explore, Error, Options};
 pub use found::{Found, Taken};

@@ -1,7 +1,7 @@
 //! What a search lets run: processes that say at each place which step is next.
 
 use crate::step::Step;
-use tracehost::{Error, Reply};
+use tracehost::{Error, New, Reply};
 
 /// What a step was answered.
 pub type Answer = Result<Reply, Error>;
@@ -118,6 +118,12 @@ pub trait Process: Send + Sync {
     /// Where it begins.
     fn begin(&self) -> Place {
         Place::default()
+    }
+
+    /// Its numbers, and a number that those equal to it have too: processes of a user with the same script from the same start.
+    /// See [`Options::symmetric`](crate::Options::symmetric).
+    fn alike(&self) -> Option<(u8, New)> {
+        None
     }
 
     /// What it does next.

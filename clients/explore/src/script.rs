@@ -81,6 +81,7 @@ pub struct Script {
     labels: Vec<(&'static str, u8)>,
     caught: Option<Caught>,
     start: Place,
+    alike: Option<u8>,
 }
 
 const ENDED: u8 = u8::MAX;
@@ -105,6 +106,7 @@ impl Script {
             labels: Vec::new(),
             caught: None,
             start: Place::default(),
+            alike: None,
         }
     }
 
@@ -119,6 +121,11 @@ impl Script {
     /// A number that it remembers at the beginning.
     pub fn remember(&mut self, byte: usize, number: u8) {
         self.start.bytes[byte] = number;
+    }
+
+    /// It may be exchanged with the user's other scripts that have this number ([`Options::symmetric`](crate::Options::symmetric)).
+    pub fn exchange(&mut self, group: u8) {
+        self.alike = Some(group);
     }
 
     /// What the process's signal handler does with a signal that is caught.
@@ -447,6 +454,10 @@ impl Process for Script {
 
     fn user(&self) -> u32 {
         self.user
+    }
+
+    fn alike(&self) -> Option<(u8, New)> {
+        self.alike.map(|group| (group, self.own))
     }
 
     fn begin(&self) -> Place {

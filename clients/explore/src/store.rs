@@ -1,7 +1,7 @@
 //! The states that one thread owns: what was met, and the front.
 
 use crate::hash::Key;
-use crate::packed::pack;
+use crate::packed::{pack, unpack};
 use crate::search::Links;
 use crate::set::{Part, PARTS};
 
@@ -12,14 +12,35 @@ pub struct Level {
     pub links: Vec<u64>,
     orders: Vec<u64>,
     spots: Vec<u8>,
+    /// Where each state's spot begins, if it may be exchanged for another.
+    starts: Vec<usize>,
     /// The place of its first state.
     pub first: usize,
+}
+
+impl Level {
+    /// The spots of the level, in the order of its states.
+    fn take_spots(&mut self, width: usize) -> Vec<u8> {
+        let spots = std::mem::take(&mut self.spots);
+        if self.starts.is_empty() {
+            return spots;
+        }
+        let mut words = vec![0; width];
+        let mut kept = Vec::new();
+        for start in self.starts.drain(..) {
+            unpack(&spots[start..], &mut words);
+            pack(&words, &mut kept);
+        }
+        kept
+    }
 }
 
 /// The parts of a thread.
 pub struct Store {
     thread: usize,
     threads: usize,
+    /// Whether states with one key have different spots. Then that of the lowest order is kept.
+    symmetric: bool,
     pub levels: Vec<Level>,
 }
 
@@ -33,18 +54,20 @@ pub struct Front {
 }
 
 impl Store {
-    pub fn new(thread: usize, threads: usize) -> Store {
+    pub fn new(thread: usize, threads: usize, symmetric: bool) -> Store {
         let count = (thread..PARTS).step_by(threads).count();
         let level = || Level {
             set: Part::new(),
             links: Vec::new(),
             orders: Vec::new(),
             spots: Vec::new(),
+            starts: Vec::new(),
             first: 0,
         };
         Store {
             thread,
             threads,
+            symmetric,
             levels: (0..count).map(|_| level()).collect(),
         }
     }
@@ -62,23 +85,31 @@ impl Store {
 
     /// Adds a state, and returns whether it is new. Of two ways to a state of the level, that of the lower order is kept.
     pub fn insert(&mut self, part: usize, key: Key, spot: &[u64], (link, order): (u64, u64)) -> bool {
+        let symmetric = self.symmetric;
         let level = self.level(part);
         let (place, is_new) = level.set.insert(key);
         if is_new {
             level.links.push(link);
             level.orders.push(order);
+            if symmetric {
+                level.starts.push(level.spots.len());
+            }
             pack(spot, &mut level.spots);
         } else if let Some(place) = (place as usize).checked_sub(level.first) {
             if order < level.orders[place] {
                 level.orders[place] = order;
                 level.links[place] = link;
+                if symmetric {
+                    level.starts[place] = level.spots.len();
+                    pack(spot, &mut level.spots);
+                }
             }
         }
         is_new
     }
 
     /// Ends the level: its links are told, and its states are to be expanded.
-    pub fn next_level(&mut self, links: &Links) -> Vec<Front> {
+    pub fn next_level(&mut self, links: &Links, width: usize) -> Vec<Front> {
         let parts = self.parts();
         let mut fronts = Vec::new();
         for (part, level) in parts.zip(&mut self.levels) {
@@ -86,7 +117,7 @@ impl Store {
             known.append(&mut level.links);
             let first = std::mem::replace(&mut level.first, level.set.keys().len());
             level.orders.clear();
-            let (count, spots) = (level.first - first, std::mem::take(&mut level.spots));
+            let (count, spots) = (level.first - first, level.take_spots(width));
             if count > 0 {
                 fronts.push(Front {
                     part,
@@ -103,7 +134,7 @@ impl Store {
     pub fn bytes(&self) -> usize {
         let of = |level: &Level| {
             let words = level.first + level.links.capacity() + level.orders.capacity();
-            level.set.bytes() + words * 8 + level.spots.capacity()
+            level.set.bytes() + (words + level.starts.capacity()) * 8 + level.spots.capacity()
         };
         self.levels.iter().map(of).sum()
     }

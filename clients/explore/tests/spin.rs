@@ -86,7 +86,7 @@ fn spin_counts_the_same_states() {
         return;
     }
     let folder = folder();
-    for targets in 1..=4 {
+    for targets in 1..=5 {
         let spin = by_spin(&folder, targets);
         let model = TRACEES.model(true, 1, targets);
         let began = Instant::now();

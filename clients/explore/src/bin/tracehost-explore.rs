@@ -19,6 +19,7 @@ Searches all interleavings of a debugger that has a race.
   --size N            how many signals, threads or targets
   --users N           so many users, each with all of it
   --together          searches the users together, and not each by itself
+  --symmetric         takes states that differ only by an exchange of equal processes as one
   --threads N         threads; as many as the machine runs at once
   --limit N           the most states (1000000)
   --memory MIB        the most memory for the states (4096)
@@ -74,6 +75,7 @@ where
 fn set(options: &mut Options, option: &str, words: &mut impl Iterator<Item = OsString>) -> Result<bool, Stop> {
     match option {
         "--together" => options.together = true,
+        "--symmetric" => options.symmetric = true,
         "--resume" => options.resume = true,
         "--threads" => options.threads = number(option, words)?,
         "--limit" => options.limit = number(option, words)?,

@@ -14,7 +14,9 @@ pub fn tracees(host: &mut Session, setup: Setup) -> Result<Processes, Error> {
     let mut scripts: Processes = vec![Box::new(continuing(setup, debugger))];
     for _ in 0..setup.size {
         let target = traced_child(host, setup.user, debugger)?;
-        scripts.push(Box::new(raising(setup.user, target, 2)));
+        let mut script = raising(setup.user, target, 2);
+        script.exchange(0);
+        scripts.push(Box::new(script));
     }
     Ok(scripts)
 }
