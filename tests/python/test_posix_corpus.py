@@ -260,7 +260,7 @@ def test_what_afl_keeps_is_run(library: Path, program: Path, tmp_path: Path, mon
     assert run("afl-clang-fast", *words).status == 0
     for setting in ("I_DONT_CARE_ABOUT_MISSING_CRASHES", "NO_UI", "SKIP_CPUFREQ", "TRY_AFFINITY"):
         monkeypatch.setenv(f"AFL_{setting}", "1")
-    ran = run("afl-fuzz", "-E", "3000", "-i", seeds, "-o", found, tmp_path / "fuzz", "@@")
+    ran = run("afl-fuzz", "-t", "20000", "-E", "3000", "-i", seeds, "-o", found, tmp_path / "fuzz", "@@")
     assert ran.status == 0, ran.out[-2000:]
     kept = [path for path in (found / "default/queue").iterdir() if path.is_file()]
     sums = json.loads(corpus(program, "--json", found / "default/queue").out)
