@@ -219,7 +219,7 @@ def refused_threads(program: str, file: str) -> Iterator[Run]:
     yield Run(command, b"", {"THREAD": "64-"}, (whole(text),))
 
 
-# ---- lines, each answered before the next is read
+# ---- lines, answered one by one
 
 
 @dataclasses.dataclass(frozen=True)
@@ -242,6 +242,12 @@ class Session:
         """The answers to those lines that are whole if so many bytes were taken."""
         ends = itertools.accumulate(map(len, self.lines))
         return b"".join(answer for end, answer in zip(ends, self.answers) if end <= taken)
+
+    def answers_by_reads(self, size: int) -> list[bytes]:
+        """The answers to the lines that end in each read, if a read takes so many bytes."""
+        ends = itertools.accumulate(map(len, self.lines))
+        by_read = itertools.groupby(zip(ends, self.answers), lambda pair: (pair[0] - 1) // size)
+        return [b"".join(answer for _, answer in pairs) for _, pairs in by_read]
 
 
 def session_of(program: str, file: str, text: bytes) -> Session:
@@ -278,10 +284,8 @@ def failing_writes_of_lines(session: Session) -> Iterator[Run]:
     """Each write fails, is interrupted, or moves one byte: what was written before one failed stays."""
     most = 16
     done = whole(session.text)
-    pieces = [answer[at : at + most] for answer in session.answers for at in range(0, len(answer), most)]
-    for n in range(1, len(pieces) + 1):
+    for n, front in enumerate(fronts(session.answers_by_reads(most), most), 1):
         few = {"MOST": most, "WRITE": n}
-        front = b"".join(pieces[: n - 1])
         for error in WRITE_ERRORS:
             yield Run(session.command, session.given, {**few, "ERROR": error}, (cannot_write(front),))
         yield Run(session.command, session.given, {**few, "ERROR": errno.EINTR}, (done,))

@@ -16,7 +16,7 @@ from typing import IO, Any
 
 import pytest
 
-from checking import TOP, Word, accepted_files, for_each_scenario
+from checking import TOP, Word, accepted_files, for_each_scenario, needs
 
 SPAWN = b'{"user":1001,"op":"spawn"}'
 MOST_BYTES = 65536
@@ -312,10 +312,10 @@ def test_output_that_cannot_be_written(program: Path) -> None:
         session.send(SPAWN + b"\n")
         assert session.process.wait() == 3
         assert session.error.read() == b"tracehost: cannot write\n"
-    with open("/dev/full", "wb") as full, session_of(program, stdout=full) as session:
-        session.send(SPAWN + b"\n" + SPAWN + b"\n")
-        assert session.process.wait() == 3
-        assert session.error.read() == b"tracehost: cannot write\n"
+    for count in (2, 10_000):
+        with open("/dev/full", "wb") as full, session_of(program, stdout=full) as session:
+            _, err = session.process.communicate((SPAWN + b"\n") * count)
+            assert (err, session.process.returncode) == (b"tracehost: cannot write\n", 3)
 
 
 @pytest.mark.parametrize(
@@ -339,6 +339,40 @@ def test_bytes_in_any_pieces(program: Path) -> None:
         for number in range(100):
             assert session.answer() == f"1001 {number + 2} new {number + 1001} {number + 100001}"
             assert session.answer() == "refused BadJson"
+
+
+def mixed_lines(count: int) -> list[bytes]:
+    """Steps that are answered by a reply, by an errno or by a list, and lines that are refused."""
+    kinds = [SPAWN, step("list", caller=7), b"", step("list", caller=1000), step("spawn", user=1064), b"[]"]
+    return [kinds[place % 6] if place < 300 else kinds[place % 3] for place in range(count)]
+
+
+@needs("strace")
+@pytest.mark.parametrize("last", [b"\n", b""])
+def test_lines_that_wait_are_answered_together(program: Path, tmp_path: Path, last: bytes) -> None:
+    """The answers are those of line by line, by at most two calls for 64 KiB that are read or written."""
+    lines = mixed_lines(6001)
+    with session_of(program) as session:
+        wanted = "".join(session.ask(line) + "\n" for line in lines)
+        assert session.end() == ("", "", 0)
+    steps, log = tmp_path / "steps", tmp_path / "calls"
+    steps.write_bytes(b"\n".join(lines) + last)
+    words: list[Word] = ["strace", "-f", "-e", "trace=write", "-o", log, program, "--lines", steps]
+    done = subprocess.run(words, capture_output=True, timeout=60, check=False)
+    assert (done.stdout.decode(), done.stderr, done.returncode) == (wanted, b"", 0)
+    calls = log.read_text().count(" write(1, ")
+    assert 0 < calls <= 2 * (steps.stat().st_size + len(wanted)) // MOST_BYTES + 2
+
+
+def test_a_part_of_a_line_waits(program: Path) -> None:
+    """The lines before it are answered at once, even if all came together."""
+    with session_of(program) as session:
+        session.send((SPAWN + b"\n") * 100 + SPAWN[:9])
+        for number in range(100):
+            assert session.answer() == f"1001 {number + 1} new {number + 1000} {number + 100000}"
+        session.send(SPAWN[9:] + b"\n" + SPAWN)
+        assert session.answer() == "1001 101 new 1100 100100"
+        assert session.end() == ("1001 102 new 1101 100101\n", "", 0)
 
 
 def test_stopped_and_continued(program: Path) -> None:

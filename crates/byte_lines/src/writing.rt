@@ -34,7 +34,11 @@ fn is_flushed<W: Write>(writer: &mut W) -> io::Result<bool>
 }
 
 /// Flushes the writer, and again if a signal interrupted it.
-fn flush<W: Write>(writer: &mut W) -> io::Result<()>
+///
+/// # Errors
+///
+/// Those of the writer, except `Interrupted`, after which it retries.
+pub fn flush<W: Write>(writer: &mut W) -> io::Result<()>
     ensures kept { Keeps (W.contents writer.old) (W.contents writer.new) }
     ensures retried { IfErr result (λ e. error_kind e ≢ ErrorKind.Interrupted) }
 {
@@ -46,13 +50,13 @@ fn flush<W: Write>(writer: &mut W) -> io::Result<()>
     Err(io::Error::from(ErrorKind::Other))
 }
 
-/// Writes all the bytes, and flushes the writer.
+/// Writes all the bytes.
 ///
 /// # Errors
 ///
 /// Those of the writer, except `Interrupted`, after which it retries; or `WriteZero` if the writer took no byte. The
 /// writer then has the beginning of the bytes.
-pub fn write_flushed<W: Write>(writer: &mut W, bytes: &[u8]) -> io::Result<()>
+pub fn write_all<W: Write>(writer: &mut W, bytes: &[u8]) -> io::Result<()>
     ensures ok { OnOk result (Appends (W.contents writer.old) (W.contents writer.new) bytes.now) }
     ensures err { OnErr result ((n : ℕ) × Appends (W.contents writer.old) (W.contents writer.new) (take n bytes.now)) }
     ensures retried { IfErr result (λ e. error_kind e ≢ ErrorKind.Interrupted) }
@@ -60,7 +64,7 @@ pub fn write_flushed<W: Write>(writer: &mut W, bytes: &[u8]) -> io::Result<()>
     let mut rest = bytes;
     for _ in 0..u64::MAX {
         if rest.is_empty() {
-            return flush(writer);
+            return Ok(());
         }
         let written = write_part(writer, rest)?;
         rest = &rest[written..];

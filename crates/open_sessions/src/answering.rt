@@ -4,7 +4,7 @@ ghost use Rattle.open_sessions.specs.Turns.{Told, Writes};
 
 use crate::serve_fault::ServeError;
 use crate::{Session, SessionFault};
-use byte_lines::write_flushed;
+use byte_lines::write_all;
 use scenario_runs::Style;
 use std::alloc::Global;
 use std::io::Write;
@@ -21,7 +21,7 @@ fn write_last<W: Write>(
 {
     text.clear();
     match session.push_line(alloc, style, text) {
-        Ok(()) => match write_flushed(writer, text.as_bytes()) {
+        Ok(()) => match write_all(writer, text.as_bytes()) {
             Ok(()) => Ok(()),
             Err(_) => Err(ServeError::Write),
         },

@@ -1,17 +1,17 @@
 //! A session from its first line to its last.
 ghost use Rattle.std.specs.Prelude.{◌≡◌, ◌≢◌, ◌<◌, ◌⊎◌, ℕ, List, [], true, Ok, Err, None, Some, length, replicate, IfOk, IfErr, IfSome, OnErr};
-ghost use Rattle.std.specs.Io.KnownBytes.{Consumes, IsAtEnd};
+ghost use Rattle.std.specs.Io.KnownBytes.{Consumes, IsAtEnd, Keeps};
 ghost use Rattle.byte_lines.specs.declared.reading.LineEnd.TheVariants.{Feed, Input};
 ghost use Rattle.byte_lines.specs.Lines.{Loses, IsEndless, end_bytes};
 ghost use Rattle.requests.specs.Machine.{empty};
 ghost use Rattle.open_sessions.specs.declared.serve_fault.ServeError.TheVariants.{Read as ReadFault, Memory};
 ghost use Rattle.open_sessions.specs.Sessions.{Serves};
-ghost use Rattle.open_sessions.specs.Turns.{kept};
+ghost use Rattle.open_sessions.specs.Turns.{Told, kept};
 
 use crate::Session;
 use crate::answering::answer_line;
 use crate::serve_fault::ServeError;
-use byte_lines::{LineEnd, LineSource, read_line};
+use byte_lines::{LineEnd, LineSource, flush, read_line};
 use scenario_runs::{MAX_STEP_BYTES, Style};
 use std::alloc::Global;
 use std::io::{ErrorKind, Write};
@@ -41,6 +41,28 @@ fn next_line<R: LineSource>(
     }
 }
 
+/// Answers the line that was read. The answers are flushed unless the next line is buffered, too: a peer may wait for
+/// them before it sends more.
+fn answer_read<R: LineSource, W: Write>(
+    alloc: Global,
+    style: Style,
+    session: &mut Session,
+    line: &[u8],
+    text: &mut String,
+    reader: &R,
+    writer: &mut W,
+) -> Result<(), ServeError>
+    ensures { Told style result line.now session.old.host session.new.host session.old.made session.new.made (W.contents writer.old) (W.contents writer.new) }
+{
+    match answer_line(alloc, style, session, line, text, writer) {
+        Ok(()) if !reader.has_line() => match flush(writer) {
+            Ok(()) => Ok(()),
+            Err(_) => Err(ServeError::Write),
+        },
+        answered => answered,
+    }
+}
+
 /// Answers each line of the reader by a line to the writer, until the reader's end. `line` and `text` are buffers for a
 /// line's bytes and its answer.
 fn answer_all<R: LineSource, W: Write>(
@@ -60,7 +82,7 @@ fn answer_all<R: LineSource, W: Write>(
         let Some(end) = next_line(reader, line)? else {
             return Ok(());
         };
-        answer_line(alloc, style, session, line.as_slice(), text, writer)?;
+        answer_read(alloc, style, session, line.as_slice(), text, reader, writer)?;
         if let LineEnd::Input = end {
             return Ok(());
         }
@@ -68,9 +90,18 @@ fn answer_all<R: LineSource, W: Write>(
     Err(ServeError::TooManyLines)
 }
 
+/// Flushes the answers that a session left when it failed. A writer that failed isn't tried again.
+fn flush_after<W: Write>(served: Result<(), ServeError>, writer: &mut W)
+    ensures { Keeps (W.contents writer.old) (W.contents writer.new) }
+{
+    if let Err(ServeError::Read | ServeError::Memory | ServeError::TooManyLines) = served {
+        let _ = flush(writer);
+    }
+}
+
 /// Answers each line of the reader by a line to the writer, until the reader's end. A new host with these settings
-/// makes the steps, and handlers answer by the policies that the lines install. An answer is written in the style. It
-/// is flushed, and the memory of its line is free, before the next line is read.
+/// makes the steps, and handlers answer by the policies that the lines install. An answer is written in the style.
+/// Answers are flushed before a read that may wait, and at the end. A line's memory is free before the next is read.
 ///
 /// # Errors
 ///
@@ -90,7 +121,7 @@ pub fn serve<R: LineSource, W: Write>(
     let mut session = Session::new(alloc, settings)?;
     let mut line = Vec::new(alloc);
     let mut text = String::new(alloc);
-    answer_all(
+    let served = answer_all(
         alloc,
         style,
         &mut session,
@@ -98,5 +129,7 @@ pub fn serve<R: LineSource, W: Write>(
         &mut text,
         reader,
         writer,
-    )
+    );
+    flush_after(served, writer);
+    served
 }

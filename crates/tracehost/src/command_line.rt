@@ -107,7 +107,9 @@ fn with_scenario_options<'a>(
     let threads = Arg::new(alloc, "threads")
         .long("threads")
         .action(ArgAction::SetTrue)
-        .help("Run each user's steps in a thread of their own, and print the lines user by user");
+        .help(
+            "Test sharing: run each user's steps in a thread of their own, and print the lines user by user",
+        );
     let command = command.arg(threads)?;
     let expect = Arg::new(alloc, "expect")
         .long("expect")
@@ -155,7 +157,7 @@ fn with_line_options<'a>(alloc: Global, command: Command<'a>) -> Result<Command<
         .conflicts_with("expect")?
         .conflicts_with("bless")?
         .conflicts_with("LIST")?
-        .help("Read one step a line, and answer each before the next one is read");
+        .help("Read one step a line, and answer each before waiting for the next");
     let command = command.arg(lines)?;
     let kill = Arg::new(alloc, "0|1")
         .long("kill-on-debugger-exit")

@@ -1,14 +1,14 @@
-//! `tracehost [FILE] [--user UID] [--threads]` runs a scenario, and prints its lines, or only those of one user. With `--threads` each
-//! user's steps are made by a thread of their own, and the lines come user by user. With `--expect FILE` the lines are compared with the
-//! file's, and only what is different is printed. With `--bless` the file then gets the lines. `--expect-list LIST`
-//! compares those of many scenarios.
+//! `tracehost [FILE] [--user UID] [--threads]` runs a scenario, and prints its lines, or only those of one user. With
+//! `--threads` each user's steps are made by a thread of their own, and the lines come user by user. With
+//! `--expect FILE` the lines are compared with the file's, and only what is different is printed. With `--bless` the
+//! file then gets the lines. `--expect-list LIST` compares those of many scenarios.
 //!
-//! `tracehost --lines [FILE] [--kill-on-debugger-exit 0|1]` makes the step of each line, and prints its reply before it reads the next
-//! one.
+//! `tracehost --lines [FILE] [--kill-on-debugger-exit 0|1]` makes the step of each line, and prints its reply before it
+//! waits for the next one.
 //!
-//! Both read standard input if FILE is missing or `-`. With `--json` each line is a JSON object, and with
-//! `--json=trace` it has the step that it answers, too, with `--json=trace+rows` also the rows that the step changed. `--explain` explains on standard error where and why input is refused; on a terminal
-//! it does so without being asked.
+//! Both read standard input if FILE is missing or `-`. With `--json` each line is a JSON object. With `--json=trace` it
+//! also has the step that it answers, and with `--json=trace+rows` the rows that the step changed. `--explain` explains
+//! on standard error where and why input is refused; on a terminal it does so without being asked.
 #![tactic(auto)]
 
 ghost use Rattle.std.specs.Prelude.{◌≡◌};
@@ -34,7 +34,7 @@ use scenario_runs::{
     Fault, LineOptions, RunFault, Scenario, Style, policy_handlers, read, run_with,
 };
 use std::alloc::AllocError;
-use std::io::{BufReader, IsTerminal, Read, Write};
+use std::io::{BufReader, BufWriter, IsTerminal, Read, Write};
 use std::process::ExitCode;
 use std::rt::{Env, Files};
 use std::sync::Wait;
@@ -44,7 +44,10 @@ use stop_handlers::{Decider, Handler};
 use trace_stop::Settings;
 
 /// The version of the program and of all that comes with it.
-const VERSION: &str = "0.14.0";
+const VERSION: &str = "0.15.0";
+
+/// How many bytes of lines are read, or of answers written, by one call. A pipe holds as many.
+const BUFFER_BYTES: usize = 65536;
 
 /// Why the program ends with another status than 0.
 #[derive(Drop)]
@@ -170,14 +173,12 @@ fn serve_reader<R: Print + AllocGlobal, I: Read + Drop>(
     style: Style,
     input: I,
 ) -> Result<(), CommandError> {
-    let mut reader = BufReader::new(rt.alloc(), input)?;
-    serve(
-        rt.alloc(),
-        settings,
-        style,
-        &mut reader,
-        &mut io::writer(rt),
-    )?;
+    let mut reader = BufReader::with_capacity(rt.alloc(), BUFFER_BYTES, input)?;
+    let mut writer = BufWriter::with_capacity(rt.alloc(), BUFFER_BYTES, io::writer(rt))?;
+    let served = serve(rt.alloc(), settings, style, &mut reader, &mut writer);
+    // what is left could not be written, and isn't tried again
+    let _left = writer.into_parts();
+    served?;
     Ok(())
 }
 

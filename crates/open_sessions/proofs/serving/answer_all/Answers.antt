@@ -14,27 +14,27 @@ pub returns-in_default-clause-serves : goal.returns-in_default-clause-serves
 returns-in_default-clause-serves g c =
     ends_now _ _ _ _ _ _ _ _ _ c.loop.invariant _ (c.next_line.ensures.none (c.in_ok-end.was ∙ ap Ok c.in_default.is)) (c.in_ok-end.ensures.end (λ feed. cc (c.in_default.is, feed)))
 
-pub returns-in_err-answer_line-clause-serves : goal.returns-in_err-answer_line-clause-serves
-returns-in_err-answer_line-clause-serves g c =
+pub returns-in_err-answer_read-clause-serves : goal.returns-in_err-answer_read-clause-serves
+returns-in_err-answer_read-clause-serves g c =
     let found = rw c.in-Some.is at c.in_ok-end.ensures.line in
-    let told = rw (c.as_slice.ensures.value, found.2) at c.in_err-answer_line.ensures in
-    serves_by _ _ _ _ _ _ _ _ c.from_residual-in_err-answer_line.ensures.1
-    (fails _ _ _ _ _ _ _ _ _ c.loop.invariant _ found.0 c.in-Some.end found.1 c.answer_line.new.session.host c.answer_line.new.session.made (g.W.Write.contents c.answer_line.new.writer)
-    c.in_err-answer_line.field-0.0 (omega arith) found.3 (λ input. c.in_ok-end.ensures.end (λ feed. cc (c.in-Some.is, input, feed))) told)
+    let told = rw (c.as_slice.ensures.value, found.2) at c.in_err-answer_read.ensures in
+    serves_by _ _ _ _ _ _ _ _ c.from_residual-in_err-answer_read.ensures.1
+    (fails _ _ _ _ _ _ _ _ _ c.loop.invariant _ found.0 c.in-Some.end found.1 c.answer_read.new.session.host c.answer_read.new.session.made (g.W.Write.contents c.answer_read.new.writer)
+    c.in_err-answer_read.field-0.0 (omega arith) found.3 (λ input. c.in_ok-end.ensures.end (λ feed. cc (c.in-Some.is, input, feed))) told)
 
 pub returns-in-Input-clause-serves : goal.returns-in-Input-clause-serves
 returns-in-Input-clause-serves g c =
     let found = rw c.in-Some.is at c.in_ok-end.ensures.line in
-    let told = rw (c.as_slice.ensures.value, found.2) at c.in_ok-answer_line.ensures in
-    ends_last _ _ _ _ _ _ _ _ _ c.loop.invariant _ found.0 c.in-Some.end found.1 c.answer_line.new.session.host c.answer_line.new.session.made (g.W.Write.contents c.answer_line.new.writer)
+    let told = rw (c.as_slice.ensures.value, found.2) at c.in_ok-answer_read.ensures in
+    ends_last _ _ _ _ _ _ _ _ _ c.loop.invariant _ found.0 c.in-Some.end found.1 c.answer_read.new.session.host c.answer_read.new.session.made (g.W.Write.contents c.answer_read.new.writer)
     found.3 told (c.in_ok-end.ensures.end (λ feed. cc (c.in-Some.is, c.in-Input.is, feed)))
 
 pub loop-preserved : goal.loop-preserved
 loop-preserved g c =
     let found = rw c.in-Some.is at c.in_ok-end.ensures.line in
-    let told = rw (c.as_slice.ensures.value, found.2) at c.in_ok-answer_line.ensures in
-    goes_on _ _ _ _ _ _ _ _ _ c.loop.invariant _ found.0 (lost_feed _ _ found.0 c.in-Some.end c.in_default-end.not-Input found.1) c.answer_line.new.session.host c.answer_line.new.session.made
-    (g.W.Write.contents c.answer_line.new.writer) told
+    let told = rw (c.as_slice.ensures.value, found.2) at c.in_ok-answer_read.ensures in
+    goes_on _ _ _ _ _ _ _ _ _ c.loop.invariant _ found.0 (lost_feed _ _ found.0 c.in-Some.end c.in_default-end.not-Input found.1) c.answer_read.new.session.host c.answer_read.new.session.made
+    (g.W.Write.contents c.answer_read.new.writer) told
 
 pub returns-clause-serves : goal.returns-clause-serves
 returns-clause-serves g c = too_many _ _ _ _ _ _ _ _ _ c.loop.invariant (g.R.Read.remaining c.loop.reader) (omega arith)

@@ -1,8 +1,5 @@
-use Rattle.byte_lines.proofs.{ReadLemmas.on_err, WriteLemmas.{front_is, front_sliced, front_taken, front_ended}}
-use Rattle.byte_lines.proofs.writing.write_flushed.Goals as goal
-
-pub returns-then-is_empty-clause-err : goal.returns-then-is_empty-clause-err
-returns-then-is_empty-clause-err g c = on_err _ _ (front_taken _ _ _ _ _ c.loop.invariant c.flush.ensures.kept)
+use Rattle.byte_lines.proofs.{ReadLemmas.on_err, WriteLemmas.{front_is, front_sliced, front_ended}}
+use Rattle.byte_lines.proofs.writing.write_all.Goals as goal
 
 pub returns-in_err-written-clause-err : goal.returns-in_err-written-clause-err
 returns-in_err-written-clause-err g c = on_err _ _ (front_ended _ _ _ _ _ c.loop.invariant c.in_err-written.ensures.err)
