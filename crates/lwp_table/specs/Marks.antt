@@ -1,4 +1,4 @@
--- What rows of a list may have that changes of all rows of a process touch.
+-- Traits of a list's rows. A change of all rows of a process alters only rows with one of its traits.
 use Rattle.std.specs.Prelude.{◌≡◌, ℕ, Bool, true, false, not, ◌==◌, ◌&&◌, ◌||◌, Some, None, if◌then◌else◌}
 use Rattle.std.specs.Int.RustNames.{bit_or}
 use Rattle.std.specs.Option.{option_map_or}
@@ -25,7 +25,7 @@ is_due Born = true
 is_due Begun = true
 is_due VforkDone = true
 
--- what an LWP has
+-- the traits of an LWP
 abbrev pub traits_of : LwpData → Traits
 traits_of l = record { pending = l.pending; steps = l.stepping; waits = is_waiting l.mode; held = l.suspended || is_due l.due }
 
@@ -46,11 +46,11 @@ meets a b = not (without a.pending b.pending == a.pending) || ((a.steps && b.ste
 abbrev pub no_marks : Marks
 no_marks = record { all = no_traits; sole = None; own = no_traits }
 
--- whether the LWP with this number is the one that may have more than all
+-- whether the LWP with this number may also have the traits of its own
 abbrev pub is_sole : ℕ → Marks → Bool
 is_sole tid m = option_map_or (λ t. t == tid) m.sole false
 
--- whether the LWP has no traits but those that the marks tell of
+-- whether the marks tell of all traits of the LWP
 abbrev pub covers : Marks → LwpData → Bool
 covers m l = within (traits_of l) (if is_sole l.tid m then union m.all m.own else m.all)
 

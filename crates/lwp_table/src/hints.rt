@@ -6,15 +6,15 @@ use std::alloc::{AllocError, Global};
 /// The least number of hints, once there is a row.
 const LEAST: usize = 128;
 
-/// The greatest number of hints. Each process number of a user then has a hint of its own.
-const MOST: usize = 1024;
+/// The greatest number of hints. With so many, each process number of all users has its own.
+const MOST: usize = 65536;
 
-/// How many hints there are for each number that a row has had.
+/// How many hints there are for each row.
 const SHARE: usize = 4;
 
-/// For each remainder of numbers, the slot that the last new row with such a number got. A hint may be any slot, so
-/// nothing is said of it: whoever asks compares the slot's row. There are none before the first row, and then ever
-/// more, by powers of two, so that a small table is copied soon.
+/// For each remainder of numbers, the slot that the last new row with such a number got. A hint may be any slot:
+/// whoever asks compares the slot's row. There are none before the first row. Their number grows by powers of two, so a
+/// small table has few to copy.
 #[derive(Clone, Drop)]
 pub struct Hints {
     slots: Vec<u16>,
@@ -47,20 +47,19 @@ impl Hints {
         }
     }
 
-    /// Makes hints for the numbers of the index and for `count` more. Fails when out of memory.
+    /// Makes hints for this many rows, whose numbers are in the index. Fails when out of memory.
     #[inline(always)]
-    pub fn reserve(&mut self, index: &NumberIndex<usize>, count: usize) -> Result<(), AllocError> {
-        let numbers = index.len().saturating_add(count);
-        if self.slots.len() < MOST && self.slots.len() / SHARE < numbers {
-            self.grow(index, numbers)?;
+    pub fn reserve(&mut self, index: &NumberIndex<usize>, rows: usize) -> Result<(), AllocError> {
+        if self.slots.len() < MOST && self.slots.len() / SHARE < rows {
+            self.grow(index, rows)?;
         }
         Ok(())
     }
 
-    /// Makes hints for this many numbers, and notes those of the index anew.
+    /// Makes hints for this many rows, and notes those of the index anew.
     #[inline(never)]
-    fn grow(&mut self, index: &NumberIndex<usize>, numbers: usize) -> Result<(), AllocError> {
-        let wanted = numbers.min(MOST / SHARE) * SHARE;
+    fn grow(&mut self, index: &NumberIndex<usize>, rows: usize) -> Result<(), AllocError> {
+        let wanted = rows.min(MOST / SHARE) * SHARE;
         self.slots.resize(wanted.max(LEAST).next_power_of_two(), 0)?;
         for (number, slot) in index.iter() {
             self.note(*number, *slot);

@@ -1,4 +1,4 @@
-//! What rows of a list may have that changes touch, so that a change looks only at rows that it may touch.
+//! Marks of a list's rows, so that a change looks only at rows that it may alter.
 
 ghost use Rattle.std.specs.Prelude.{◌≡◌};
 ghost use Rattle.lwp_table.specs.Marks.{no_traits, traits_of, is_bare, union, within, meets, no_marks, is_sole, gathered, noted, left};
@@ -7,7 +7,7 @@ use crate::{Due, LwpData, Mode};
 use pid_blocks::Tid;
 use signals::SigSet;
 
-/// What a row has, or rows have, that changes of all rows of a process touch.
+/// Traits of rows. A change of all rows of a process alters only rows with one of its traits.
 #[derive(Clone, Copy, Debug, PartialEq, Eq, Drop)]
 pub struct Traits {
     /// The pending signals.
@@ -21,7 +21,7 @@ pub struct Traits {
 }
 
 impl Traits {
-    /// Returns the traits of a row that has nothing of the kind.
+    /// Returns no traits.
     pub fn none() -> Traits
         ensures { result ≡ no_traits }
     {
@@ -45,7 +45,7 @@ impl Traits {
         }
     }
 
-    /// Tests whether these are no traits.
+    /// Tests whether there are none.
     pub fn is_bare(&self) -> bool
         ensures { result ≡ is_bare self.now }
     {
@@ -85,15 +85,15 @@ impl Traits {
     }
 }
 
-/// What the rows of a list may have: each row the traits `all`, and one row more than these.
+/// The traits that rows of a list may have: each row those of `all`, and the row `sole` also those of `own`.
 ///
-/// That one is the last that got a trait. So it's the one that a debugger steps, or the one that waits for the child of
-/// its vfork, and what is changed next is mostly a trait of this row.
+/// `sole` is the last row that got a trait: the one that a debugger steps, say, or that waits for the child of its
+/// vfork. The next change is mostly of this row.
 #[derive(Clone, Copy, Debug, PartialEq, Eq, Drop)]
 pub struct Marks {
     pub all: Traits,
     pub sole: Option<Tid>,
-    /// What the row `sole` may have in addition.
+    /// The traits that only the row `sole` may have.
     pub own: Traits,
 }
 

@@ -107,7 +107,8 @@ impl LwpTable {
         self.slots.reserve(count)?;
         self.heads.reserve(count)?;
         self.users.reserve(count)?;
-        self.hints.reserve(&self.slots, count)
+        let rows = self.rows.len().saturating_add(count);
+        self.hints.reserve(&self.slots, rows)
     }
 
     /// Adds a row at the end. Allocates nothing.
@@ -180,7 +181,8 @@ impl LwpTable {
     }
 
     /// Changes each row of this process in its place. A row keeps its number and its process.
-    pub fn edit_of<F: Fn(&LwpData) -> LwpData>(&mut self, pid: Pid, edit: F)
+    #[inline(never)]
+    fn edit_of<F: Fn(&LwpData) -> LwpData>(&mut self, pid: Pid, edit: F)
         requires callable { F.IsAlwaysCallable edit }
         requires keeps { KeepsNumbers (FnReturnsAt F.Fn edit) self.old.rows }
         // the rows by the definition, for any change that the closure computes on the rows
@@ -199,6 +201,7 @@ impl LwpTable {
     }
 
     /// Changes the row with this number in its place, if it's a row of this process.
+    #[inline(never)]
     fn edit_one<F: Fn(&LwpData) -> LwpData>(&mut self, pid: Pid, tid: Tid, edit: &F)
         requires callable { F.IsAlwaysCallable edit.now }
         requires keeps { KeepsNumbers (FnReturnsAt F.Fn edit.now) self.old.rows }
@@ -213,8 +216,9 @@ impl LwpTable {
     }
 
     /// Changes each row of this process in its place, by a change that leaves rows without the touched traits as they
-    /// are. A row keeps its number and its process. Looks at no row if none may have such a trait, and only at one if no
-    /// other may.
+    /// are. A row keeps its number and its process. Looks at no row if none may have such a trait, and only at one if
+    /// no other may.
+    #[inline(always)]
     pub fn edit_touched_of<F: Fn(&LwpData) -> LwpData>(
         &mut self,
         pid: Pid,

@@ -1,4 +1,4 @@
-//! The ends of the users' lists, of which only those of users who have had a row take memory.
+//! The ends of the users' lists. A list takes memory once its user has had a row.
 
 ghost use Rattle.std.specs.Prelude.{◌≡◌, ◌<◌, ◌≤◌, ◌+◌, get_or, set, replicate, OnOk};
 ghost use Rattle.lwp_table.specs.Kept.{empty_head};
@@ -59,7 +59,7 @@ impl UserHeads {
         }
     }
 
-    /// Makes room for the lists of `count` more users, as far as there are so many.
+    /// Makes room for the lists of `count` more users, or of all users if they are fewer.
     #[tactic(auto, using(crate::proofs::PlaceLemmas::few))]
     pub fn reserve(&mut self, count: usize) -> Result<(), AllocError>
         ensures room { OnOk result (count ≤ self.new.spare) }
@@ -100,7 +100,7 @@ impl UserHeads {
         self.heads.push_reserved(ListHead { ..head });
     }
 
-    /// Replaces the ends of the list of the user at this place, which isn't empty.
+    /// Replaces the ends of the list of the user at this place. The list isn't empty.
     #[tactic(auto, using(crate::proofs::PlaceLemmas::replaced, crate::proofs::PlaceLemmas::value_at))]
     pub fn replace(&mut self, place: usize, head: ListHead)
         requires place { place < 64 }

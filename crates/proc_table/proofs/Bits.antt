@@ -2,14 +2,14 @@
 use Rattle.std.proofs.Common.{◌≡◌, ◌≢◌, ℕ, ◌<◌, ◌≤◌, ◌+◌, ◌-◌, ◌*◌, ◌/◌, ◌%◌, ◌^◌, ◌==◌, Bool, true, false, not, List, length, get_or, set, w64, ap, sym, ◌∙◌, arith, if◌then◌else◌}
 use Rattle.std.proofs.Common.{[], ◌∷◌, ◌++◌, replicate, subst, length-append, length-set}
 use Rattle.std.proofs.lemmas.Bool.Decides.{nat_tests}
-use Rattle.std.proofs.lemmas.List.{get_or-set_same, get_or-set_other, get_or-replicate, get_or_past, get_or_append_left}
+use Rattle.std.proofs.lemmas.List.{get_or-set_same, get_or-set_other, get_or-replicate, get_or_past, get_or_append_left, length-replicate}
 use Rattle.{std.{proofs.lemmas.Nat.{shr-shr, Bits.{bit_at-lt, bit_at_not, bit_at_above, bit_at-zero}}, specs.Int.bit_at}, lwp_table.{specs.Places.{placed, ArePlaced}, proofs.PlaceLemmas.{few, free, value_at, long_placed, replaced, are_with, placed_with, last_added}}, proc_table.specs.Members.{has_bit, member, word_at, IsBegun, IsPaged}}
 
 -- a set without pages has no number
 pub no_member : (n : ℕ) → member (replicate 64 []) n ≡ false
 no_member n = grind (arith, nat_tests, get_or-replicate {A = List ℕ} 64 (n / 64 / 16) [] [], get_or_past {X = List ℕ} (replicate 64 []) (n / 64 / 16) [], bit_at-zero (n % 64))
 
--- a page with no number is as good as none
+-- a page without a number contains what no page contains
 word_begun : (pages : List (List ℕ)) (p : ℕ) → p < length pages → get_or pages p [] ≡ [] → (j : ℕ) → word_at (set pages p (replicate 16 0)) j ≡ word_at pages j
 word_begun pages p within none j = grind (arith, nat_tests, get_or-set_same pages p (replicate 16 0) [], get_or-set_other pages p (j / 16) (replicate 16 0) [], get_or-replicate {A = ℕ} 16 (j % 16) 0 0)
 
@@ -24,7 +24,11 @@ module _ (pages : List (List ℕ)) (k word : ℕ) (within : k / 16 < length page
   others_stay : (j : ℕ) → j ≢ k → word_at (set pages (k / 16) page) j ≡ word_at pages j
   others_stay j apart = grind (arith, nat_tests, get_or-set_same pages (k / 16) page [] within, get_or-set_other pages (k / 16) (j / 16) page [], get_or-set_other (get_or pages (k / 16) []) (k % 16) (j % 16) word 0)
 
--- the pages of a set, of which each place has one or none
+-- and no page ends
+pages_stay : (pages : List (List ℕ)) (k word : ℕ) → k / 16 < length pages → (j : ℕ) → IsBegun pages j → IsBegun (set pages (k / 16) (set (get_or pages (k / 16) []) (k % 16) word)) j
+pages_stay pages k word within j begun = grind (arith, nat_tests, length-set (get_or pages (k / 16) []) (k % 16) word, get_or-set_same pages (k / 16) (set (get_or pages (k / 16) []) (k % 16) word) [] within, get_or-set_other pages (k / 16) (j / 16) (set (get_or pages (k / 16) []) (k % 16) word) [], begun)
+
+-- the pages of a set; each place has one or none
 module _ (is : List ℕ) (xs : List (List ℕ)) (paged : IsPaged is xs) where
   abbrev whole : List (List ℕ)
   whole = placed [] xs is
@@ -63,6 +67,9 @@ module _ (is : List ℕ) (xs : List (List ℕ)) (paged : IsPaged is xs) where
       pub words_with : (j : ℕ) → word_at (placed [] (xs ++ replicate 16 0 ∷ []) (set is (k / 16) (length xs))) j ≡ word_at whole j
       words_with j = rw with_page (word_begun whole (k / 16) (omega (arith, low, long_placed [] xs is paged.placed)) (value_at [] xs is paged.placed (k / 16) low ∙ get_or_past xs (get_or is (k / 16) 0) [] past) j)
 
+      pub begun_still : (j : ℕ) → IsBegun whole j → IsBegun (placed [] (xs ++ replicate 16 0 ∷ []) (set is (k / 16) (length xs))) j
+      begun_still j begun = rw with_page (grind (arith, nat_tests, length-replicate {A = ℕ} 16 0, get_or-set_same whole (k / 16) (replicate 16 0) [] (omega (arith, low, long_placed [] xs is paged.placed)), get_or-set_other whole (k / 16) (j / 16) (replicate 16 0) [], begun))
+
       pub begun_with : IsBegun (placed [] (xs ++ replicate 16 0 ∷ []) (set is (k / 16) (length xs))) k
       begun_with = omega (arith, ap (λ ps. length (get_or ps (k / 16) [])) with_page, ap length (get_or-set_same whole (k / 16) (replicate 16 0) [] (omega (arith, low, long_placed [] xs is paged.placed))))
 
@@ -92,6 +99,9 @@ module _ (is : List ℕ) (xs : List (List ℕ)) (paged : IsPaged is xs) where
       pub others_put : (j : ℕ) → j ≢ k → word_at (placed [] changed is) j ≡ word_at whole j
       others_put j apart = rw with_word (others_stay whole k word inside long j apart)
 
+      pub begun_put : (j : ℕ) → IsBegun whole j → IsBegun (placed [] changed is) j
+      begun_put j begun = rw with_word (pages_stay whole k word inside j begun)
+
 -- a word replaces the one with n's bit: n's bit is the new word's, and the others stay if the word's do
 pub member-here : (pages : List (List ℕ)) (n v : ℕ) → word_at pages (n / 64) ≡ v → member pages n ≡ has_bit v (n % 64)
 member-here pages n v here = ap (λ x. has_bit x (n % 64)) here
@@ -105,7 +115,7 @@ member-others old new n v here others stays m apart = grind (arith, nat_tests, o
 pub begun : (pages : List (List ℕ)) (n : ℕ) → member pages n ≡ true → 0 < length (get_or pages (n / 64 / 16) [])
 begun pages n there = grind (arith, nat_tests, get_or_past (get_or pages (n / 64 / 16) []) (n / 64 % 16) 0, bit_at-zero (n % 64))
 
--- the bits of a word shifted to the right are that much higher in the word
+-- a bit of a word shifted to the right is, in the word, that much higher
 pub has_bit-shifted : (word from i : ℕ) → has_bit (word / 2 ^ from) i ≡ has_bit word (from + i)
 has_bit-shifted word from i = ap (λ x. x % 2 == 1) (shr-shr word from i)
 

@@ -13,6 +13,7 @@ pub mod Counts
 pub mod Slots
 pub mod NextOf
 pub mod Indexed
+pub mod NextNews
 pub mod Seen
 pub mod Linked
 pub mod Births

@@ -2,7 +2,7 @@
 use Rattle.std.specs.{Prelude.{◌≡◌, ℕ, [], ◌<◌, ◌/◌, ◌%◌, ◌==◌, Bool, List, length, get_or}, Int.bit_at}
 use Rattle.lwp_table.specs.Places.{ArePlaced}
 
--- the pages of a set, of which one that was never begun is empty, and how many more can be begun without memory
+-- the pages of a set, and how many more can be begun without memory; a page that was never begun is empty
 pub record Numbers : Type 0 where
   pub pages : List (List ℕ)
   pub spare : ℕ
@@ -25,7 +25,7 @@ member pages n = has_bit (word_at pages (n / 64)) (n % 64)
 abbrev pub IsBegun : List (List ℕ) → ℕ → Type 0
 IsBegun pages k = 0 < length (get_or pages (k / 16) [])
 
--- what a set maintains of its pages' places and of its pages
+-- the invariant of a set's pages and their places
 pub record IsPaged (indices : List ℕ) (pages : List (List ℕ)) : Type 0 where
   pub placed : ArePlaced indices (length pages)
   pub full : (i : ℕ) → i < length pages → length (get_or pages i []) ≡ 16

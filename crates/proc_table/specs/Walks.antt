@@ -1,11 +1,14 @@
 -- Walks over processes: each step returns the least greater number.
 use Rattle.std.specs.Prelude.{◌≡◌, ◌==◌, ◌&&◌}
 use Rattle.proc_table.specs.CommonNames.{ℕ, Bool, ltb, List, Option, Some, find, ProcData}
-use Rattle.proc_table.specs.Processes.{process_of, traces}
+use Rattle.proc_table.specs.Processes.{process_of, traces, has_news}
 
--- the first process above a number: of a user, traced by a process, or a child of one
+-- the first process above a number: of a user, of a user and with news, traced by a process, or a child of one
 abbrev pub next_of : ℕ → ℕ → List ProcData → Option ProcData
 next_of u after processes = find (λ p. ltb after p.pid && (p.uid == u)) processes
+
+abbrev pub next_news : ℕ → ℕ → List ProcData → Option ProcData
+next_news u after processes = find (λ p. ltb after p.pid && ((p.uid == u) && has_news p)) processes
 
 abbrev pub next_tracee : ℕ → ℕ → List ProcData → Option ProcData
 next_tracee pid after processes = find (λ p. ltb after p.pid && traces pid p) processes

@@ -1,8 +1,8 @@
-//! Sets of numbers below 65536, with a bit for each number of a page that was begun.
+//! Sets of numbers below 65536. Each page of 1,024 numbers that was begun has a bit for each of them.
 //!
 //! A walk over a user's processes goes by rising number, and a host has room for 64,000 of them. `next` finds the
-//! next number of the set by whole words of 64 bits: the least greater member, or none exactly if there is none. A page
-//! of 1,024 bits gets its memory with its first number, so the set of a few users' processes is small.
+//! next number of the set by whole words of 64 bits. A page gets its memory with its first number, so the set of a few
+//! users' processes is small.
 
 ghost use Rattle.std.specs.Prelude.{◌≡◌, ◌≢◌, ℕ, ◌+◌, ◌<◌, ◌≤◌, true, false, not, ◌/◌, IfSome, IfNone, OnOk, if◌then◌else◌};
 ghost use Rattle.proc_table.specs.Members.{has_bit, member, word_at, max_number, IsBegun};
@@ -57,7 +57,7 @@ impl Clone for NumberSet {
     }
 }
 
-/// Returns the word, or its complement if `wanted` is false: a bit is 1 if the word's bit is as wanted.
+/// Returns the word if `wanted`, or else its complement.
 fn marks(word: u64, wanted: bool) -> u64
     ensures { (i : ℕ) → i < 64 → has_bit result i ≡ (if wanted then has_bit word i else not (has_bit word i)) }
 {
@@ -116,16 +116,17 @@ impl NumberSet {
         }
     }
 
-    /// Begins the page of word `k`, if it was not begun. Allocates nothing.
-    #[tactic(auto, using(crate::proofs::Bits::few_pages, crate::proofs::Bits::free_page, crate::proofs::Bits::begun_page, crate::proofs::Bits::paged_with, crate::proofs::Bits::words_with, crate::proofs::Bits::begun_with))]
-    fn begin_page(&mut self, k: u32)
-        requires number { k < 1024 }
+    /// Begins the page of the number, if it was not begun. Allocates nothing.
+    #[tactic(auto, using(crate::proofs::Bits::few_pages, crate::proofs::Bits::free_page, crate::proofs::Bits::begun_page, crate::proofs::Bits::paged_with, crate::proofs::Bits::words_with, crate::proofs::Bits::begun_with, crate::proofs::Bits::begun_still))]
+    pub fn begin_page(&mut self, number: u32)
+        requires number { number < max_number }
         requires room { 0 < self.old.spare }
-        ensures begun { IsBegun self.new.pages k }
-        ensures words { (j : ℕ) → word_at self.new.pages j ≡ word_at self.old.pages j }
+        ensures begun { IsBegun self.new.pages (number / 64) }
+        ensures others { (k : ℕ) → IsBegun self.old.pages k → IsBegun self.new.pages k }
+        ensures numbers { (n : ℕ) → member self.new.pages n ≡ member self.old.pages n }
         ensures spare { self.old.spare ≤ self.new.spare + 1 }
     {
-        let place = (k / WORDS) as usize;
+        let place = (number / WIDTH / WORDS) as usize;
         if (self.indices[place] as usize) < self.pages.len() {
             return;
         }
@@ -140,6 +141,7 @@ impl NumberSet {
         requires begun { IsBegun self.old.pages k }
         ensures word { word_at self.new.pages k ≡ word }
         ensures others { (j : ℕ) → j ≢ k → word_at self.new.pages j ≡ word_at self.old.pages j }
+        ensures pages { (j : ℕ) → IsBegun self.old.pages j → IsBegun self.new.pages j }
         ensures spare { self.new.spare ≡ self.old.spare }
     {
         let index = self.indices[(k / WORDS) as usize] as usize;
@@ -153,34 +155,23 @@ impl NumberSet {
         self.word(number / WIDTH) >> (number % WIDTH) & 1 == 1
     }
 
-    /// Adds the number to the set. Allocates nothing.
-    pub fn insert(&mut self, number: u32)
+    /// Adds the number to the set, or removes it if `is_member` is false. Its page was begun.
+    #[inline(always)]
+    pub fn put(&mut self, number: u32, is_member: bool)
         requires number { number < max_number }
-        requires room { 0 < self.old.spare }
-        ensures there { member self.new.pages number ≡ true }
+        requires begun { IsBegun self.old.pages (number / 64) }
+        ensures here { member self.new.pages number ≡ is_member }
         ensures others { (n : ℕ) → n ≢ number → member self.new.pages n ≡ member self.old.pages n }
-        ensures spare { self.old.spare ≤ self.new.spare + 1 }
-    {
-        let k = number / WIDTH;
-        self.begin_page(k);
-        let word = self.word(k) | 1 << (number % WIDTH);
-        self.set_word(k, word);
-    }
-
-    /// Removes the number from the set, which contains it.
-    pub fn remove(&mut self, number: u32)
-        requires number { number < max_number }
-        requires there { member self.old.pages number ≡ true }
-        ensures gone { member self.new.pages number ≡ false }
-        ensures others { (n : ℕ) → n ≢ number → member self.new.pages n ≡ member self.old.pages n }
+        ensures pages { (k : ℕ) → IsBegun self.old.pages k → IsBegun self.new.pages k }
         ensures spare { self.new.spare ≡ self.old.spare }
     {
         let k = number / WIDTH;
-        let word = self.word(k) & !(1 << (number % WIDTH));
-        self.set_word(k, word);
+        let word = self.word(k);
+        let bit = 1 << (number % WIDTH);
+        self.set_word(k, if is_member { word | bit } else { word & !bit });
     }
 
-    /// Returns the first number from `from` to below `end` that is in the set, or, if `wanted` is false, that isn't.
+    /// Returns the first number from `from` to below `end` that is in the set, or, unless `wanted`, that isn't.
     pub fn next(&self, wanted: bool, from: u32, end: u32) -> Option<u32>
         requires { end ≤ max_number }
         ensures some { IfSome result (λ r. (from ≤ r) × (r < end) × (member self.now.pages r ≡ wanted)

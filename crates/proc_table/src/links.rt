@@ -3,7 +3,7 @@
 //! A row leaves its list, or joins one at the end, in the same time whatever the length of the list.
 
 ghost use Rattle.std.specs.Prelude.{◌≡◌, ◌≢◌, ℕ, ◌<◌, Some, None, IsSome, IsSomeAnd, IfSome, nat_eq};
-ghost use Rattle.std.specs.Option.{option_map};
+ghost use Rattle.std.specs.Option.{option_map, option_copied, option_and_then};
 ghost use Rattle.std.specs.Map.{lookup};
 ghost use Rattle.slab.specs.Slab.{get, slab_len, ContainsKey};
 ghost use Rattle.proc_table.specs.Links.{keys, IsNext, IsLinked, members, at_least, forward, backward, hung};
@@ -95,6 +95,23 @@ fn indexed_slot(nodes: &Slab<RowNode>, slots: &NumberIndex<usize>, number: u32) 
         Some(slot)
     } else {
         None
+    }
+}
+
+/// Returns the node of the row with this number, if any. It is in the hinted slot, or else in that of the index.
+#[inline(always)]
+pub fn node_named<'a>(
+    nodes: &'a Slab<RowNode>,
+    slots: &NumberIndex<usize>,
+    hints: &Hints,
+    number: u32,
+) -> Option<&'a RowNode>
+    requires { (s : ℕ) (slot : RowNode) → get nodes.now s ≡ Some slot → lookup (nat_eq slot.row.pid) slots.now.entries ≡ Some s }
+    ensures { option_copied result ≡ option_and_then (get nodes.now) (slot_named (get nodes.now) slots.now.entries number) }
+{
+    match nodes.get(hints.slot(number)) {
+        Some(node) if node.row.pid.get() == number => Some(node),
+        _ => Some(&nodes[indexed_slot(nodes, slots, number)?]),
     }
 }
 

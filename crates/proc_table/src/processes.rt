@@ -10,7 +10,8 @@ ghost use Rattle.proc_table.specs.Kept.{InOwnBlock, put_process};
 
 use crate::ProcData;
 use crate::links::{
-    ListKind, ListLinks, RowNode, first_slot, known_slot, next_slot, slot_of, update_lists,
+    ListKind, ListLinks, RowNode, first_slot, known_slot, next_slot, node_named, slot_of,
+    update_lists,
 };
 use lwp_table::{Hints, NumberIndex};
 use pid_blocks::{Pid, Uid};
@@ -123,7 +124,8 @@ impl Processes {
     {
         self.nodes.reserve(count)?;
         self.slots.reserve(count)?;
-        self.hints.reserve(&self.slots, count)
+        let rows = self.nodes.len().saturating_add(count);
+        self.hints.reserve(&self.slots, rows)
     }
 
     /// Returns a reference to the row with this number, if any.
@@ -132,11 +134,11 @@ impl Processes {
     pub fn find(&self, number: u32) -> Option<&ProcData>
         ensures { option_copied result ≡ process_of number self.now.rows }
     {
-        let slot = slot_of(&self.nodes, &self.slots, &self.hints, number)?;
-        Some(&self.nodes[slot].row)
+        Some(&node_named(&self.nodes, &self.slots, &self.hints, number)?.row)
     }
 
     /// Returns the row with this number, if any.
+    #[inline(always)]
     pub fn get(&self, number: u32) -> Option<ProcData>
         ensures { result ≡ process_of number self.now.rows }
     {
@@ -267,6 +269,7 @@ impl Processes {
     }
 
     /// Replaces the pending signals of the row with this number, in its place.
+    #[inline(always)]
     pub fn set_pending(&mut self, pid: Pid, pending: SigSet)
         requires there { list_any (λ p. p.pid == pid) self.old.rows ≡ true }
         ensures rows { (row : ProcData) → process_of pid self.old.rows ≡ Some row → self.new.rows ≡ map (put_process (record row { pending = pending })) self.old.rows }

@@ -1,6 +1,6 @@
 //! The tables of a host: its processes, its LWPs, and where the search for each user's next number begins.
 
-ghost use Rattle.std.specs.Prelude.{◌≡◌, ℕ, ◌+◌, ◌-◌, ◌*◌, ◌<◌, ◌≤◌, ◌^◌, ◌==◌, Bool, true, false, None, IsSome, IsSomeAnd, OnOk, IfOk, IfSome, count_by, ltb, filter, length, get_or, map, option_map, slice_get};
+ghost use Rattle.std.specs.Prelude.{◌≡◌, ℕ, ◌+◌, ◌-◌, ◌*◌, ◌<◌, ◌≤◌, ◌^◌, ◌==◌, Bool, true, false, None, IsSome, IsSomeAnd, OnOk, IfOk, IfSome, IfNone, count_by, ltb, filter, length, get_or, map, option_map, slice_get};
 ghost use Rattle.pid_blocks.specs.Users.{IsUser};
 ghost use Rattle.pid_blocks.specs.Blocks.{slot, users, pid_block, tid_block, first_free, next_free, InBlock};
 ghost use Rattle.lwp_table.specs.Lwps.{first_lwp, lwp_of, next_lwp, put_lwp, ComputesRows};
@@ -9,7 +9,8 @@ ghost use Rattle.proc_table.specs.Processes.{process_of};
 ghost use Rattle.proc_table.specs.Rows.{change_process};
 ghost use Rattle.proc_table.specs.Seen.{visible_process, seen_lwp, find_seen, owns};
 ghost use Rattle.std.specs.Fn.{FnReturnsAt};
-ghost use Rattle.proc_table.specs.Walks.{next_of, next_tracee, next_child, find_tracee, find_child, DecidesRows};
+ghost use Rattle.proc_table.specs.Members.{member};
+ghost use Rattle.proc_table.specs.Walks.{next_of, next_news, next_tracee, next_child, find_tracee, find_child, DecidesRows};
 ghost use Rattle.proc_table.specs.Fresh.{no_rows, fresh_pid, fresh_tid, add_process, add_lwp, process_count, lwp_count_of, lwp_count, is_process, is_lwp};
 ghost use Rattle.proc_table.specs.Edits.{map_lwps, IsLwpChange};
 ghost use Rattle.proc_table.specs.Kept.{TableInvariant, IsRow, InOwnBlock, Named, put_process, set_process, set_lwp, drop_process, drop_lwp};
@@ -31,6 +32,8 @@ pub struct Tables {
     processes: Processes,
     /// The numbers of the processes, counted from the first one of all users.
     pids: NumberSet,
+    /// The numbers of those that a wait may report.
+    news: NumberSet,
     lwps: LwpTable,
     pid_cursors: [u32; 64],
     tid_cursors: [u32; 64],
@@ -45,11 +48,11 @@ impl Model for Tables {
 
     ghost view = { λ t. record {
       rows = record { processes = t.processes.rows; lwps = t.lwps.rows; pid_cursors = t.pid_cursors; tid_cursors = t.tid_cursors };
-      spare_processes = min t.processes.spare t.pids.spare;
+      spare_processes = min t.processes.spare (min t.pids.spare t.news.spare);
       spare_lwps = t.lwps.spare;
     } };
 
-    ghost invariant = { λ t. IsIndexed t.pids.pages (record { processes = t.processes.rows; lwps = t.lwps.rows; pid_cursors = t.pid_cursors; tid_cursors = t.tid_cursors }) };
+    ghost invariant = { λ t. IsIndexed t.pids.pages t.news.pages (record { processes = t.processes.rows; lwps = t.lwps.rows; pid_cursors = t.pid_cursors; tid_cursors = t.tid_cursors }) };
 }
 
 impl Clone for Tables {
@@ -61,6 +64,7 @@ impl Clone for Tables {
         Ok(Tables {
             processes: self.processes.clone()?,
             pids: self.pids.clone()?,
+            news: self.news.clone()?,
             lwps: self.lwps.clone()?,
             pid_cursors: self.pid_cursors,
             tid_cursors: self.tid_cursors,
@@ -90,6 +94,7 @@ impl Tables {
         Ok(Tables {
             processes: Processes::new(alloc)?,
             pids: NumberSet::new(alloc),
+            news: NumberSet::new(alloc),
             lwps: LwpTable::new(alloc)?,
             pid_cursors: cursors(FIRST_PID, PIDS),
             tid_cursors: cursors(FIRST_TID, TIDS),
@@ -104,7 +109,8 @@ impl Tables {
         ensures others { self.new.spare_lwps ≡ self.old.spare_lwps }
     {
         self.processes.reserve(count)?;
-        self.pids.reserve(count)
+        self.pids.reserve(count)?;
+        self.news.reserve(count)
     }
 
     /// Makes room for `count` more LWPs. Fails when out of memory. The rows stay unchanged.
@@ -125,6 +131,7 @@ impl Tables {
     }
 
     /// Returns the process with this number, if any.
+    #[inline(always)]
     pub fn process(&self, pid: Pid) -> Option<ProcData>
         ensures row { result ≡ process_of pid self.now.rows.processes }
         ensures kept { TableInvariant self.now.rows }
@@ -133,6 +140,7 @@ impl Tables {
     }
 
     /// Returns the process with this number, if any.
+    #[inline(always)]
     pub fn process_by_number(&self, number: u32) -> Option<ProcData>
         ensures row { result ≡ process_of number self.now.rows.processes }
         ensures kept { TableInvariant self.now.rows }
@@ -244,17 +252,35 @@ impl Tables {
         }
     }
 
+    /// Returns the place of the user's first number above `after` in a set, if any.
+    fn next_in(set: &NumberSet, uid: Uid, after: u32) -> Option<u32>
+        ensures some { IfSome result (λ k. (after < k + 1000) × InBlock (pid_block uid) (k + 1000) × (member set.now.pages k ≡ true)
+            × ((n : ℕ) → after < n + 1000 → InBlock (pid_block uid) (n + 1000) → n < k → member set.now.pages n ≡ false)) }
+        ensures none { IfNone result ((n : ℕ) → after < n + 1000 → InBlock (pid_block uid) (n + 1000) → member set.now.pages n ≡ false) }
+        ensures user { IsUser uid }
+    {
+        let block = pid_block(uid);
+        let first = after.saturating_add(1).max(block.first) - FIRST_PID;
+        set.next(true, first, block.first + block.size - FIRST_PID)
+    }
+
     /// Returns the number of the user's first process above a number, if any. It looks at no row.
+    #[inline(always)]
     pub fn next_pid(&self, uid: Uid, after: u32) -> Option<Pid>
         ensures next { result ≡ option_map (λ p. p.pid) (next_of uid after self.now.rows.processes) }
         ensures kept { TableInvariant self.now.rows }
     {
-        let block = pid_block(uid);
-        let first = after.saturating_add(1).max(block.first) - FIRST_PID;
-        let place = self
-            .pids
-            .next(true, first, block.first + block.size - FIRST_PID)?;
+        let place = Tables::next_in(&self.pids, uid, after)?;
         Pid::new(FIRST_PID + place)
+    }
+
+    /// Returns the user's first process above a number that a wait may report, if any. It looks at no other row.
+    pub fn next_news(&self, uid: Uid, after: u32) -> Option<ProcData>
+        ensures row { result ≡ next_news uid after self.now.rows.processes }
+        ensures kept { TableInvariant self.now.rows }
+    {
+        let place = Tables::next_in(&self.news, uid, after)?;
+        self.process_by_number(FIRST_PID + place)
     }
 
     /// Returns the user's first process above a number, if any.
@@ -413,7 +439,11 @@ impl Tables {
     {
         let slot = row.uid.slot();
         self.pid_cursors[slot] = cursor_after(pid_block(row.uid), row.pid.get());
-        self.pids.insert(row.pid.get() - FIRST_PID);
+        let place = row.pid.get() - FIRST_PID;
+        self.pids.begin_page(place);
+        self.pids.put(place, true);
+        self.news.begin_page(place);
+        self.news.put(place, row.has_news());
         self.processes.add(row);
     }
 
@@ -433,7 +463,7 @@ impl Tables {
     }
 
     /// Replaces the row with the same number, which is of the same user.
-    #[tactic(auto, using(crate::proofs::KeepsProcesses::keeps_set_process, crate::proofs::Indexed::numbers_set, crate::proofs::Tied::named_list_owners))]
+    #[tactic(auto, using(crate::proofs::Tied::named_list_owners))]
     pub fn set_process(&mut self, row: ProcData)
         requires there { IsSomeAnd (process_of row.pid self.old.rows.processes) (λ was. was.uid ≡ row.uid) }
         requires named { Named self.old.rows row }
@@ -441,10 +471,12 @@ impl Tables {
         ensures spare { self.new.spare_processes ≡ self.old.spare_processes }
         ensures others { self.new.spare_lwps ≡ self.old.spare_lwps }
     {
+        self.news.put(row.pid.get() - FIRST_PID, row.has_news());
         self.processes.set(row);
     }
 
     /// Replaces the pending signals of a process, in its place.
+    #[inline(always)]
     pub fn set_pending(&mut self, pid: Pid, pending: SigSet)
         requires there { IsRow self.old.rows pid }
         ensures rows { self.new.rows ≡ change_process pid (λ p. record p { pending = pending }) self.old.rows }
@@ -465,21 +497,10 @@ impl Tables {
         self.lwps.set(row);
     }
 
-    /// Changes each LWP of a process in its place. An LWP keeps its number and its process. It takes one look at each.
-    pub fn edit_lwps<F: Fn(&LwpData) -> LwpData>(&mut self, pid: Pid, edit: F)
-        requires callable { F.IsAlwaysCallable edit }
-        requires change { (change : LwpData → LwpData) × IsLwpChange (FnReturnsAt F.Fn edit) self.old.rows.lwps change }
-        // the rows by the definition, for any change that the closure computes on the rows
-        ensures rows { (change : LwpData → LwpData) → ComputesRows (FnReturnsAt F.Fn edit) self.old.rows.lwps change → self.new.rows ≡ map_lwps pid change self.old.rows }
-        ensures spare { self.new.spare_lwps ≡ self.old.spare_lwps }
-        ensures others { self.new.spare_processes ≡ self.old.spare_processes }
-    {
-        self.lwps.edit_of(pid, edit);
-    }
-
     /// Changes each LWP of a process in its place, by a change that leaves LWPs without the touched traits as they are.
     /// An LWP keeps its number and its process. It looks at no LWP if none may have such a trait, and only at one if no
     /// other may.
+    #[inline(always)]
     pub fn edit_touched_lwps<F: Fn(&LwpData) -> LwpData>(
         &mut self,
         pid: Pid,
@@ -506,7 +527,8 @@ impl Tables {
         ensures spare { self.old.spare_processes ≤ self.new.spare_processes }
         ensures others { self.new.spare_lwps ≡ self.old.spare_lwps }
     {
-        self.pids.remove(pid.get() - FIRST_PID);
+        self.pids.put(pid.get() - FIRST_PID, false);
+        self.news.put(pid.get() - FIRST_PID, false);
         self.processes.remove(pid);
     }
 

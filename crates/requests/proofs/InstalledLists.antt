@@ -1,4 +1,4 @@
--- The lists of installed policies, of which none are kept before the first policy.
+-- The lists of installed policies. None is kept before the first policy.
 use Rattle.requests.proofs.CommonNames.{◌≡◌, ◌<◌, ◌≤◌, ℕ, Bool, List, [], ◌∷◌, filter, get_or, set, length, users, refl, sym, ap, ◌∙◌, set-get_or, length-set}
 use Rattle.std.proofs.Common.{arith}
 use Rattle.std.proofs.Math.ListN.{get_or-map}
@@ -19,7 +19,7 @@ there (l ∷ ls) some = refl
 pub put : (ls : List (List Installed)) (k : ℕ) (l : List Installed) → k < length ls → lists_of (set ls k l) ≡ set (lists_of ls) k l
 put ls k l within = there (set ls k l) (omega (arith, within, length-set ls k l)) ∙ ap (λ kept. set kept k l) (sym (there ls (omega (arith, within))))
 
--- of a user without a list none is dropped
+-- a user without a list loses no policy
 pub none_dropped : (ls : List (List Installed)) (k : ℕ) (p : Installed → Bool) → length ls ≤ k
     → set (lists_of ls) k (filter p (get_or (lists_of ls) k [])) ≡ lists_of ls
 none_dropped ls k p past =

@@ -123,6 +123,20 @@ module _ (settings : Settings) (s u caller : ℕ) where
   pub next_smaller : (n : ℕ) (ps : List ProcData) (at : Option ℕ) → n < 65000 → at ≡ next n ps → left at < left (Some n)
   next_smaller n ps at below is = grind (arith, nat_tests, next_over (is_other u caller) n ps, is, below)
 
+  -- signal 0 is posted to no process
+  module _ (none : (s == 0) ≡ true) where
+    unposted : (o : Option ProcData) (rows : Rows) → post_if_live settings s o rows ≡ rows
+    unposted None rows = refl
+    unposted (Some p) rows = grind (arith, nat_tests, none)
+
+    all_unposted : (ps : List ProcData) (rows : Rows) → post_all settings s ps rows ≡ rows
+    all_unposted [] rows = refl
+    all_unposted (p ∷ ps) rows = ap (post_all settings s ps) (unposted (process_of p.pid rows.processes) rows) ∙ all_unposted ps rows
+
+    pub rest_unposted : (at : Option ℕ) (rows : Rows) → post_rest settings s u caller at rows ≡ rows
+    rest_unposted None rows = refl
+    rest_unposted (Some n) rows = ap (post_all settings s (above (is_other u caller) n rows.processes)) (unposted (process_of n rows.processes) rows) ∙ all_unposted (above (is_other u caller) n rows.processes) rows
+
 -- A process by its number
 
 module _ (u n : ℕ) where

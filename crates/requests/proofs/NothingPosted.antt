@@ -1,6 +1,6 @@
--- A post that leaves all rows as they are: of a signal that is pending already or discarded, and that takes none away.
-use Rattle.requests.proofs.CommonNames.{◌≡◌, ℕ, true, false, ◌==◌, if◌then◌else◌, nat_tests, arith, refl, sym, ap, ◌∙◌, subst, rules, cases_Bool, eqb-true, All-imply, own_rows, List, [], Option, Some, None, ProcData, Rows, Settings, process_of, post}
-use Rattle.trace_rows.proofs.CommonNames.{LwpData, IsSound, FitLwp, WithOwner, SIGKILL, without, bit_and, bit, change, is_numbered, continues, notified, notifies, posted_lwp, posted_process, posted_set, unwanted, is_some, inl, inr}
+-- A post that leaves all rows: its signal is pending or discarded, and takes no opposed signal away.
+use Rattle.requests.proofs.CommonNames.{◌≡◌, ℕ, true, false, ◌==◌, if◌then◌else◌, arith, refl, sym, ap, ◌∙◌, subst, cases_Bool, eqb-true, All-imply, own_rows, Option, Some, None, ProcData, Rows, Settings, process_of, post}
+use Rattle.trace_rows.proofs.CommonNames.{LwpData, IsSound, FitLwp, WithOwner, SIGKILL, without, bit_and, change, is_numbered, continues, posted_lwp, posted_process, posted_set, unwanted, inl, inr}
 use Rattle.trace_rows.specs.CommonNames.{opposed, SIGCONT}
 use Rattle.trace_rows.proofs.CommonLemmas.{edit_none, lwps_left}
 use Rattle.trace_rows.proofs.Notified.{notified-none}
@@ -15,7 +15,7 @@ use Rattle.std.proofs.lemmas.Option.{same_Some}
 apart_whole : (a b : ℕ) → bit_and a b ≡ 0 → without a b ≡ a
 apart_whole a b none = same_from_bits _ _ (λ i. let is = ap (λ x. bit_at x i) none in simp (bit_at_or, bit_at_xor) (omega (arith, simp (bit_at_and, bit_at-zero) at is, bit_at-lt a i, bit_at-lt b i)))
 
--- an LWP's pending signals are none that its process discards
+-- no pending signal of an LWP is one that its process discards
 kept_pending : (q : ProcData) (l : LwpData) → FitLwp q l → without l.pending (unwanted q) ≡ l.pending
 kept_pending q l fit = by q.tracer refl
   where

@@ -1,16 +1,19 @@
--- What the work of a step leaves, kind by kind: a refused call changes nothing, none is out of memory, and each live process
--- stays live, unless the answer is one that may end a process.
+-- What the work of a step leaves, kind by kind: a refused call changes nothing, none is out of memory, and each live
+-- process stays live, unless the answer is one that may end a process.
 use Rattle.requests.proofs.CommonNames.{◌≡◌, ℕ, ℤ, Bool, true, false, ◌==◌, not, ◌&&◌, ◌||◌, leb, if◌then◌else◌, List, [], ◌∷◌, filter, filter_map, Option, Some, None, is_some, refl, sym, ◌∙◌}
 use Rattle.requests.proofs.CommonNames.{true≢false, rules, arith, nat_tests, cases_Bool, list_any, SIGCHLD, Call, Action, Disposition, is_signal, has, LwpData, Due, Mode, User, InCall, VforkWait}
 use Rattle.requests.proofs.CommonNames.{born, ProcData, Trace, Job, is_live, is_run, placed, spawned, process_of, Rows, seen_lwp, Settings, StopInfo, Rule, Options, Collected, posted_process}
 use Rattle.requests.proofs.CommonNames.{settled_process, notifies, posted, stop, tracers, tracer_of, reported, without_report, add_lwp, add_process, is_numbered, Request, Act, Reply, Outcome}
 use Rattle.requests.proofs.CommonNames.{PlainStep, Step, Machine, After, after, answers, refuses, stops_or, stops_with, Numbers, room_for_process, in_mode, exit_stop, with_child, forked, exec_rows}
 use Rattle.requests.proofs.CommonNames.{forks, leaves, waits, due_stop, next_signal, without_signal, takes_by_default, takes, acts, signal_or_act, due_or_more, turn_by, turn_seen, turn, commands}
-use Rattle.requests.proofs.CommonNames.{is_attach, about, target_of, is_trace_me, ptrace, is_which, reach, reached, post_all, post_if_live, kill, spawn_with, sigaction, wait, handles, asks}
+use Rattle.requests.proofs.CommonNames.{is_attach, about, target_of, ptrace, is_which, reach, reached, post_all, post_if_live, kill, spawn_with, sigaction, wait, handles, asks}
 use Rattle.requests.proofs.CommonNames.{PTRACE_FORK, EAGAIN, EINVAL, ESRCH, All-any, and_right, option_map, after_exec, set_disposition, without, bit, plain, trap, PL_FLAG_EXITED, SIGTRAP}
 use Rattle.requests.proofs.CommonNames.{entry_flags, child_stop, change_lwp, is_refusal, is_memory, told, handled_by, no_options, rows_after, collect, negsuc, sound, install, installed_by, length, ap}
 use Rattle.requests.proofs.CommonNames.{may_end, any_forward, or_true, list_any-append}
 use Rattle.wait4.specs.Collect.{collected}
+use Rattle.trace_rows.specs.{Stop.ends_process, Stop.resume, Stop.detach, Detach.running, Detach.untraced, declared.Resumption.Resumption, declared.Stepping.Stepping}
+use Rattle.requests.specs.Ptrace.{attach, bad_argument, closes_chain, commands_stopped, does, shows_info, stop_first, switched, trace_me, traced_by}
+use Rattle.requests.proofs.CommonNames.{PTRACE_SCE, PTRACE_SCX, PTRACE_LWP, SIGSTOP, first_lwp, info, mask_with, no_events, change_process, reported_stop, traces}
 use Rattle.step_types.specs.Replies.{is_listing}
 use Rattle.requests.proofs.SoundWithoutEnded.{answers_same}
 use Rattle.requests.proofs.SoundAfterCall.{choose}
@@ -152,13 +155,77 @@ turn_fair settings u tid a rows =
 
 -- The requests of a debugger
 
-commands_fair : (settings : Settings) (caller : ProcData) (r : Request) (target arg : ℕ) (p : ProcData) (rows : Rows) → Fair (may_end (Step.Ptrace caller.pid r target arg)) rows (commands settings caller r target arg p rows)
-commands_fair settings caller r target arg p rows = grind (arith, nat_tests, choose, left, by_option, excepted)
+-- no signal ends a process that is resumed without one
+no_end : (s : ℕ) → s ≡ 0 → (o : Option ProcData) → ends_process s o ≡ false
+no_end s zero None = refl
+no_end s zero (Some p) = rw zero refl
+
+live_resumed : (settings : Settings) (how : Resumption) (pid : ℕ) (rows : Rows) → how.pass ≡ 0 → Lives rows.processes (resume settings how pid rows).processes
+live_resumed settings how pid rows zero = rw (no_end how.pass zero (process_of pid rows.processes)) (live_some (is_numbered pid) (running how.adds) (λ q. refl) (λ q live. refl) rows.processes)
+
+live_detached : (settings : Settings) (pid s : ℕ) (rows : Rows) → s ≡ 0 → Lives rows.processes (detach settings pid s rows).processes
+live_detached settings pid s rows zero = rw (no_end s zero (process_of pid rows.processes)) (live_some (is_numbered pid) (untraced 0) (λ q. refl) (λ q live. refl) rows.processes)
+
+-- an outcome that may end a process unless the argument is 0
+by_signal : (but : Reply → Bool) (rows now : Rows) (arg : ℕ) → but Reply.Done ≡ not (arg == 0) → (arg ≡ 0 → Lives rows.processes now.processes) → Fair but rows (answers Reply.Done now)
+by_signal but rows now arg is kept = grind (arith, nat_tests, cases_Bool (arg == 0), done but rows now Reply.Done, excepted but rows now Reply.Done, is, kept)
+
+-- requests that change some processes, and keep each live one
+changed : (but : Reply → Bool) (rows : Rows) (pid : ℕ) (f : ProcData → ProcData) → ((q : ProcData) → (f q).pid ≡ q.pid) → ((q : ProcData) → is_live q ≡ true → is_live (f q) ≡ true) → Fair but rows (answers Reply.Done (change_process pid f rows))
+changed but rows pid f same stays = done but rows _ Reply.Done refl refl (live_some (is_numbered pid) f same stays rows.processes)
+
+does_fair : (settings : Settings) (c t : ℕ) (r : Request) (arg tid : ℕ) (p : ProcData) (rows : Rows) → Fair (may_end (Step.Ptrace c r t arg)) rows (does settings r arg tid p rows)
+does_fair settings c t Request.TraceMe arg tid p rows = left _ rows _ refl
+does_fair settings c t Request.Attach arg tid p rows = left _ rows _ refl
+does_fair settings c t Request.Continue arg tid p rows = by_signal _ rows _ arg refl (live_resumed settings (record { adds = no_events; stepping = Stepping.Nobody; pass = arg }) p.pid rows)
+does_fair settings c t Request.Step arg tid p rows = by_signal _ rows _ arg refl (live_resumed settings (record { adds = no_events; stepping = Stepping.Only tid; pass = arg }) p.pid rows)
+does_fair settings c t Request.Suspend arg tid p rows = done _ rows _ Reply.Done refl refl (all_live rows.processes)
+does_fair settings c t Request.Resume arg tid p rows = done _ rows _ Reply.Done refl refl (all_live rows.processes)
+does_fair settings c t Request.Detach arg tid p rows = by_signal _ rows _ arg refl (live_detached settings p.pid arg rows)
+does_fair settings c t Request.Kill arg tid p rows = excepted _ rows _ Reply.Done refl refl refl
+does_fair settings c t Request.SetEventMask arg tid p rows = changed _ rows p.pid (λ q. record q { mask = record { 0 = arg } }) (λ q. refl) (λ q live. live)
+does_fair settings c t Request.GetEventMask arg tid p rows = left _ rows _ refl
+does_fair settings c t Request.LwpInfo arg tid p rows = by_option (info p tid rows) (λ o. Fair (may_end (Step.Ptrace c Request.LwpInfo t arg)) rows (shows_info o rows)) (left _ rows _ refl) (λ i. left _ rows _ refl)
+does_fair settings c t Request.GetNumLwps arg tid p rows = left _ rows _ refl
+does_fair settings c t Request.GetLwpList arg tid p rows = left _ rows _ refl
+does_fair settings c t Request.ToSce arg tid p rows = by_signal _ rows _ arg refl (live_resumed settings (record { adds = PTRACE_SCE; stepping = Stepping.Nobody; pass = arg }) p.pid rows)
+does_fair settings c t Request.ToScx arg tid p rows = by_signal _ rows _ arg refl (live_resumed settings (record { adds = PTRACE_SCX; stepping = Stepping.Nobody; pass = arg }) p.pid rows)
+does_fair settings c t Request.Syscall arg tid p rows = by_signal _ rows _ arg refl (live_resumed settings (record { adds = mask_with PTRACE_SCE PTRACE_SCX; stepping = Stepping.Nobody; pass = arg }) p.pid rows)
+does_fair settings c t Request.FollowFork arg tid p rows = changed _ rows p.pid (λ q. record q { mask = switched PTRACE_FORK arg q.mask }) (λ q. refl) (λ q live. live)
+does_fair settings c t Request.LwpEvents arg tid p rows = changed _ rows p.pid (λ q. record q { mask = switched PTRACE_LWP arg q.mask }) (λ q. refl) (λ q live. live)
+
+module _ (settings : Settings) (caller : ProcData) (target arg : ℕ) (rows : Rows) where
+  abbrev FairRequest : Request → Outcome → Type 0
+  FairRequest r o = Fair (may_end (Step.Ptrace caller.pid r target arg)) rows o
+
+  trace_me_fair : FairRequest Request.TraceMe (trace_me caller rows)
+  trace_me_fair = choose (is_some caller.tracer) _ _ (FairRequest Request.TraceMe) (left _ rows _ refl) (choose (caller.parent == 1) _ _ (FairRequest Request.TraceMe) (left _ rows _ refl)
+      (choose (closes_chain caller.pid caller.parent rows) _ _ (FairRequest Request.TraceMe) (left _ rows _ refl) (changed _ rows caller.pid (traced_by caller.parent) (λ q. refl) (λ q live. live))))
+
+  stopped_first : (pid tracer : ℕ) (o : Option LwpData) → Lives rows.processes (stop_first pid o (change_process pid (traced_by tracer) rows)).processes
+  stopped_first pid tracer None = live_some (is_numbered pid) (traced_by tracer) (λ q. refl) (λ q live. live) rows.processes
+  stopped_first pid tracer (Some l) = live_then (live_some (is_numbered pid) (traced_by tracer) (λ q. refl) (λ q live. live) rows.processes) (live_stop pid l.tid (plain SIGSTOP) (change_process pid (traced_by tracer) rows))
+
+  attach_fair : (p : ProcData) → FairRequest Request.Attach (attach caller p rows)
+  attach_fair p = choose (p.pid == caller.pid) _ _ (FairRequest Request.Attach) (left _ rows _ refl) (choose (is_some p.tracer) _ _ (FairRequest Request.Attach) (left _ rows _ refl)
+      (choose (closes_chain p.pid caller.pid rows) _ _ (FairRequest Request.Attach) (left _ rows _ refl) (done _ rows _ Reply.Done refl refl (stopped_first p.pid caller.pid (first_lwp p.pid rows.lwps)))))
+
+  commands_fair : (r : Request) (p : ProcData) → FairRequest r (commands settings caller r target arg p rows)
+  commands_fair r p = choose (not (is_some p.tracer)) _ _ (FairRequest r) (left _ rows _ refl) (choose (not (traces caller.pid p)) _ _ (FairRequest r) (left _ rows _ refl)
+      (by_option (reported_stop p.state) (λ o. FairRequest r (commands_stopped settings r target arg p rows o)) (left _ rows _ refl)
+      (λ tid. choose (bad_argument r arg) _ _ (FairRequest r) (left _ rows _ refl) (does_fair settings caller.pid target r arg _ p rows))))
+
+  about_live : (r : Request) (p : ProcData) → FairRequest r (if is_attach r then attach caller p rows else commands settings caller r target arg p rows)
+  about_live Request.Attach p = attach_fair p
+  about_live r p = commands_fair r p
+
+  by_request : (u : ℕ) (r : Request) → FairRequest r (ptrace settings u caller r target arg rows)
+  by_request u Request.TraceMe = trace_me_fair
+  by_request u r = by_option (target_of u target rows) (λ o. FairRequest r (about settings caller r target arg o rows)) (left _ rows _ refl)
+      (λ p. choose (not (is_live p)) _ _ (FairRequest r) (left _ rows _ refl) (about_live r p))
 
 pub ptrace_fair : (settings : Settings) (u : ℕ) (caller : ProcData) (r : Request) (target arg : ℕ) (rows : Rows) → Fair (may_end (Step.Ptrace caller.pid r target arg)) rows (ptrace settings u caller r target arg rows)
-ptrace_fair settings u caller r target arg rows = choose (is_trace_me r) _ _ (Fair (may_end (Step.Ptrace caller.pid r target arg)) rows) (search (rules, choose, left, excepted))
-    (by_option (target_of u target rows) (λ o. Fair (may_end (Step.Ptrace caller.pid r target arg)) rows (about settings caller r target arg o rows)) (left _ rows (Reply.Errno ESRCH) refl) (λ p.
-    choose (not (is_live p)) _ _ (Fair (may_end (Step.Ptrace caller.pid r target arg)) rows) (left _ rows (Reply.Errno ESRCH) refl) (choose (is_attach r) _ _ (Fair (may_end (Step.Ptrace caller.pid r target arg)) rows) (search (rules, choose, left, excepted)) (commands_fair settings caller r target arg p rows))))
+ptrace_fair settings u caller r target arg rows = by_request settings caller target arg rows u r
 
 -- The other calls
 

@@ -3,17 +3,33 @@
 ghost use Rattle.std.specs.Prelude.{◌≡◌, [], set, get_or, filter, if◌then◌else◌};
 ghost use Rattle.pid_blocks.specs.Blocks.{slot};
 ghost use Rattle.trace_rows.specs.Sound.{is_live_at};
-ghost use Rattle.requests.specs.Ending.{may_end};
+ghost use Rattle.requests.specs.Ending.{may_end, passes_signal};
 ghost use Rattle.requests.specs.Memory.{attempted_reply};
 ghost use Rattle.step_types.specs.Plain.{bare};
 
 use crate::handlers::HandlerTable;
-use crate::{Reply, Step};
+use crate::{Reply, Request, Step};
 use pid_blocks::Uid;
 use proc_table::Tables;
 use signals::Signal;
 use std::alloc::AllocError;
 use stop_handlers::Decider;
+
+/// Returns whether a request passes a signal to its tracee, which may end it.
+fn passes_signal(request: Request, arg: u32) -> bool
+    ensures { result ≡ passes_signal request arg }
+{
+    match request {
+        Request::Kill => true,
+        Request::Continue
+        | Request::Step
+        | Request::Detach
+        | Request::ToSce
+        | Request::ToScx
+        | Request::Syscall => arg != 0,
+        _ => false,
+    }
+}
 
 /// Returns whether a step with this result may have ended a process.
 fn may_end<H>(step: &Step<H>, done: &Result<Reply, AllocError>) -> bool
@@ -22,7 +38,9 @@ fn may_end<H>(step: &Step<H>, done: &Result<Reply, AllocError>) -> bool
     match *step {
         Step::Kill { sig, .. } => sig == Signal::KILL.number(),
         Step::Handle { .. } => matches!(done, Ok(Reply::Handled { .. })),
-        Step::Ptrace { .. } => matches!(done, Ok(Reply::Done)),
+        Step::Ptrace { request, arg, .. } => {
+            matches!(done, Ok(Reply::Done)) && passes_signal(request, arg)
+        }
         Step::Turn { .. } => matches!(done, Ok(Reply::Ended(_))),
         _ => false,
     }

@@ -6,6 +6,7 @@ ghost use Rattle.trace_rows.specs.Post.{posted_set};
 ghost use Rattle.proc_table.specs.Processes.{process_of, of_user};
 ghost use Rattle.proc_table.specs.Seen.{visible_process};
 ghost use Rattle.proc_table.specs.Kept.{TableInvariant};
+ghost use Rattle.proc_table.specs.Walks.{next_of};
 ghost use Rattle.trace_rows.specs.Facts.{IsSound};
 ghost use Rattle.requests.specs.Outcome.{Gives};
 ghost use Rattle.requests.specs.Kill.{reach, post_if_live, reached, kill, next_other};
@@ -15,7 +16,7 @@ use pid_blocks::{Errno, Pid, Uid};
 use proc_table::{ProcData, Tables};
 use signals::{Pass, SigSet, Signal};
 use trace_rows::Settings;
-use trace_stop::post;
+use trace_stop::post_process;
 
 /// Tests whether the post of the signal to the process leaves all rows as they are: the signal is pending already or is
 /// discarded, and takes no other one away.
@@ -33,6 +34,7 @@ fn posts_nothing(process: &ProcData, signal: Signal) -> bool
 }
 
 /// Posts the signal to the process with this number, if it exists and is live. Signal 0 is not posted.
+#[inline(always)]
 #[tactic(auto, using(crate::proofs::KillReaches::dead_posts))]
 fn post_if_live(tables: &mut Tables, settings: Settings, pid: Pid, pass: Pass)
     requires sound { IsSound tables.old.rows }
@@ -46,11 +48,20 @@ fn post_if_live(tables: &mut Tables, settings: Settings, pid: Pid, pass: Pass)
         return;
     };
     if process.is_live() && !posts_nothing(&process, signal) {
-        post(tables, settings, pid, signal);
+        post_process(tables, settings, &process, signal);
     }
 }
 
+/// Returns the number of the user's next process above the caller.
+#[inline(never)]
+fn next_above(tables: &Tables, user: Uid, caller: Pid) -> Option<Pid>
+    ensures { result ≡ option_map (λ p. p.pid) (next_of user caller tables.now.rows.processes) }
+{
+    tables.next_pid(user, caller.get())
+}
+
 /// Returns the number of the user's next process above `after` other than the caller.
+#[inline(always)]
 #[tactic(auto, using(std::proofs::lemmas::Bool::Decides::nat_tests, crate::proofs::NextOther::other_laws))]
 fn next_other(tables: &Tables, user: Uid, caller: Pid, after: u32) -> Option<Pid>
     ensures next { result ≡ option_map (λ p. p.pid) (next_other user caller after tables.now.rows.processes) }
@@ -60,7 +71,7 @@ fn next_other(tables: &Tables, user: Uid, caller: Pid, after: u32) -> Option<Pid
         return None;
     };
     if pid == caller {
-        return tables.next_pid(user, caller.get());
+        return next_above(tables, user, caller);
     }
     Some(pid)
 }
@@ -76,6 +87,9 @@ fn kill_others(tables: &mut Tables, settings: Settings, user: Uid, caller: Pid, 
     let mut at = next_other(tables, user, caller, 0);
     if at.is_none() {
         return Reply::Errno(Errno::ESRCH);
+    }
+    if pass.signal().is_none() {
+        return Reply::Done;
     }
     while let Some(pid) = at {
         post_if_live(tables, settings, pid, pass);

@@ -47,11 +47,11 @@ spares (Step Stepping.Nobody) alike l apart = stepped l apart
 spares (Step (Stepping.Only tid)) alike l apart = absurd (cc)
 spares (Detach lost unwanted) alike l apart = let_go l lost unwanted apart
 
--- the change of the others makes no difference between LWPs
+-- the change of the others is the same for all LWPs
 pub others_alike : (e : Edit) → only (of_others e) ≡ None
 others_alike e = grind (arith, nat_tests)
 
--- what a change keeps of LWPs, and that it is that of the others but for one
+-- a change keeps LWPs' numbers and processes, and is the others' change except at one LWP
 pub edited_tid : (e : Edit) (l : LwpData) → (edited e l).tid ≡ l.tid
 edited_tid e l = grind arith
 
@@ -70,7 +70,7 @@ as_others (Detach lost unwanted) tid is l off = refl
 cons_same : {x y : LwpData} {xs ys : List LwpData} → x ≡ y → xs ≡ ys → x ∷ xs ≡ y ∷ ys
 cons_same {x} {y} {xs} {ys} head tail = ap (λ z. z ∷ xs) head ∙ ap (λ zs. y ∷ zs) tail
 
--- LWPs that change alike but for one
+-- LWPs that change alike, except one
 module _ (pid tid : ℕ) (f g : LwpData → LwpData) (f_tid : (l : LwpData) → (f l).tid ≡ l.tid) (g_tid : (l : LwpData) → (g l).tid ≡ l.tid) (same : (l : LwpData) → nat_eq l.tid tid ≡ false → g l ≡ f l) where
   all_same : (xs : List LwpData) → LacksLwp tid xs → map (own_lwp pid g) xs ≡ map (own_lwp pid f) xs
   all_same [] lacks = refl

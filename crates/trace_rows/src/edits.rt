@@ -1,6 +1,6 @@
 //! Changes of all LWPs of one process.
 
-ghost use Rattle.std.specs.Prelude.{◌≡◌, None};
+ghost use Rattle.std.specs.Prelude.{◌≡◌, None, Some};
 ghost use Rattle.proc_table.specs.Edits.{map_lwps};
 ghost use Rattle.trace_rows.specs.Edits.{edited, only, of_others, touched};
 ghost use Rattle.trace_rows.specs.Post.{signal_put};
@@ -126,6 +126,7 @@ impl Edit {
 }
 
 /// Changes each LWP of a process, if the change makes no difference between them. Looks only at LWPs that it may touch.
+#[inline(always)]
 fn edit_alike(tables: &mut Tables, pid: Pid, edit: &Edit)
     requires { only edit.now ≡ None }
     ensures { tables.new.rows ≡ map_lwps pid (edited edit.now) tables.old.rows }
@@ -133,19 +134,28 @@ fn edit_alike(tables: &mut Tables, pid: Pid, edit: &Edit)
     tables.edit_touched_lwps(pid, &edit.touched(), |l| edit.of(l));
 }
 
-/// Changes each LWP of a process. Looks only at LWPs that the change may touch.
-pub fn edit_lwps(tables: &mut Tables, pid: Pid, edit: &Edit)
+/// Changes each LWP of a process, and the one with the number `tid` otherwise than the others.
+#[inline(never)]
+fn edit_apart(tables: &mut Tables, pid: Pid, tid: Tid, edit: &Edit)
+    requires { only edit.now ≡ Some tid }
     ensures { tables.new.rows ≡ map_lwps pid (edited edit.now) tables.old.rows }
 {
-    let Some(tid) = edit.only() else {
-        edit_alike(tables, pid, edit);
-        return;
-    };
     let found = tables.lwp(tid);
     edit_alike(tables, pid, &edit.of_others());
     if let Some(l) = found {
         if l.pid == pid {
             tables.set_lwp(edit.of(&l));
         }
+    }
+}
+
+/// Changes each LWP of a process. Looks only at LWPs that the change may touch.
+#[inline(always)]
+pub fn edit_lwps(tables: &mut Tables, pid: Pid, edit: &Edit)
+    ensures { tables.new.rows ≡ map_lwps pid (edited edit.now) tables.old.rows }
+{
+    match edit.only() {
+        Some(tid) => edit_apart(tables, pid, tid, edit),
+        None => edit_alike(tables, pid, edit),
     }
 }

@@ -66,28 +66,28 @@ fn posted_lwps(p: &ProcData, signal: Signal, to: &Option<Tid>) -> Edit
 
 /// Puts a signal into the pending set of a process or of an LWP of it. SIGCONT continues a process that job
 /// control has stopped. Then the result is the process's parent, which the caller notifies.
-#[tactic(auto, using(crate::proofs::Found::found_rows))]
-fn put(tables: &mut Tables, pid: Pid, signal: Signal, to: &Option<Tid>) -> Option<u32>
-    requires there { IsRow tables.old.rows pid }
-    ensures rows { tables.new.rows ≡ change (is_numbered pid) (posted_process signal to.now) (posted_lwp signal to.now) tables.old.rows }
-    ensures notifies { tracers result ≡ notifies signal (process_of pid tables.old.rows.processes) }
+#[tactic(auto, using(proc_table::proofs::Rows::found_row))]
+fn put(tables: &mut Tables, p: &ProcData, signal: Signal, to: &Option<Tid>) -> Option<u32>
+    requires { process_of p.now.pid tables.old.rows.processes ≡ Some p.now }
+    ensures rows { tables.new.rows ≡ change (is_numbered p.now.pid) (posted_process signal to.now) (posted_lwp signal to.now) tables.old.rows }
+    ensures notifies { tracers result ≡ notifies signal (process_of p.now.pid tables.old.rows.processes) }
 {
-    let p = tables.process(pid).unwrap();
-    let pending = posted_set(&p, signal, to);
-    let edit = posted_lwps(&p, signal, to);
-    let parent = if continues(signal, &p) {
+    tables.assert_invariant();
+    let pending = posted_set(p, signal, to);
+    let edit = posted_lwps(p, signal, to);
+    let parent = if continues(signal, p) {
         tables.set_process(ProcData {
             state: State::Run,
             continued: true,
             pending,
-            ..p
+            ..*p
         });
         Some(p.parent)
     } else {
-        tables.set_pending(pid, pending);
+        tables.set_pending(p.pid, pending);
         None
     };
-    edit_lwps(tables, pid, &edit);
+    edit_lwps(tables, p.pid, &edit);
     parent
 }
 
@@ -98,17 +98,19 @@ pub fn post_sigchld(tables: &mut Tables, number: u32)
     ensures sound { IsSound tables.old.rows → MayTell tables.old.rows number → IsSound tables.new.rows }
 {
     if let Some(p) = tables.process_by_number(number) {
-        let _ = put(tables, p.pid, Signal::CHLD, &None);
+        let _ = put(tables, &p, Signal::CHLD, &None);
     }
 }
 
-/// Posts a signal other than SIGKILL to a process, or to an LWP of it. Allocates nothing.
+/// Posts a signal other than SIGKILL to a process, or to an LWP of it. The caller has the process's row. Allocates
+/// nothing.
+#[inline(always)]
 #[tactic(auto, using(crate::proofs::Notified::tells_none))]
-pub fn post_other(tables: &mut Tables, pid: Pid, signal: Signal, to: &Option<Tid>)
-    requires { IsRow tables.old.rows pid }
-    ensures { tables.new.rows ≡ posted signal to.now pid tables.old.rows }
+pub fn post_other(tables: &mut Tables, p: &ProcData, signal: Signal, to: &Option<Tid>)
+    requires { process_of p.now.pid tables.old.rows.processes ≡ Some p.now }
+    ensures { tables.new.rows ≡ posted signal to.now p.now.pid tables.old.rows }
 {
-    if let Some(parent) = put(tables, pid, signal, to) {
+    if let Some(parent) = put(tables, p, signal, to) {
         post_sigchld(tables, parent);
     }
 }

@@ -41,7 +41,7 @@ fn waits_for(mode: Mode, pid: Pid) -> bool
     }
 }
 
-/// Returns an LWP of this process, whose wait for `child` is over if it had one.
+/// Returns an LWP of this process. If it waited for `child`, its wait is over.
 fn released(lwp: &LwpData, process: &ProcData, child: Pid) -> LwpData
     ensures { result ≡ released (λ n. n == child) process.now lwp.now }
 {
@@ -61,8 +61,8 @@ fn released(lwp: &LwpData, process: &ProcData, child: Pid) -> LwpData
 }
 
 /// Ends the waits of a process's LWPs for its child, as when the child ends or makes an exec. Each of these LWPs is
-/// in user mode again, and stops at its next turn if its tracer asks for it. Looks at no other
-/// LWP if only one may wait for a child. Allocates nothing.
+/// in user mode again, and stops at its next turn if its tracer asks for it. If only one LWP may wait for a child, it
+/// looks only at that one. Allocates nothing.
 pub fn release(tables: &mut Tables, process: &ProcData, child: Pid)
     ensures { tables.new.rows ≡ map_lwps process.now.pid (released (λ n. n == child) process.now) tables.old.rows }
 {

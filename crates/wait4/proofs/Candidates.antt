@@ -63,6 +63,11 @@ module _ (caller : ℕ) (which : ℤ) (fit : SFits w64 which) (rows : Rows) wher
       ≡ lesser (find (λ p. names_as Tracer caller p && reportable options caller p) rows.processes) (find (λ p. names_as Parent caller p && reportable options caller p) rows.processes)
   report-any options up is = rw (is_minus_one which fit is) (reported-any caller options rows up)
 
+  -- what is told the caller is told by a child of it
+  pub report-first : (options : Options) → of_z w64 which ≡ all_ones → reported caller which options rows ≡ find (reportable options caller) rows.processes
+  report-first options is = rw (is_minus_one which fit is)
+      (find-filter (λ p. is_child caller p && fits (negsuc zero) p) (reportable options caller) rows.processes ∙ same_find _ (reportable options caller) (λ p. grind arith) rows.processes)
+
   pub report-numbered : (options : Options) → Rise rows.processes → of_z w64 which ≢ all_ones
       → reported caller which options rows ≡ keep (λ p. is_child caller p && reportable options caller p) (numbered (to_z w64 (of_z w64 which)) rows.processes)
   report-numbered options up other = rw (to_z-of_z w64 which fit) (reported-numbered caller options rows up which (is_another which fit other))

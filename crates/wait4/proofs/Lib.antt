@@ -7,4 +7,5 @@ pub mod CollectRows
 pub mod Unnamed
 pub mod IsolationOfReports
 pub mod IsolationOfWaits
+pub mod News
 mod LemmaSets

@@ -1,7 +1,7 @@
 //! What wait4(2) answers about the caller's children, and the rows after it. A child of the caller is a
 //! process that it traces or is the parent of.
 
-ghost use Rattle.std.specs.Prelude.{◌≡◌, ℕ, ◌&&◌, ◌==◌, ltb, true, pos, [], ◌∷◌, Some, IfSome, find, is_some};
+ghost use Rattle.std.specs.Prelude.{◌≡◌, ℕ, ◌&&◌, ◌==◌, ltb, true, pos, [], ◌∷◌, Some, IfSome, find, is_some, IfOk};
 ghost use Rattle.std.specs.List.{list_any};
 ghost use Rattle.proc_table.specs.Processes.{process_of, traces};
 ghost use Rattle.proc_table.specs.Kept.{TableInvariant};
@@ -9,9 +9,12 @@ ghost use Rattle.trace_rows.specs.Facts.{IfEnded, IsSound};
 ghost use Rattle.wait4.specs.Collect.{is_child, is_own, fits, numbered, reportable, status_of, stays, names_as, lesser, reported, collect_one, collect, rows_after};
 
 use crate::{Collected, Options, Status};
-use pid_blocks::Pid;
+use pid_blocks::{Pid, owner_of_pid};
 use proc_table::{ProcData, State, Tables};
 use trace_rows::post_sigchld;
+
+/// How many processes with news a wait looks at before it goes through the caller's children.
+const MOST_LOOKS: u32 = 8;
 
 /// How a child names the caller.
 #[derive(Clone, Copy, Debug, PartialEq, Eq, Drop)]
@@ -85,6 +88,36 @@ fn first_report(
     }
 }
 
+/// The mark of a search that was given up.
+#[derive(Clone, Copy, Drop)]
+struct Undecided;
+
+/// Returns the process that is reported to a wait for any child, if few of the user's processes have news: looks at
+/// `MOST_LOOKS` of them.
+fn report_among_news(
+    tables: &Tables,
+    caller: Pid,
+    options: Options,
+) -> Result<Option<ProcData>, Undecided>
+    requires sound { IsSound tables.now.rows }
+    ensures row { IfOk result (λ p. p ≡ find (reportable options caller) tables.now.rows.processes) }
+{
+    let Some(user) = owner_of_pid(caller.get()) else {
+        return Err(Undecided);
+    };
+    let mut after = 0;
+    for _ in 0..MOST_LOOKS {
+        let Some(p) = tables.next_news(user, after) else {
+            return Ok(None);
+        };
+        if reportable(options, caller, &p) {
+            return Ok(Some(p));
+        }
+        after = p.pid.get();
+    }
+    Err(Undecided)
+}
+
 /// Returns the process with the lesser number if there are two, and else the one that there is, if any.
 fn lesser(a: Option<ProcData>, b: Option<ProcData>) -> Option<ProcData>
     ensures { result ≡ lesser a b }
@@ -113,10 +146,15 @@ fn find_by_number(tables: &Tables, which: i64) -> Option<ProcData>
 /// child with this number if it has.
 #[tactic(auto, using(crate::proofs::LemmaSets::of_report))]
 fn reported(tables: &Tables, caller: Pid, which: i64, options: Options) -> Option<ProcData>
+    requires sound { IsSound tables.now.rows }
     ensures row { result ≡ reported caller which options tables.now.rows }
     ensures kept { TableInvariant tables.now.rows }
 {
+    tables.assert_invariant();
     if which == -1 {
+        if let Ok(report) = report_among_news(tables, caller, options) {
+            return report;
+        }
         let tracee = first_report(tables, Relation::Tracer, caller, options);
         let child = first_report(tables, Relation::Parent, caller, options);
         return lesser(tracee, child);
@@ -184,9 +222,9 @@ fn collect_one(tables: &mut Tables, caller: Pid, p: &ProcData)
     }
 }
 
-/// Answers a process's wait4(2) for its child with the number `which`, or, if `which` is -1, for any of its
-/// children. No child has another negative number. Of several children with something to report, the one with the least number is reported.
-/// What is reported is collected. The call never blocks, as under WNOHANG.
+/// Answers a process's wait4(2) for its child with the number `which`, or, if `which` is -1, for any of its children.
+/// No child has another negative number. Of several children with something to report, the one with the least number
+/// is reported. What is reported is collected. The call never blocks, as under WNOHANG.
 pub fn collect(tables: &mut Tables, caller: Pid, which: i64, options: Options) -> Collected
     requires sound { IsSound tables.old.rows }
     ensures collected { result ≡ collect caller which options tables.old.rows }

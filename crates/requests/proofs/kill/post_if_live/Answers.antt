@@ -1,4 +1,5 @@
-use Rattle.requests.proofs.CommonNames.{◌≡◌, true, false, ◌==◌, Some, None, sym, ap, ◌∙◌, arith, nat_tests, process_of, post}
+use Rattle.requests.proofs.CommonNames.{◌≡◌, true, false, ◌==◌, Some, None, sym, ap, ◌∙◌, arith, nat_tests, process_of, process_of-pid, is_live_at, subst, post}
+use Rattle.trace_rows.proofs.Found.{own_row}
 use Rattle.signals.specs.Table.{SIGKILL, opposed}
 use Rattle.trace_rows.specs.Post.{posted_set}
 use Rattle.requests.proofs.SoundAfterCall.{live_found}
@@ -7,11 +8,15 @@ use Rattle.requests.proofs.NothingPosted.{nothing_posted}
 use Rattle.requests.proofs.kill.post_if_live.Goals.{else-is_live-via-then-is_live+else-not-posts_nothing, else-is_live-via-else-is_live}
 use Rattle.requests.proofs.kill.post_if_live.Goals as goal
 
-pub post-requires-clause-live : goal.post-requires-clause-live
-post-requires-clause-live c =
+pub post_process-requires-clause-live : goal.post_process-requires-clause-live
+post_process-requires-clause-live c =
     let rows = c.args.tables.now.rows in
     let at : process_of c.args.pid rows.processes ≡ Some c.in-Some-process.process = sym c.process.ensures.row ∙ c.in-Some-process.is in
-    live_found c.args.pid rows.processes c.in-Some-process.process c.requires.sound.stands.rising at ∙ (sym c.is_live.ensures ∙ c.if-is_live.true)
+    let live = live_found c.args.pid rows.processes c.in-Some-process.process c.requires.sound.stands.rising at ∙ (sym c.is_live.ensures ∙ c.if-is_live.true) in
+    subst (λ n. is_live_at n rows ≡ true) (sym (process_of-pid c.args.pid c.in-Some-process.process rows.processes at)) live
+
+pub post_process-requires-clause-at : goal.post_process-requires-clause-at
+post_process-requires-clause-at c = own_row c.args.pid c.in-Some-process.process c.args.tables.now.rows.processes (sym c.process.ensures.row ∙ c.in-Some-process.is)
 
 pub returns-then-not-posts_nothing-clause-rows : goal.returns-then-not-posts_nothing-clause-rows
 returns-then-not-posts_nothing-clause-rows c =
@@ -19,7 +24,8 @@ returns-then-not-posts_nothing-clause-rows c =
     let at : process_of c.args.pid rows.processes ≡ Some c.in-Some-process.process = sym c.process.ensures.row ∙ c.in-Some-process.is in
     let live = live_found c.args.pid rows.processes c.in-Some-process.process c.requires.sound.stands.rising at ∙ (sym c.is_live.ensures ∙ c.if-is_live.true) in
     let its = passes_signal c.args.pass c.in-Some.signal (sym c.signal.ensures ∙ c.in-Some.is) in
-    c.post.ensures.rows ∙ (ap (λ s. post c.args.settings s None c.args.pid rows) its.1 ∙ sym (live_posts c.args.settings c.args.pass c.args.pid rows c.requires.sound.stands.rising live its.0))
+    c.post_process.ensures.rows ∙ ap (λ n. post c.args.settings c.in-Some.signal None n rows) (process_of-pid c.args.pid c.in-Some-process.process rows.processes at)
+    ∙ (ap (λ s. post c.args.settings s None c.args.pid rows) its.1 ∙ sym (live_posts c.args.settings c.args.pass c.args.pid rows c.requires.sound.stands.rising live its.0))
 
 pub returns-else-is_live-clause-rows : goal.returns-else-is_live-clause-rows
 returns-else-is_live-clause-rows c =

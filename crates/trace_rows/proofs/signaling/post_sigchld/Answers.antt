@@ -1,12 +1,10 @@
-use Rattle.trace_rows.proofs.CommonNames.{◌≡◌, sym, ◌∙◌, [], ◌∷◌, notified, process_of-pid, found_row}
+use Rattle.trace_rows.proofs.CommonNames.{◌≡◌, sym, ◌∙◌, [], ◌∷◌, notified, process_of-pid}
 use Rattle.trace_rows.proofs.Notified.{notified-one}
 use Rattle.trace_rows.proofs.CommonLemmas.{own_row, notified_sound}
 use Rattle.trace_rows.proofs.signaling.post_sigchld.Goals as goal
 
 pub put-requires : goal.put-requires
-put-requires c =
-    let ps = c.args.tables.now.rows.processes in
-    record { there = found_row c.in-Some.p.pid c.in-Some.p ps (own_row c.args.number c.in-Some.p ps (cc)) }
+put-requires c = own_row c.args.number c.in-Some.p c.args.tables.now.rows.processes (cc)
 
 pub returns-in-Some : goal.returns-in-Some
 returns-in-Some c =

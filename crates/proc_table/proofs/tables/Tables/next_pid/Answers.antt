@@ -19,18 +19,16 @@ pub returns-clause-next : goal.returns-clause-next
 returns-clause-next c =
     let has = c.self.invariant in
     let ps = c.self.inside.processes.rows in
-    let first = ap (λ b. b.first) c.pid_block-block.ensures.block in
-    let size = ap (λ b. b.size) c.pid_block-block.ensures.block in
-    let user = c.pid_block-block.ensures.user in
+    let user = c.next_in.ensures.user in
     let found = c.in_ok-place.ensures.some in
     let number = 1000 + c.in_ok-place.place in
     let row = present c.self.inside.pids.pages ps has.numbers c.in_ok-place.place found.2 in
-    let above : c.args.after < number = omega (arith, found.0, first, user, c.max-first.ensures, c.saturating_add.ensures) in
-    let own : InBlock (pid_block c.args.uid) number = (omega (arith, found.0, first, user, c.max-first.ensures), omega (arith, found.1, first, size, user)) in
-    let taken : c.new.result ≡ Some number = known c.new.result _ number c.new.ensures (omega arith, omega (arith, own.1, size, user)) in
+    let above : c.args.after < number = omega (arith, found.0) in
+    let own : InBlock (pid_block c.args.uid) number = (omega (arith, found.1.0), omega (arith, found.1.1)) in
+    let taken : c.new.result ≡ Some number = known c.new.result _ number c.new.ensures (omega arith, omega (arith, own.1, user)) in
     taken ∙ ap Some (sym (process_of-pid number row.0 ps row.1))
     ∙ ap (option_map (λ (p : ProcData). p.pid)) (sym (next_of-found c.args.uid c.args.after ps has.kept.rising has.kept.in_own_blocks number row.0 row.1
     (uid-from_block c.args.uid number row.0 ps user has.kept.in_own_blocks row.1 own) above
     (λ k more its less. absent c.self.inside.pids.pages ps has.numbers k (omega (arith, its.0, user))
-    (found.3 (k - 1000) (omega (arith, more, its.0, first, user, c.max-first.ensures, c.saturating_add.ensures)) (omega (arith, less, its.0, user))))))
+    (found.3 (k - 1000) (omega (arith, more, its.0, user)) (omega (arith, its.0), omega (arith, its.0, its.1)) (omega (arith, less, its.0, user))))))
     ∙ ap (λ v. option_map (λ (p : ProcData). p.pid) (next_of c.args.uid c.args.after v.rows.processes)) c.self.view_is

@@ -3,7 +3,7 @@ use Rattle.proc_table.proofs.Rows.{process_of-pid, row_found}
 use Rattle.proc_table.proofs.Changes.{change_process-at}
 use Rattle.proc_table.proofs.Stays.{process_there, named-same}
 use Rattle.proc_table.proofs.KeepsProcesses.{keeps_set_process}
-use Rattle.proc_table.proofs.Indexed.{numbers_set}
+use Rattle.proc_table.proofs.Indexed.{numbers_set, news_same, pages-put}
 use Rattle.proc_table.proofs.tables.Tables.set_pending.Goals as goal
 
 -- a process's pending signals replaced
@@ -29,7 +29,14 @@ invariant_of-self c =
     let has = c.self.invariant in
     let there = subst (λ v. IsRow v.rows c.args.pid) (sym c.self.view_is) c.requires.there in
     let its = row _ has.kept c.args.pid there in
-    grind (arith, nat_tests, c.set_pending.ensures.rows its.0 its.1, stays _ has.kept c.args.pid there c.args.pending, numbers_set c.self.inside.pids.pages)
+    let ps = c.self.inside.processes.rows in
+    let row = with_pending _ has.kept c.args.pid there c.args.pending its.0 in
+    record {
+      kept = grind (arith, nat_tests, c.set_pending.ensures.rows its.0 its.1, stays _ has.kept c.args.pid there c.args.pending);
+      numbers = rw (c.set_pending.ensures.rows its.0 its.1) (numbers_set c.self.inside.pids.pages row ps has.numbers);
+      news = rw (c.set_pending.ensures.rows its.0 its.1) (news_same c.self.inside.news.pages ps has.news its.0 row (own _ has.kept c.args.pid there) refl refl);
+      begun = rw (c.set_pending.ensures.rows its.0 its.1) (pages-put c.self.inside.news.pages c.self.inside.news.pages ps has.begun (λ k was. was) row);
+    }
 
 pub returns-clause-rows : goal.returns-clause-rows
 returns-clause-rows c =
