@@ -50,7 +50,7 @@ unfoldable pub tracer_member : Option ℕ → List Member
 tracer_member None = []
 tracer_member (Some tracer) = (codes "tracer", natural tracer) ∷ []
 
--- the events, the signals that are pending, and what becomes of signals
+-- the event mask, the pending signals and the dispositions
 unfoldable pub signal_rest : ProcData → List Member
 signal_rest p =
     flags_member (codes "events") event_table p.mask.0 ++ (signals_member (codes "pending") p.pending
@@ -81,7 +81,7 @@ due_member due.Born = (codes "due", string (codes "born")) ∷ []
 due_member due.Begun = (codes "due", string (codes "begun")) ∷ []
 due_member due.VforkDone = (codes "due", string (codes "vfork_done")) ∷ []
 
--- what the last stop showed in addition to its signal
+-- what PT_LWPINFO shows of the last stop besides its signal
 unfoldable pub last_stop : LwpData → List Member
 last_stop l = flags_member (codes "flags") stop_table l.flags.0 ++ (nonzero_member (codes "child") l.child ++ nonzero_member (codes "code") l.code)
 

@@ -1,4 +1,4 @@
--- What the lexer passes over within a string.
+-- The lexemes within a string, which the lexer passes over.
 use Rattle.json_values.proofs.CommonNames.{nat_tests, ◌≡◌, ℕ, ◌+◌, ◌<◌, ◌≤◌, true, List, ◌∷◌, length, drop, get_or, sym, ap, ◌∙◌, arith, or_parts, not-true, drop_more, drop-drop, prefix_len}
 use Rattle.json_values.proofs.CommonNames.{between, in_string, is_plain, lex, refl}
 use Rattle.json_values.proofs.Texts.{plain_run, split_at, within_at}

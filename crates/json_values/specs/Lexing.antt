@@ -79,7 +79,7 @@ may_begin Fresh = true
 may_begin AfterComma = true
 may_begin place = false
 
--- the tokens if none of those fits that may come there
+-- the tokens if no allowed one comes there
 abbrev pub refused_at : Place → List Token
 refused_at Failed = []
 refused_at place = bad ∷ []

@@ -25,6 +25,12 @@ pub(crate) fn is_space(byte: u8) -> bool
     byte <= b' ' && matches!(byte, b' ' | b'\n' | b'\r' | b'\t')
 }
 
+/// Returns whether a byte is a digit or a minus.
+#[inline(always)]
+pub(crate) fn may_begin_number(byte: u8) -> bool {
+    byte.is_ascii_digit() || byte == b'-'
+}
+
 /// Returns whether a byte ends a number or a literal before it.
 #[inline(always)]
 pub(crate) fn is_delimiter(byte: u8) -> bool
@@ -36,9 +42,23 @@ pub(crate) fn is_delimiter(byte: u8) -> bool
     )
 }
 
-/// Returns where the spaces from a place on end.
+/// Returns the place behind the spaces at a place. Most tokens have no space behind them.
 #[inline(always)]
 pub(crate) fn spaces_end(bytes: &[u8], from: usize) -> usize
+    requires { from ≤ length bytes.now }
+    ensures same { lex between (drop result bytes.now) ≡ lex between (drop from bytes.now) }
+    ensures ends { is_blank (class (head (drop result bytes.now))) ≡ true → drop result bytes.now ≡ [] }
+    ensures bounds { (from ≤ result) × (result ≤ length bytes.now) }
+{
+    if from < bytes.len() && !is_space(bytes[from]) {
+        return from;
+    }
+    spaces_end_slowly(bytes, from)
+}
+
+/// Does what `spaces_end` does, a byte at a time.
+#[inline(never)]
+fn spaces_end_slowly(bytes: &[u8], from: usize) -> usize
     requires { from ≤ length bytes.now }
     ensures same { lex between (drop result bytes.now) ≡ lex between (drop from bytes.now) }
     ensures ends { is_blank (class (head (drop result bytes.now))) ≡ true → drop result bytes.now ≡ [] }

@@ -32,7 +32,7 @@ fn digit(byte: u8) -> u32
     }
 }
 
-/// Returns the code unit that the four hexadecimal digits at a place write.
+/// Reads four hexadecimal digits at a place as a code unit.
 fn code_unit(bytes: &[u8], at: usize) -> Option<u32>
     requires { at + 4 ≤ length bytes.now }
     ensures value { result ≡ code_unit (get_or bytes.now at 0) (get_or bytes.now (at + 1) 0) (get_or bytes.now (at + 2) 0) (get_or bytes.now (at + 3) 0) }
@@ -52,7 +52,7 @@ fn code_unit(bytes: &[u8], at: usize) -> Option<u32>
     }
 }
 
-/// Returns what a backslash and this byte stand for, except `\u`.
+/// Returns the character that a backslash with this byte means. `\u` is read elsewhere.
 #[tactic(auto, unfolding(json::specs::Text::short_escape))]
 fn short_escape(byte: u8) -> Option<u8>
     ensures value { result ≡ short_escape byte }
@@ -69,7 +69,7 @@ fn short_escape(byte: u8) -> Option<u8>
     }
 }
 
-/// Returns the character of a surrogate pair whose second half is at a place, and where that ends.
+/// Reads the second half of a surrogate pair at a place. Returns the pair's character, and the end of the half.
 fn low_surrogate(bytes: &[u8], at: usize, high: u32) -> Option<(char, usize)>
     requires { (at ≤ length bytes.now) × (0xd800 ≤ high) × (high < 0xdc00) }
     ensures value { Escape bytes.now (after_high high) at result }
@@ -86,7 +86,7 @@ fn low_surrogate(bytes: &[u8], at: usize, high: u32) -> Option<(char, usize)>
     Some((c, at + 6))
 }
 
-/// Returns the character of a `\u` whose digits are at a place, and where the escape ends.
+/// Reads the digits of a `\u` at a place. Returns its character, and the end of the escape.
 fn unicode_escape(bytes: &[u8], at: usize) -> Option<(char, usize)>
     requires { at ≤ length bytes.now }
     ensures value { Escape bytes.now after_u at result }
@@ -103,7 +103,7 @@ fn unicode_escape(bytes: &[u8], at: usize) -> Option<(char, usize)>
     Some((c, at + 4))
 }
 
-/// Returns the character of an escape whose backslash is before a place, and where the escape ends.
+/// Reads an escape after its backslash. Returns its character, and its end.
 fn escape(bytes: &[u8], at: usize) -> Option<(char, usize)>
     requires { at ≤ length bytes.now }
     ensures value { Escape bytes.now after_backslash at result }
@@ -119,8 +119,8 @@ fn escape(bytes: &[u8], at: usize) -> Option<(char, usize)>
     Some((c as char, at + 1))
 }
 
-/// Writes the text of the string that is open at `start` to the buffer. Returns how long it is, and where the string's
-/// closing quote is.
+/// Reads a string after its opening quote, at `start`, and writes its text to the buffer. Returns the text's length,
+/// and the place of the closing quote.
 #[inline(never)]
 pub(crate) fn unescape(text: &str, start: usize, out: &mut [u8]) -> Option<(usize, usize)>
     requires boundary { IsCharBoundary text.now start }

@@ -85,7 +85,7 @@ fn word<'a>(lexer: &mut Lexer<'a>, place: Place) -> (Token<'a>, Place)
     (token, after_value(lexer))
 }
 
-/// Takes what may come at the beginning of a value, except a string.
+/// Takes the first token of a value that isn't a string.
 #[inline(always)]
 #[tactic(auto, using(crate::proofs::Places::opens_array, crate::proofs::Places::opens_object, crate::proofs::Places::stray))]
 fn begin<'a>(lexer: &mut Lexer<'a>, place: Place) -> (Token<'a>, Place)
@@ -126,7 +126,7 @@ fn close<'a>(lexer: &mut Lexer<'a>, place: Place) -> (Token<'a>, Place)
     }
 }
 
-/// Returns the one bad token, and none after it.
+/// Returns the one bad token. No token comes after it.
 #[cold]
 fn refuse<'a>(place: Place) -> (Option<Token<'a>>, Place)
     ensures { Yields (refused_at place) result.0 [] × (result.1 ≡ Place.Failed) }

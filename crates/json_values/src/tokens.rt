@@ -9,6 +9,7 @@ ghost use Rattle.serde_json.specs.Find.{as_i64};
 ghost use Rattle.serde_json.specs.Read.{number_of};
 ghost use Rattle.json_values.specs.Lexing.{HasRoom};
 
+use crate::bytes::may_begin_number;
 use crate::lexer::Lexer;
 use crate::punctuation::{Place, after_value, read};
 use json::{Invalid, Token};
@@ -75,14 +76,14 @@ impl<'a> Tokens<'a> {
         token
     }
 
-    /// Takes the next token if it is a whole number of few digits, as nearly all numbers are. `None` leaves open what the
-    /// next token is.
+    /// Takes the next token if it is a whole number of few digits, as nearly all numbers are. `None` leaves open what
+    /// the next token is.
     #[inline(always)]
     #[tactic(auto, using(crate::proofs::Places::on_some, crate::proofs::Places::a_number))]
     pub fn next_integer(&mut self) -> Option<i64>
         ensures { MatchOption result (self.new ≡ self.old) (λ z. (s : List ℕ) × (self.old ≡ number s ∷ self.new) × (option_and_then as_i64 (number_of s) ≡ Some z)) }
     {
-        if !self.place.may_begin() {
+        if !self.place.may_begin() || !may_begin_number(self.lexer.peek()) {
             return None;
         }
         let integer = self.lexer.integer();

@@ -50,10 +50,10 @@ pub nothing_made : (u : ℕ) (o : Option PlainStep) (m n : Machine) → Makes u 
 nothing_made u o m n h = grind arith
 
 -- a step that was made with the handler that it was bound to
-pub made_bound : (u : ℕ) (bare_step : Step ⊤) (ps qs : List (List Rule)) (s : PlainStep) (o : Option PlainStep) (m n k : Machine) (r : Reply) → IsBound bare_step ps qs o → o ≡ Some s → n ≡ m → Steps u s n k r
+pub made_bound : (u : ℕ) (bare_step : Step ⊤) (ps qs : List (List Rule)) (s : PlainStep) (o : Option PlainStep) (m k : Machine) (r : Reply) → IsBound bare_step ps qs o → o ≡ Some s → Steps u s m k r
     → IsAnswered u bare_step ps qs m k (Some r)
-made_bound u bare_step ps qs s o m n k r bound is kept steps = (bound.0, subst (λ step. Makes u step m k (Some r)) (sym is ∙ bound.1) (subst (λ from. Steps u s from k r) kept steps))
+made_bound u bare_step ps qs s o m k r bound is steps = (bound.0, subst (λ step. Makes u step m k (Some r)) (sym is ∙ bound.1) steps)
 
 -- and one that found no handler
-pub none_bound : (u : ℕ) (bare_step : Step ⊤) (ps qs : List (List Rule)) (o : Option PlainStep) (m n : Machine) → IsBound bare_step ps qs o → o ≡ None → n ≡ m → IsAnswered u bare_step ps qs m n None
-none_bound u bare_step ps qs o m n bound is kept = (bound.0, subst (λ step. Makes u step m n None) (sym is ∙ bound.1) (refl, kept))
+pub none_bound : (u : ℕ) (bare_step : Step ⊤) (ps qs : List (List Rule)) (o : Option PlainStep) (m : Machine) → IsBound bare_step ps qs o → o ≡ None → IsAnswered u bare_step ps qs m m None
+none_bound u bare_step ps qs o m bound is = (bound.0, subst (λ step. Makes u step m m None) (sym is ∙ bound.1) (refl, refl))

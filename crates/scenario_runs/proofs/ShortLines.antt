@@ -1,4 +1,4 @@
--- Lines that were put together piece by piece: the words of handled stops and of LWPs' information.
+-- Lines made piece by piece: the words of handled stops and of LWPs' information.
 use Rattle.scenario_runs.proofs.CommonNames.{◌≡◌, ◌++◌, ◌∷◌, [], ℕ, List, refl, sym, ap, ◌∙◌, append_assoc}
 use Rattle.std.specs.{Prelude.{codes, decimal}, List.join_with_byte}
 use Rattle.signals.specs.Sets.{members}
@@ -11,7 +11,7 @@ abbrev pieces : List ℕ → List (List ℕ) → List ℕ
 pieces x [] = x
 pieces x (y ∷ ys) = x ++ pieces y ys
 
--- the same, and what ends them
+-- the same, and the end of the line
 abbrev ended : List ℕ → List (List ℕ) → List ℕ → List ℕ
 ended x [] n = x ++ n
 ended x (y ∷ ys) n = x ++ ended y ys n

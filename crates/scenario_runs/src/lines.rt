@@ -16,20 +16,26 @@ use requests::Reply;
 use scenario_text::USERS;
 use std::alloc::{AllocError, Global};
 
-/// Adds the line of a reply as text.
-fn push_text(text: &mut String, uid: Uid, number: u64, reply: &Reply) -> Result<(), AllocError>
+/// Adds the line of a reply as text. It is put together in `words`.
+fn push_text(
+    words: &mut ArrayString<ROOM>,
+    text: &mut String,
+    uid: Uid,
+    number: u64,
+    reply: &Reply,
+) -> Result<(), AllocError>
     ensures { OnOk result (string_bytes text.new
         ≡ string_bytes text.old ++ (line style.Text number (answered (uid, reply.now))).text) }
 {
     let mut digits = Buffer::new();
-    let mut line = ArrayString::<ROOM>::new();
-    line.push_str(digits.format(uid.get()));
-    line.push_str(" ");
-    line.push_str(digits.format(number));
-    if push_short(&mut line, reply) {
-        return text.push_str(line.as_str());
+    words.clear();
+    words.push_str(digits.format(uid.get()));
+    words.push_str(" ");
+    words.push_str(digits.format(number));
+    if push_short(words, reply) {
+        return text.push_str(words.as_str());
     }
-    text.push_str(line.as_str())?;
+    text.push_str(words.as_str())?;
     writeln!(text, " {reply}")?;
     Ok(())
 }
@@ -64,7 +70,35 @@ pub fn push_line(
         ≡ string_bytes text.old ++ (line style number (answered (uid, reply.now))).text) }
 {
     match style {
-        Style::Text => push_text(text, uid, number, reply),
+        Style::Text => push_text(&mut ArrayString::new(), text, uid, number, reply),
+        Style::Json => push_object(alloc, objects, text, uid, number, reply),
+    }
+}
+
+/// Adds the line of a reply, if the options show it. A line as text is put together in `words`, which a run keeps from
+/// line to line.
+pub(crate) fn push_shown_by(
+    alloc: Global,
+    options: &LineOptions,
+    words: &mut ArrayString<ROOM>,
+    objects: &mut ObjectWriter,
+    text: &mut String,
+    uid: Uid,
+    number: u64,
+    reply: &Reply,
+) -> Result<(), AllocError>
+    ensures { OnOk result (string_bytes text.new
+        ≡ string_bytes text.old ++ shown_line options.now.user (line options.now.style number (answered (uid, reply.now)))) }
+{
+    let is_shown = match options.user {
+        Some(user) => uid == user,
+        None => true,
+    };
+    if !is_shown {
+        return Ok(());
+    }
+    match options.style {
+        Style::Text => push_text(words, text, uid, number, reply),
         Style::Json => push_object(alloc, objects, text, uid, number, reply),
     }
 }
@@ -82,14 +116,10 @@ pub fn push_shown(
     ensures { OnOk result (string_bytes text.new
         ≡ string_bytes text.old ++ shown_line options.now.user (line options.now.style number (answered (uid, reply.now)))) }
 {
-    let is_shown = match options.user {
-        Some(user) => uid == user,
-        None => true,
-    };
-    if is_shown {
-        push_line(alloc, options.style, objects, text, uid, number, reply)?;
-    }
-    Ok(())
+    let mut words = ArrayString::new();
+    push_shown_by(
+        alloc, options, &mut words, objects, text, uid, number, reply,
+    )
 }
 
 /// Counts one more reply of the user, and returns the new count.

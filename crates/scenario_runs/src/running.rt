@@ -7,9 +7,10 @@ ghost use Rattle.scenario_runs.specs.declared.running.RunFault.TheVariants.{Mism
 ghost use Rattle.scenario_runs.specs.declared.style.Style.TheVariants as style;
 
 use crate::binding::{obey, step_with_handler};
-use crate::lines::{count_reply, push_shown};
+use crate::lines::{count_reply, push_shown_by};
 use crate::retrying::write_some;
 use crate::style::Style;
+use arrayvec::ArrayString;
 use pid_blocks::Uid;
 use reply_json::ObjectWriter;
 use requests::{Host, Reply};
@@ -64,6 +65,22 @@ impl<T: Drop> From<AllocFailed<T>> for RunFault {
     }
 }
 
+/// Makes the step on the host with the next handler if it is an install, and returns the reply. It is apart, so that
+/// other steps need no room for a handler.
+#[inline(never)]
+fn reply_with_handler<F: Decider + Send + Drop>(
+    alloc: Global,
+    host: &mut Host<F>,
+    user: Uid,
+    bare_step: &BareStep,
+    handlers: &mut IntoIter<Handler<F>>,
+) -> Option<Reply>
+    ensures { IsAnswered user bare_step.now (into_iter_items handlers.old) (into_iter_items handlers.new) host.old host.new result }
+{
+    let step = step_with_handler(bare_step, handlers)?;
+    Some(host.step(alloc, user, step))
+}
+
 /// Makes the step on the host, an install with the next handler, and returns the reply.
 #[tactic(auto, using(crate::proofs::BindLemmas::needs_none))]
 fn reply_of<F: Decider + Send + Drop>(
@@ -78,9 +95,11 @@ fn reply_of<F: Decider + Send + Drop>(
     if let Some(reply) = host.step_without_handler(alloc, user, bare_step) {
         return Some(reply);
     }
-    let step = step_with_handler(bare_step, handlers)?;
-    Some(host.step(alloc, user, step))
+    reply_with_handler(alloc, host, user, bare_step, handlers)
 }
+
+/// The bytes of a line, if it is one of the usual ones. The text of a run begins with room for such lines.
+const TYPICAL_LINE: usize = 24;
 
 /// Makes the scenario's steps in order on a new host, and returns the lines of the replies that the options show. A
 /// reply ENOMEM ends the run.
@@ -97,8 +116,9 @@ fn text_of<F: Decider + Send + Drop>(
     let bare_steps = scenario.bare_steps();
     let mut host = Host::new(alloc, scenario.settings)?;
     let mut rest = handlers.into_iter();
-    let mut text = String::new(alloc);
+    let mut text = String::with_capacity(alloc, bare_steps.len() * TYPICAL_LINE)?;
     let mut objects = ObjectWriter::new(alloc);
+    let mut words = ArrayString::new();
     let mut made = [0u64; USERS];
     for bare_step in bare_steps {
         let Some(reply) = reply_of(alloc, &mut host, bare_step.0, &bare_step.1, &mut rest) else {
@@ -108,9 +128,10 @@ fn text_of<F: Decider + Send + Drop>(
             return Err(RunFault::Memory);
         }
         let number = count_reply(&mut made, bare_step.0);
-        push_shown(
+        push_shown_by(
             alloc,
             options,
+            &mut words,
             &mut objects,
             &mut text,
             bare_step.0,

@@ -14,7 +14,7 @@ pub use Rattle.serde_json.proofs.Views.{get_member-put, get_member-put_other}
 pub use Rattle.serde_json.specs.{Data.Data, Data.Items, Data.Members, Data.array, Data.item, Data.member, Data.no_items, Data.no_members, Data.object, Data.put, Find.as_object, Find.get_member}
 pub use Rattle.serde_json.specs.{Events.items_len, Read.converted, Read.of_items, Read.of_json, Read.of_members, Read.read}
 pub use Rattle.stop_handlers.specs.declared.Rule.{Rule}
-pub use Rattle.scenario_text.specs.Plan.{Plan, asked, with_policies, first_policy, max_steps, policies_after, policies_in, policy_before, with_installed, user_and_step}
+pub use Rattle.scenario_text.specs.Plan.{Plan, asked, with_policies, first_policy, max_steps, policies_after, policies_in, policy_before, with_installed, with_policy, user_and_step}
 pub use Rattle.scenario_text.specs.Streams.{AreRead, IsListOf, IsNamed, StepsAre, pushed, rules_taken, taken, with_named, with_named_rule}
 pub use Rattle.scenario_text.specs.{Fields.Gives, Fields.atom_in, Fields.atom_of, Fields.each, Fields.gather, Fields.integer, Fields.items_of, Fields.seen, Fields.◌>>=◌, declared.fault.Fault.Fault}
 pub use Rattle.scenario_text.specs.{Keys.key_named, Keys.key_rows, Keys.keys_in, Keys.set_named, Keys.◌∪◌, Rules.policy_of, Rules.rule_fields_by, Rules.rule_fields_in, Rules.rule_from, Rules.rule_of}

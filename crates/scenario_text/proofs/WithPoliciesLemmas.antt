@@ -1,5 +1,5 @@
 -- Steps with separate policies.
-use Rattle.scenario_text.proofs.CommonNames.{⊤, ◌≡◌, ℕ, List, [], ◌∷◌, ◌++◌, length, map, Some, refl, ap, ap₂, subst, ◌∙◌, arith, Rule, Step, PlainStep, with_handler, UserStep, asked, with_policies}
+use Rattle.scenario_text.proofs.CommonNames.{⊤, ◌≡◌, ℕ, List, [], ◌∷◌, ◌++◌, length, map, Some, refl, ap, ap₂, subst, ◌∙◌, arith, Rule, Step, PlainStep, with_handler, UserStep, asked, with_policies, with_policy}
 use Rattle.scenario_text.proofs.CommonNames.{first_policy, policies_after, policies_in, policy_before, with_installed, user_and_step}
 
 -- a step with a handler
@@ -27,6 +27,14 @@ with_policies_more (t ∷ rest) ps u s e =
     let stays = step_stays t.1 ps others (policy_before s []) e in
     ap₂ (λ (x : PlainStep) (qs : List (List Rule)). asked (t.0, x) ∷ with_policies (rest ++ (u, with_installed tt s) ∷ []) qs) stays.0 stays.1
     ∙ ap (λ xs. asked (t.0, with_installed (first_policy ps) t.1) ∷ xs) (with_policies_more rest (policies_after t.1 ps) u s (left_after t.1 ps others e))
+
+bare_again : (p : List Rule) (s : Step ⊤) → with_installed tt (with_installed p s) ≡ s
+bare_again p s = grind arith
+
+-- one more bare step, with its policy
+pub with_policies_bare : (ss : List (ℕ × Step ⊤)) (ps : List (List Rule)) (u : ℕ) (s : Step ⊤) (p : List Rule) → policies_in (with_policies ss ps) ≡ ps
+    → with_policies (ss ++ (u, s) ∷ []) (ps ++ policy_before (with_installed p s) []) ≡ with_policies ss ps ++ with_policy p (u, s) ∷ []
+with_policies_bare ss ps u s p e = subst (λ (b : Step ⊤). with_policies (ss ++ (u, b) ∷ []) (ps ++ policy_before (with_installed p s) []) ≡ with_policies ss ps ++ with_policy p (u, s) ∷ []) (bare_again p s) (with_policies_more ss ps u (with_installed p s) e)
 
 before_more : (s : PlainStep) (ps more : List (List Rule)) → policy_before s (ps ++ more) ≡ policy_before s ps ++ more
 before_more s ps more = grind arith

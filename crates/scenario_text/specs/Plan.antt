@@ -29,6 +29,10 @@ policies_in (a ∷ rest) = policy_before a.step (policies_in rest)
 abbrev pub with_installed : {A : Type 0} {B : Type 0} → B → Step A → Step B
 with_installed b s = map_handler (λ own. b) s
 
+-- a user's step, with the policy in place of its handler, if it installs one
+abbrev pub with_policy : List Rule → ℕ × Step ⊤ → UserStep
+with_policy policy s = record { uid = s.0; step = with_installed policy s.1 }
+
 abbrev pub first_policy : List (List Rule) → List Rule
 first_policy [] = []
 first_policy (policy ∷ others) = policy
@@ -45,7 +49,7 @@ policies_after s policies = policies
 -- the steps, each install with the next policy
 abbrev pub with_policies : List (ℕ × Step ⊤) → List (List Rule) → List UserStep
 with_policies [] policies = []
-with_policies (s ∷ rest) policies = record { uid = s.0; step = with_installed (first_policy policies) s.1 } ∷ with_policies rest (policies_after s.1 policies)
+with_policies (s ∷ rest) policies = with_policy (first_policy policies) s ∷ with_policies rest (policies_after s.1 policies)
 
 abbrev pub first : List (List Rule) → Option (List Rule)
 first [] = None

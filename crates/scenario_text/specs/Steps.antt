@@ -1,5 +1,5 @@
 -- A step of a scenario, from its JSON value. Its keys are checked one by one, and the first failure is the flaw.
-use Rattle.scenario_text.specs.CommonNames.{ℕ, List, Option, Result, Ok, Err, codes, Data, Members, object, get_member, PlainStep, Call, Act, Request, no_options, UserStep, Fields, KeyError, Shape, User}
+use Rattle.scenario_text.specs.CommonNames.{ℕ, List, [], Option, Result, Ok, Err, codes, Data, Members, object, get_member, PlainStep, Call, Act, Request, no_options, UserStep, Rule, Fields, KeyError, Shape, User}
 use Rattle.scenario_text.specs.CommonNames.{Number, Keys, ActKind, CallKind, StepKind, op_named, disposition_named, act_named, call_named, request_named}
 use Rattle.scenario_text.specs.Fields.{◌>>=◌, Atom, atom_of, integer, within, word, name_in, required, optional, options_of, mask_of, set_of}
 use Rattle.scenario_text.specs.{Keys.◌∪◌, Keys.keys_in, Keys.with_only, Rules.rules_of}
@@ -44,6 +44,11 @@ fields_by at keys = record {
 
 abbrev pub fields_in : Members → Fields
 fields_in ms = fields_by (λ k. get_member k ms) (keys_in ms)
+
+-- the policy of the rules, and none of flawed ones
+abbrev pub policy_in : Result (List Rule) KeyError → List Rule
+policy_in (Ok policy) = policy
+policy_in (Err flaw) = []
 
 -- ---- turns
 

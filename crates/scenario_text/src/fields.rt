@@ -2,6 +2,7 @@
 ghost use Rattle.std.specs.Prelude.{◌≡◌};
 ghost use Rattle.serde_json.specs.Data.{no_members};
 ghost use Rattle.scenario_text.specs.Keys.{only};
+ghost use Rattle.scenario_text.specs.Steps.{policy_in};
 
 use crate::keys::Keys;
 use event_masks::{CallKind, EventMask};
@@ -74,6 +75,22 @@ impl Fields {
             target: Err(KeyError::Shape),
             data: Ok(0),
             mask: Err(KeyError::Shape),
+        }
+    }
+}
+
+/// Returns the policy of the rules, and one without rules if they have a flaw.
+#[inline(never)]
+pub(crate) fn policy_in(rules: &Result<Policy, KeyError>) -> Policy
+    ensures { result ≡ policy_in rules.now }
+{
+    match rules {
+        Ok(policy) => *policy,
+        Err(_) => {
+            let Ok(policy) = Policy::new(&[]) else {
+                unreachable!()
+            };
+            policy
         }
     }
 }

@@ -106,6 +106,7 @@ pub(crate) enum Key {
 }
 
 /// Returns the key with this name, if steps or rules have it.
+#[inline(always)]
 pub(crate) fn key_named(text: &str) -> Option<Key>
     ensures { result ≡ key_named text.now }
 {

@@ -5,19 +5,19 @@ ghost use Rattle.scenario_text.specs.Fields.{items_of};
 ghost use Rattle.scenario_text.specs.Streams.{IsListOf, StepsAre, Tries, pushed, taken};
 ghost use Rattle.scenario_text.specs.Plan.{max_steps};
 ghost use Rattle.scenario_text.specs.Scenarios.{numbered};
-ghost use Rattle.scenario_text.specs.Steps.{step_of};
+ghost use Rattle.scenario_text.specs.Steps.{policy_in, step_of};
 ghost use Rattle.serde_json.specs.Read.{of_json, converted};
 ghost use Rattle.json.specs.Json.{value};
 
 use crate::fields::{Fields, KeyError};
 use crate::members::read_step;
 use crate::plan::MAX_STEPS;
-use crate::step_list::StepList;
+use crate::step_list::{BareStep, StepList};
 use crate::stop::Stop;
 use json_values::{Opening, Tokens, open_value, pass_members, pass_value};
 use pid_blocks::Uid;
 use std::alloc::{AllocError, Global};
-use step_types::PlainStep;
+use stop_handlers::Policy;
 
 /// The steps of an array so far, or the flaw of the first that has one.
 #[derive(Drop)]
@@ -31,7 +31,7 @@ pub(crate) struct Listed {
 
 impl Listed {
     ghost use Rattle.std.specs.Prelude.{Ok, Err, []};
-    ghost use Rattle.scenario_text.specs.Plan.{asked};
+    ghost use Rattle.scenario_text.specs.Plan.{with_policy};
     ghost use Rattle.scenario_text.specs.Scenarios.{at_step};
 
     fn none(alloc: Global) -> Listed
@@ -46,16 +46,21 @@ impl Listed {
         }
     }
 
-    /// Adds one more step. An error means out of memory.
-    fn add(&mut self, user: Uid, step: &PlainStep) -> Result<(), AllocError>
+    /// Adds one more step, with the policy of the rules if it installs one. An error means out of memory.
+    fn add(
+        &mut self,
+        user: Uid,
+        bare_step: BareStep,
+        rules: &Result<Policy, KeyError>,
+    ) -> Result<(), AllocError>
         requires room { self.old.count < max_steps }
         requires few { length self.old.steps ≤ self.old.count }
-        ensures taken { OnOk result (taken self.new ≡ pushed (taken self.old) (Ok (asked (user, step.now)))) }
+        ensures taken { OnOk result (taken self.new ≡ pushed (taken self.old) (Ok (with_policy (policy_in rules.now) (user, bare_step)))) }
         ensures count { OnOk result (self.new.count ≡ self.old.count + 1) }
         ensures few { OnOk result (length self.new.steps ≤ self.old.count + 1) }
     {
         if self.flaw.is_none() {
-            self.steps.push(user, step)?;
+            self.steps.push_bare(user, bare_step, rules)?;
         }
         self.count += 1;
         Ok(())
@@ -92,8 +97,8 @@ fn add_next(
     ensures shorter { OnOk result (length reader.new < length reader.old) }
 {
     match read_step(reader, depth, fields)? {
-        Ok((user, step)) => {
-            list.add(user, &step)?;
+        Ok((user, bare_step)) => {
+            list.add(user, bare_step, &fields.rules)?;
             Ok(())
         }
         Err(flaw) => {

@@ -2,8 +2,8 @@
 ghost use Rattle.std.specs.Prelude.{◌≡◌, ◌<◌, OnOk, length};
 ghost use Rattle.scenario_text.specs.Fields.{Gives, atom_in, name_in};
 ghost use Rattle.scenario_text.specs.CommonNames.{op_named, disposition_named, act_named, call_named, request_named};
-ghost use Rattle.scenario_text.specs.Plan.{asked};
-ghost use Rattle.scenario_text.specs.Steps.{fields_in, step_of};
+ghost use Rattle.scenario_text.specs.Plan.{with_policy};
+ghost use Rattle.scenario_text.specs.Steps.{fields_in, policy_in, step_of};
 ghost use Rattle.scenario_text.specs.Streams.{Reads, ReadsMembers, with_atom, with_named, with_value};
 ghost use Rattle.scenario_text.specs.Keys.{key_named};
 ghost use Rattle.scenario_text.specs.declared.keys.Key.TheVariants as key;
@@ -13,13 +13,14 @@ use crate::atoms::{integer, text, user_in, word};
 use crate::fields::{Fields, KeyError};
 use crate::keys::{Key, Keys, key_named, set_of};
 use crate::rules::read_rules;
+use crate::step_list::BareStep;
 use crate::steps::step_from;
 use event_masks::{CallKind, EventMask};
 use json::Invalid;
 use json_values::{Opening, Scalar, Tokens, next_scalar, open_value, pass_items, pass_value};
 use pid_blocks::Uid;
 use signals::{Disposition, SigSet};
-use step_types::{ActKind, Options, PlainStep, Request, StepKind};
+use step_types::{ActKind, Options, Request, StepKind};
 
 fn op_in(atom: &Scalar<'_>) -> Result<StepKind, KeyError>
     ensures { result ≡ name_in op_named (atom_in atom.now) }
@@ -190,15 +191,15 @@ fn read_fields(reader: &mut Tokens<'_>, depth: usize, fields: &mut Fields) -> Re
     Ok(())
 }
 
-/// Reads the next value, which may be a step. `fields` has what its keys say meanwhile.
+/// Reads the next value, which may be a step. What its keys say is in `fields`, the policy of an install too.
 #[tactic(auto, using(crate::proofs::ReadLoops::opened))]
 pub(crate) fn read_step(
     reader: &mut Tokens<'_>,
     depth: usize,
     fields: &mut Fields,
-) -> Result<Result<(Uid, PlainStep), KeyError>, Invalid>
+) -> Result<Result<(Uid, BareStep), KeyError>, Invalid>
     requires { 3 < depth }
-    ensures step { Reads (λ x d. Gives asked x (step_of d)) depth result reader.old reader.new }
+    ensures step { Reads (λ x d. Gives (with_policy (policy_in fields.new.rules)) x (step_of d)) depth result reader.old reader.new }
     ensures shorter { OnOk result (length reader.new < length reader.old) }
 {
     let opening = open_value(reader)?;

@@ -12,6 +12,7 @@ use crate::fault::Fault;
 use crate::fields::{Fields, KeyError};
 use crate::members::read_step;
 use crate::parsing::MAX_DEPTH;
+use crate::step_list::plain_step;
 use crate::stop::Stop;
 use json_values::Tokens;
 use pid_blocks::Uid;
@@ -31,7 +32,10 @@ fn read_text(text: &str, scratch: &mut Vec<u8>) -> Result<Result<(Uid, PlainStep
     if reader.next().is_some() {
         return Err(Stop::Invalid);
     }
-    Ok(step)
+    match step {
+        Ok((user, bare_step)) => Ok(Ok((user, plain_step(&bare_step, &fields.rules)))),
+        Err(flaw) => Ok(Err(flaw)),
+    }
 }
 
 /// Reads steps one after another, and uses the memory of one again for the next. It keeps room for the longest text.

@@ -1,8 +1,10 @@
 //! Lists of users' steps. They keep the installed policies separate.
-ghost use Rattle.std.specs.Prelude.{◌≡◌, ◌++◌, [], OnOk, OnErr};
+ghost use Rattle.std.specs.Prelude.{◌≡◌, ◌++◌, ◌∷◌, [], OnOk, OnErr};
 ghost use Rattle.step_types.specs.Plain.{with_handler};
 ghost use Rattle.scenario_text.specs.Plan.{first, policies_after, policy_before, with_installed};
+ghost use Rattle.scenario_text.specs.Steps.{policy_in};
 
+use crate::fields::{KeyError, policy_in};
 use pid_blocks::Uid;
 use std::alloc::{AllocError, Global};
 use std::marker::Model;
@@ -102,6 +104,49 @@ fn bare_step(step: &PlainStep) -> BareStep
     bare_step
 }
 
+/// Returns the step with the policy of the rules, if it installs one.
+pub(crate) fn plain_step(bare_step: &BareStep, rules: &Result<Policy, KeyError>) -> PlainStep
+    ensures { result ≡ with_installed (policy_in rules.now) bare_step.now }
+{
+    let policy = match bare_step {
+        Step::Install { .. } => Some(policy_in(rules)),
+        _ => None,
+    };
+    let Some(step) = bare_step.with_handler(policy) else {
+        unreachable!()
+    };
+    step
+}
+
+/// Adds the policy of the rules. An error means out of memory, and changes nothing. It is apart, so that other steps
+/// need no room for a policy.
+#[inline(never)]
+fn push_policy_in(
+    policies: &mut Vec<Policy>,
+    rules: &Result<Policy, KeyError>,
+) -> Result<(), AllocError>
+    ensures ok { OnOk result (policies.new.items ≡ policies.old.items ++ policy_in rules.now ∷ []) }
+    ensures err { OnErr result (policies.new.items ≡ policies.old.items) }
+{
+    policies.push(policy_in(rules))?;
+    Ok(())
+}
+
+/// Adds the policy of the rules, if the step installs one. An error means out of memory, and changes nothing.
+fn push_rules(
+    policies: &mut Vec<Policy>,
+    bare_step: &BareStep,
+    rules: &Result<Policy, KeyError>,
+) -> Result<(), AllocError>
+    ensures ok { OnOk result (policies.new.items ≡ policies.old.items ++ policy_before (with_installed (policy_in rules.now) bare_step.now) []) }
+    ensures err { OnErr result (policies.new.items ≡ policies.old.items) }
+{
+    if let Step::Install { .. } = bare_step {
+        push_policy_in(policies, rules)?;
+    }
+    Ok(())
+}
+
 /// Adds the policy of the step, if it installs one. An error means out of memory, and changes nothing.
 fn push_policy(policies: &mut Vec<Policy>, step: &PlainStep) -> Result<(), AllocError>
     ensures ok { OnOk result (policies.new.items ≡ policies.old.items ++ policy_before step.now []) }
@@ -119,7 +164,7 @@ fn push_policy(policies: &mut Vec<Policy>, step: &PlainStep) -> Result<(), Alloc
 
 impl StepList {
     ghost use Rattle.std.specs.Prelude.{◌≡◌, ◌++◌, [], ◌∷◌, length, map, OnOk, OnErr};
-    ghost use Rattle.scenario_text.specs.Plan.{asked, with_policies, policies_in};
+    ghost use Rattle.scenario_text.specs.Plan.{asked, with_policies, with_policy, policies_in};
 
     /// Creates an empty list.
     pub fn new(alloc: Global) -> StepList
@@ -140,6 +185,24 @@ impl StepList {
         self.bare_steps.reserve(1)?;
         push_policy(&mut self.policies, step)?;
         self.bare_steps.push_reserved((user, bare_step(step)));
+        Ok(())
+    }
+
+    /// Adds a step of a user, with the policy of the rules if it installs one. An error means out of memory, and
+    /// changes nothing.
+    #[tactic(auto, using(crate::proofs::WithPoliciesLemmas::with_policies_bare, crate::proofs::WithPoliciesLemmas::policies_more))]
+    pub(crate) fn push_bare(
+        &mut self,
+        user: Uid,
+        bare_step: BareStep,
+        rules: &Result<Policy, KeyError>,
+    ) -> Result<(), AllocError>
+        ensures ok { OnOk result (self.new ≡ self.old ++ with_policy (policy_in rules.now) (user, bare_step) ∷ []) }
+        ensures err { OnErr result (self.new ≡ self.old) }
+    {
+        self.bare_steps.reserve(1)?;
+        push_rules(&mut self.policies, &bare_step, rules)?;
+        self.bare_steps.push_reserved((user, bare_step));
         Ok(())
     }
 

@@ -1,12 +1,15 @@
 //! The requests of ptrace(2).
 ghost use Rattle.std.specs.Prelude.{◌≡◌};
 ghost use Rattle.step_types.specs.declared.Request.TheVariants as ptrace;
-ghost use Rattle.scenario_text.specs.Steps.{ptrace_keys, request_of, asked_of, rest_of};
+ghost use Rattle.scenario_text.specs.Fields.{Gives};
+ghost use Rattle.scenario_text.specs.Plan.{with_installed};
+ghost use Rattle.scenario_text.specs.Steps.{ptrace_keys, request_of, asked_of, policy_in, rest_of};
 ghost use Rattle.step_types.specs.declared.step.StepKind.TheVariants as ops;
 
 use crate::fields::{Fields, KeyError, only};
 use crate::keys::Keys;
-use step_types::{PlainStep, Request};
+use crate::step_list::BareStep;
+use step_types::{Request, Step};
 
 /// Returns the keys that every ptrace step has.
 fn ptrace_keys() -> Keys
@@ -15,11 +18,11 @@ fn ptrace_keys() -> Keys
     Keys::USER | Keys::OP | Keys::CALLER | Keys::REQUEST
 }
 
-fn trace_me_of(step: &Fields, caller: u32) -> Result<PlainStep, KeyError>
-    ensures { result ≡ asked_of caller ptrace.TraceMe step.now }
+fn trace_me_of(step: &Fields, caller: u32) -> Result<BareStep, KeyError>
+    ensures { Gives (with_installed (policy_in step.now.rules)) result (asked_of caller ptrace.TraceMe step.now) }
 {
     only(ptrace_keys(), step.keys)?;
-    Ok(PlainStep::Ptrace {
+    Ok(Step::Ptrace {
         caller,
         request: Request::TraceMe,
         target: 0,
@@ -27,13 +30,13 @@ fn trace_me_of(step: &Fields, caller: u32) -> Result<PlainStep, KeyError>
     })
 }
 
-fn set_event_mask_of(step: &Fields, caller: u32) -> Result<PlainStep, KeyError>
-    ensures { result ≡ asked_of caller ptrace.SetEventMask step.now }
+fn set_event_mask_of(step: &Fields, caller: u32) -> Result<BareStep, KeyError>
+    ensures { Gives (with_installed (policy_in step.now.rules)) result (asked_of caller ptrace.SetEventMask step.now) }
 {
     let target = step.target?;
     let mask = step.mask?;
     only(ptrace_keys() | Keys::TARGET | Keys::MASK, step.keys)?;
-    Ok(PlainStep::Ptrace {
+    Ok(Step::Ptrace {
         caller,
         request: Request::SetEventMask,
         target,
@@ -43,13 +46,13 @@ fn set_event_mask_of(step: &Fields, caller: u32) -> Result<PlainStep, KeyError>
 
 /// Returns a request with a target and data.
 #[tactic(auto, unfolding(crate::specs::Steps::request_of))]
-fn request_of(step: &Fields, caller: u32, request: Request) -> Result<PlainStep, KeyError>
-    ensures { result ≡ request_of caller request step.now }
+fn request_of(step: &Fields, caller: u32, request: Request) -> Result<BareStep, KeyError>
+    ensures { Gives (with_installed (policy_in step.now.rules)) result (request_of caller request step.now) }
 {
     let target = step.target?;
     let arg = step.data?;
     only(ptrace_keys() | Keys::TARGET | Keys::DATA, step.keys)?;
-    Ok(PlainStep::Ptrace {
+    Ok(Step::Ptrace {
         caller,
         request,
         target,
@@ -57,8 +60,8 @@ fn request_of(step: &Fields, caller: u32, request: Request) -> Result<PlainStep,
     })
 }
 
-fn asked_of(step: &Fields, caller: u32, request: Request) -> Result<PlainStep, KeyError>
-    ensures { result ≡ asked_of caller request step.now }
+fn asked_of(step: &Fields, caller: u32, request: Request) -> Result<BareStep, KeyError>
+    ensures { Gives (with_installed (policy_in step.now.rules)) result (asked_of caller request step.now) }
 {
     match request {
         Request::TraceMe => trace_me_of(step, caller),
@@ -69,8 +72,8 @@ fn asked_of(step: &Fields, caller: u32, request: Request) -> Result<PlainStep, K
 
 /// Returns a ptrace step, from the keys of its request.
 #[tactic(auto, unfolding(crate::specs::Steps::rest_of))]
-pub(crate) fn ptrace_of(step: &Fields) -> Result<PlainStep, KeyError>
-    ensures { result ≡ rest_of ops.Ptrace step.now }
+pub(crate) fn ptrace_of(step: &Fields) -> Result<BareStep, KeyError>
+    ensures { Gives (with_installed (policy_in step.now.rules)) result (rest_of ops.Ptrace step.now) }
 {
     let caller = step.caller?;
     let request = step.request?;

@@ -1,7 +1,7 @@
 //! Lines of a reader and bytes to a writer that move one byte a call, are interrupted, or fail.
 
 use super::wire::Wire;
-use byte_lines::{LineEnd, read_line, write_flushed};
+use byte_lines::{LineEnd, flush, read_line, write_all};
 use std::io::BufReader;
 use std::process::Abort;
 use std::test::Fail;
@@ -40,7 +40,7 @@ fn readers_that_fail(rt: HostRuntime) -> Result<(), Fail> {
 fn check<R: Abort + AllocGlobal>(rt: &R, room: usize, fails: bool) -> Result<(), Fail> {
     let bytes = b"1001 1 ok\n";
     let mut wire = Wire::new(rt.alloc(), b"", room, fails);
-    let is_written = write_flushed(&mut wire, bytes).is_ok();
+    let is_written = write_all(&mut wire, bytes).is_ok() && flush(&mut wire).is_ok();
     assert!(rt; is_written == (room >= bytes.len()), "at {room}");
     assert!(rt;
         bytes.get(..room.min(bytes.len())) == Some(wire.taken.as_slice()),

@@ -15,7 +15,7 @@ loop-bare_step-init g c =
       before = [];
       few = refl;
       counted = counted_start;
-      text = rw (host, c.new-text.ensures.bytes) (ap (λ (xs : List UserStep). shown_after options.style options.user [] (paired xs (replies xs (empty plan.settings)))) steps
+      text = rw (host, c.in_ok-text.ensures.bytes) (ap (λ (xs : List UserStep). shown_after options.style options.user [] (paired xs (replies xs (empty plan.settings)))) steps
           ∙ shown_whole options.style options.user (answers_of plan));
       each = ap policies_in steps ∙ sym handlers;
     }
@@ -48,7 +48,7 @@ loop-bare_step-preserved g c =
       counted = rw (c.count_reply-number.ensures.after, c.count_reply-number.ensures.number) (counted_more at.made before x.0 range.0 range.1 at.invariant.counted);
       text = text_next options.style options.user (answered (x.0, c.in-Some.reply)) (paired rest (replies rest c.reply_of.new.host)) before c.count_reply-number.result _ _ _
           (c.count_reply-number.ensures.number ∙ ap (λ n. n + 1) (counted_number at.made before x.0 range.0 range.1 at.invariant.counted))
-          c.in_ok-push_shown.ensures
+          c.in_ok-push_shown_by.ensures
           (ap (λ xs. string_bytes at.text ++ shown_after options.style options.user before xs) (sym next) ∙ at.invariant.text);
       each = each_next ss at.bare_step-index x had left more here at.invariant.each made.0;
     }

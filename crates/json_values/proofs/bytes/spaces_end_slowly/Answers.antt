@@ -1,6 +1,6 @@
 use Rattle.json_values.proofs.CommonNames.{◌∙◌, ap, sym, arith, get_or_default, is_blank, class}
 use Rattle.json_values.proofs.Texts.{past_space}
-use Rattle.json_values.proofs.bytes.spaces_end.Goals as goal
+use Rattle.json_values.proofs.bytes.spaces_end_slowly.Goals as goal
 
 pub loop-at-preserved : goal.loop-at-preserved
 loop-at-preserved c =
