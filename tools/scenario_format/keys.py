@@ -47,6 +47,11 @@ def names(form: Format) -> str:
     return "".join(arms)
 
 
+def taken(form: Format) -> str:
+    """The arms of `take`, in the same file"""
+    return "".join(f'        Key::{key.variant} => reader.take_key("{key.name}"),\n' for key in form.keys)
+
+
 def sets(form: Format) -> str:
     return "".join(f"        Key::{key.variant} => Keys::{key.name.upper()},\n" for key in form.keys)
 

@@ -1,6 +1,15 @@
 -- A number by its text, with or without a minus.
 use Rattle.json_values.proofs.CommonNames.{nat_tests, pos, neg_ℤ, ◌≡◌, ℕ, ℤ, ◌^◌, ◌<◌, ◌==◌, List, [], length, drop, get_or, true, false, Option, Some, is_some, option_and_then, refl, sym, ap, ◌∙◌}
 use Rattle.json_values.proofs.CommonNames.{arith, append-nil, rules, AllDigits, digits_value, Num, as_i64, Parts, IsWellFormed, scan, number_from, scan-text_of, number_of}
+use Rattle.std.proofs.{Math.Nat.pow-le-pow_right, lemmas.Int.Digits.digits_value-lt, lemmas.List.length-take-le}
+use Rattle.json_values.proofs.CommonNames.{◌≤◌, take}
+
+-- at most 17 digits write a number below 10^17
+pub few_below : (bs : List ℕ) (n : ℕ) → n ≤ length bs → n ≤ 17 → AllDigits 10 (take n bs) → digits_value 10 (take n bs) < 10 ^ 17
+few_below bs n within few all =
+    let below : digits_value 10 (take n bs) < 10 ^ length (take n bs) = digits_value-lt 10 (take n bs) all in
+    let most : 10 ^ n ≤ 10 ^ 17 = pow-le-pow_right (omega arith) few in
+    omega (arith, ap (λ k. 10 ^ k) (length-take-le n bs within), below, most)
 
 pub with_minus : (s : List ℕ) → true ≡ (get_or s 0 0 == 45) → number_from true (scan (drop 1 s)) ≡ number_of s
 unfolding number_of

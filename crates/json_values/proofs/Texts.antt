@@ -2,7 +2,7 @@
 use Rattle.json_values.proofs.CommonNames.{nat_tests, pos, neg_ℤ, negsuc, zero, option_and_then, decimal, ◌^◌, ◌≡◌, ℕ, ◌+◌, ◌-◌, ◌<◌, ◌≤◌, Bool, true, false, ◌&&◌, cond, ◌==◌, nat_eq, List, [], ◌∷◌}
 use Rattle.json_values.proofs.CommonNames.{◌++◌, length, take, drop, get_or, Some, None, refl, sym, ap, ap₂, ◌∙◌, arith, suc, add-zero, lt_of_not-le, rules, drop_more, drop_all, drop-drop}
 use Rattle.json_values.proofs.CommonNames.{get_or-drop, get_or-take, get_or_past, take-append-drop, true≢false, false≢true, and_parts, or_parts, not-true, eqb-true, ne_eqb, lt-leb, none-some}
-use Rattle.json_values.proofs.CommonNames.{prefix_len, starts_with, AllDigits, plain, prepend, Token, number, bad, head, ends_word, token, operator, class, between, in_string, is_blank, is_plain}
+use Rattle.json_values.proofs.CommonNames.{prefix_len, prefix_len-append, colon, starts_with, AllDigits, plain, prepend, Token, number, bad, head, ends_word, token, operator, class, between, in_string, is_blank, is_plain}
 use Rattle.json_values.proofs.CommonNames.{as_i64, number_of, IsNumberAt, IsWholeAt, LiteralOf, piece, leb, decimal-digits_value, numerals_by_value, tells_digits, IsNumber-decimal}
 use Rattle.json_values.proofs.CommonNames.{IsNumber-signed_decimal, content, after_number, word, lex, lex-number, in_word-ended, number_alone, length-drop}
 use Rattle.json.specs.{Token.boolean, Token.null, Print.IsNumber}
@@ -111,6 +111,29 @@ past_literal d name i t literal is = grind (arith, nat_tests, and_parts, drop-dr
 -- what a piece and the text behind it are together
 pub piece_and_rest : (d : List ℕ) (from end : ℕ) → from ≤ end → piece d from end ++ drop end d ≡ drop from d
 piece_and_rest d from end h = grind (arith, nat_tests, drop-drop (end - from) from d, take-append-drop (end - from) (drop from d))
+
+-- ---- a key in its usual form: its name in quotes, and a colon
+
+module _ (d name : List ℕ) (i : ℕ) (first : get_or d i 32 ≡ 34) (named : piece d (i + 1) (i + 1 + length name) ≡ name) (is_plain_name : prefix_len is_plain name ≡ length name) where
+  goes_on : name ++ drop (i + 1 + length name) d ≡ drop (i + 1) d
+  goes_on = ap (λ t. t ++ drop (i + 1 + length name) d) (sym named) ∙ piece_and_rest d (i + 1) (i + 1 + length name) (omega arith)
+
+  module _ (last : get_or d (i + 1 + length name) 32 ≡ 34) where
+    quoted : drop (i + 1 + length name) d ≡ 34 ∷ drop (i + 1 + length name + 1) d
+    quoted = split_at d (i + 1 + length name) (within_at d _ (λ w. omega (arith, last, w))) ∙ ap (λ x. x ∷ drop (i + 1 + length name + 1) d) last
+
+    run : prefix_len is_plain (drop (i + 1) d) ≡ length name
+    run = ap (prefix_len is_plain) (sym goes_on ∙ ap (λ t. name ++ t) quoted) ∙ prefix_len-append is_plain name (34 ∷ drop (i + 1 + length name + 1) d) ∙ grind (arith, nat_tests, is_plain_name)
+
+    stop_is : i + 1 + length name ≡ i + 1 + prefix_len is_plain (drop (i + 1) d)
+    stop_is = omega (arith, run)
+
+    pub key_content : content plain (drop 1 (drop i d)) ≡ Some name
+    key_content = string_content d i (i + 1 + length name) first stop_is last ∙ ap Some named
+
+    pub key_passed : get_or d (i + 1 + length name + 1) 32 ≡ 58 → drop 1 (lex between (drop i d)) ≡ colon ∷ lex between (drop (i + 1 + length name + 2) d)
+    unfolding lex
+    key_passed next = sym (past_string d i (i + 1 + length name) first stop_is last) ∙ ap (lex between) (split_at d (i + 1 + length name + 1) (within_at d _ (λ w. omega (arith, next, w))) ∙ ap (λ x. x ∷ drop (i + 1 + length name + 1 + 1) d) next) ∙ ap (λ j. colon ∷ lex between (drop j d)) (omega arith)
 
 pub past_number : (d : List ℕ) (from end : ℕ) → IsNumberAt d from end → lex between (drop from d) ≡ token (number (piece d from end)) ∷ lex between (drop end d)
 past_number d from end n = ap (lex between) (sym (piece_and_rest d from end n.later)) ∙ lex-number (piece d from end) (drop end d) n.number n.ended

@@ -1,7 +1,10 @@
 //! The lexemes of a text, each read in its place.
-ghost use Rattle.std.specs.Prelude.{◌≡◌, ◌≤◌, ◌∷◌, ℕ, List, [], length, drop, true, Some, None, IfSome, MatchOption, option_and_then, get_or};
+ghost use Rattle.std.specs.Prelude.{◌≡◌, ◌<◌, ◌≤◌, ◌∷◌, ℕ, List, [], length, drop, true, Some, None, IfSome, MatchOption, option_and_then, get_or};
 ghost use Rattle.json.specs.Align.{is_blank, is_good};
-ghost use Rattle.json.specs.Lex.{token, operator, other, class, between, lex};
+ghost use Rattle.json.specs.Lex.{token, colon, operator, other, class, between, lex};
+ghost use Rattle.json.specs.Run.{is_plain};
+ghost use Rattle.std.specs.Bool.{MatchBool};
+ghost use Rattle.std.specs.List.{prefix_len};
 ghost use Rattle.json.specs.Reads.{token_of};
 ghost use Rattle.json.specs.Text.{content, plain};
 ghost use Rattle.json.specs.Token.{number};
@@ -82,6 +85,30 @@ impl<'a> Lexer<'a> {
             }
             b'\\' => self.escaped_string(),
             _ => None,
+        }
+    }
+
+    /// Takes this string with a colon behind it, if they come next as they are.
+    #[inline(always)]
+    pub(crate) fn key(&mut self, name: &str) -> bool
+        requires plain { prefix_len is_plain name.now ≡ length name.now }
+        requires short { length name.now < 256 }
+        ensures { MatchBool result
+            ((head self.old ≡ 34) × (content plain (drop 1 self.old) ≡ Some name.now) × (drop 1 (lex between self.old) ≡ colon ∷ lex between self.new))
+            (self.new ≡ self.old) }
+    {
+        let text = self.text;
+        let bytes = text.as_bytes();
+        let start = self.at + 1;
+        let stop = start + name.len();
+        if byte_at(bytes, stop + 1) != b':' || byte_at(bytes, stop) != b'"' || self.peek() != b'"' {
+            return false;
+        }
+        if &text[start..stop] == name {
+            self.at = spaces_end(bytes, stop + 2);
+            true
+        } else {
+            false
         }
     }
 

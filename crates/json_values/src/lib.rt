@@ -20,5 +20,7 @@ mod scalars;
 mod tokens;
 mod words;
 
-pub use scalars::{Opening, Scalar, next_scalar, open_value, pass_items, pass_members, pass_value};
+pub use scalars::{
+    Opening, Scalar, next_scalar, open_item, open_value, pass_items, pass_members, pass_value,
+};
 pub use tokens::Tokens;

@@ -63,6 +63,19 @@ pub fn open_value<'a>(reader: &mut Tokens<'a>) -> Result<Opening<'a>, Invalid>
     }
 }
 
+/// Does what `open_value` does, soonest if the value is an object.
+#[inline(always)]
+pub fn open_item<'a>(reader: &mut Tokens<'a>) -> Result<Opening<'a>, Invalid>
+    ensures opened { IfOk result (λ opening. Opens opening reader.old reader.new) }
+    ensures shorter { OnOk result (length reader.new < length reader.old) }
+    ensures invalid { OnErr result ((depth : ℕ) → converted of_json (value depth reader.old) ≡ None) }
+{
+    if reader.take_begin_object() {
+        return Ok(Opening::Object);
+    }
+    open_value(reader)
+}
+
 /// Reads the next value, and allocates nothing. Arrays and objects may nest `depth` deep. After an error the reader
 /// is at some later token, or has no more tokens.
 #[cycle(pass)]

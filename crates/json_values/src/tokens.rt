@@ -1,10 +1,12 @@
 //! The tokens of a JSON text.
 ghost use Rattle.std.specs.Prelude.{◌≡◌, ◌<◌, ◌≤◌, ◌∷◌, ℕ, List, None, Some, IfOk, OnErr, MatchOption, MatchResult, length, option_and_then, option_map, vec_capacity};
 ghost use Rattle.std.specs.Bool.{MatchBool};
+ghost use Rattle.std.specs.List.{prefix_len};
 ghost use Rattle.json.specs.Json.{after_end_array, read_key};
 ghost use Rattle.json.specs.Lex.{tokens};
 ghost use Rattle.json.specs.Reads.{Yields};
-ghost use Rattle.json.specs.Token.{number};
+ghost use Rattle.json.specs.Run.{is_plain};
+ghost use Rattle.json.specs.Token.{begin_object, number};
 ghost use Rattle.serde_json.specs.Find.{as_i64};
 ghost use Rattle.serde_json.specs.Read.{number_of};
 ghost use Rattle.json_values.specs.Lexing.{HasRoom};
@@ -93,6 +95,21 @@ impl<'a> Tokens<'a> {
         integer
     }
 
+    /// Takes this key, if it comes next as it is, with no space before its colon and no escape. `false` leaves open what
+    /// comes next.
+    #[inline(always)]
+    pub fn take_key(&mut self, name: &str) -> bool
+        requires plain { prefix_len is_plain name.now ≡ length name.now }
+        requires short { length name.now < 256 }
+        ensures { MatchBool result (read_key self.old ≡ Some (Some name.now, self.new)) (self.new ≡ self.old) }
+    {
+        if !self.place.may_begin() || !self.lexer.key(name) {
+            return false;
+        }
+        self.place = Place::Fresh;
+        true
+    }
+
     /// Takes a key, or the brace that closes an object: then it returns `None`.
     #[inline(always)]
     pub fn next_key(&mut self) -> Result<Option<&'a str>, Invalid>
@@ -104,6 +121,20 @@ impl<'a> Tokens<'a> {
             Token::EndObject => Ok(None),
             _ => Err(Invalid),
         }
+    }
+
+    /// Takes the brace that opens an object, if it is next.
+    #[inline(always)]
+    #[tactic(auto, using(crate::proofs::Places::opens_object))]
+    pub(crate) fn take_begin_object(&mut self) -> bool
+        ensures { MatchBool result (self.old ≡ begin_object ∷ self.new) (self.new ≡ self.old) }
+    {
+        if self.lexer.peek() != b'{' || !self.place.may_begin() {
+            return false;
+        }
+        self.lexer.skip();
+        self.place = Place::Fresh;
+        true
     }
 
     /// Takes the bracket that closes an array, if it is next.

@@ -107,22 +107,23 @@ pub(crate) fn is_literal(bytes: &[u8], from: usize, name: &[u8]) -> bool
     rest.starts_with(name) && is_delimiter(byte_at(rest, name.len()))
 }
 
-/// Returns the number that the digits at a place write and where they end, if it is below 10^18. `None` leaves it open.
+/// Numbers with so many digits, or more, are read elsewhere.
+const MANY_DIGITS: usize = 18;
+
+/// Returns the number that the digits at a place write and where they end, if they are few. `None` leaves it open.
 #[inline(always)]
 fn few_digits(bytes: &[u8], from: usize) -> Option<(u64, usize)>
     requires { from ≤ length bytes.now }
     ensures { IfSome result (λ n. AreDigits bytes.now from n.1 n.0) }
 {
+    let last = from + (bytes.len() - from).min(MANY_DIGITS);
     let mut value = 0u64;
     let mut end = from;
-    while end < bytes.len() && bytes[end].is_ascii_digit() {
-        if value >= 100_000_000_000_000_000 {
-            return None;
-        }
+    while end < last && bytes[end].is_ascii_digit() {
         value = value * 10 + u64::from(bytes[end] - b'0');
         end += 1;
     }
-    if end == from {
+    if end == from || end - from == MANY_DIGITS {
         return None;
     }
     Some((value, end))

@@ -4,6 +4,7 @@ use Rattle.scenario_text.proofs.CommonNames.{members, parse_map, after_end_array
 use Rattle.scenario_text.proofs.CommonNames.{converted, Says, read_items, read_members, Scalar, array_value, object_value, next_item, last_item, next_item_fails, next_member_fails, no_key}
 use Rattle.scenario_text.proofs.CommonNames.{pass_member, last_member, what_was_read, ◌>>=◌, atom_in, atom_of}
 use Rattle.json.specs.Json.{value}
+use Rattle.std.specs.Option.{option_map}
 
 -- the items before `left` are those that `front` puts before others
 pub record HasItems (depth : ℕ) (all left : List Token) (front : Items → Items) : Type 0 where
@@ -57,6 +58,11 @@ module _ (depth : ℕ) (all left : List Token) (found : Members) (h : HasMembers
         shorter = omega (arith, h.shorter, named);
         same = h.same ∙ pass_member (value depth) found h.turns k left s r d (omega (arith, h.enough, named)) key was;
       }
+
+-- a key that was taken has a name
+pub its_name : {X : Type 0} (f : List ℕ → X) (name : Option (List ℕ)) (key : X) → Some key ≡ option_map f name → (k : List ℕ) × (name ≡ Some k) × (key ≡ f k)
+its_name f None key h = grind (arith, h)
+its_name f (Some k) key h = (k, refl, grind (arith, h))
 
 -- where a loop ends
 pub ruleset ends = (next_item_fails, last_item, next_member_fails, no_key, last_member)

@@ -1,7 +1,11 @@
 //! The keys of steps and of rules.
-ghost use Rattle.std.specs.Prelude.{◌≡◌};
+ghost use Rattle.std.specs.Prelude.{◌≡◌, List, ℕ, Option, None, Some, MatchResult, option_map};
+ghost use Rattle.std.specs.Bool.{MatchBool};
+ghost use Rattle.json.specs.Json.{read_key};
 ghost use Rattle.scenario_text.specs.Keys.{key_named, key_set};
 
+use json::Invalid;
+use json_values::Tokens;
 use std::ops::BitOr;
 
 /// A set of keys. `OTHER` means all that neither steps nor rules have.
@@ -185,5 +189,53 @@ pub(crate) fn set_of(key: Key) -> Keys
         Key::Decision => Keys::DECISION,
         Key::Pass => Keys::PASS,
         // end
+    }
+}
+
+/// Takes the name of the key, if it comes next as it is. `false` leaves open what comes next.
+#[inline(always)]
+fn take(reader: &mut Tokens<'_>, key: Key) -> bool
+    ensures { MatchBool result ((name : List ℕ) × (key_named name ≡ Some key) × (read_key reader.old ≡ Some (Some name, reader.new))) (reader.new ≡ reader.old) }
+{
+    match key {
+        // tools/format taken
+        Key::User => reader.take_key("user"),
+        Key::Op => reader.take_key("op"),
+        Key::Caller => reader.take_key("caller"),
+        Key::Lwp => reader.take_key("lwp"),
+        Key::Act => reader.take_key("act"),
+        Key::Which => reader.take_key("which"),
+        Key::Request => reader.take_key("request"),
+        Key::Target => reader.take_key("target"),
+        Key::Data => reader.take_key("data"),
+        Key::Call => reader.take_key("call"),
+        Key::Code => reader.take_key("code"),
+        Key::Signal => reader.take_key("signal"),
+        Key::Options => reader.take_key("options"),
+        Key::Action => reader.take_key("action"),
+        Key::Rules => reader.take_key("rules"),
+        Key::Set => reader.take_key("set"),
+        Key::Mask => reader.take_key("mask"),
+        Key::Flags => reader.take_key("flags"),
+        Key::Decision => reader.take_key("decision"),
+        Key::Pass => reader.take_key("pass"),
+        // end
+    }
+}
+
+/// Takes a name and returns its key, if steps or rules have it, or takes the brace that closes an object: then it
+/// returns `None`. It is fast if the likely key comes next.
+#[inline(always)]
+pub(crate) fn next_key(reader: &mut Tokens<'_>, likely: Key) -> Result<Option<Option<Key>>, Invalid>
+    ensures { MatchResult result
+        (λ k. (name : Option (List ℕ)) × (read_key reader.old ≡ Some (name, reader.new)) × (k ≡ option_map key_named name))
+        (λ _. read_key reader.old ≡ None) }
+{
+    if take(reader, likely) {
+        return Ok(Some(Some(likely)));
+    }
+    match reader.next_key()? {
+        Some(name) => Ok(Some(key_named(name))),
+        None => Ok(None),
     }
 }

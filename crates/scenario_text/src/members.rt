@@ -5,19 +5,18 @@ ghost use Rattle.scenario_text.specs.CommonNames.{op_named, disposition_named, a
 ghost use Rattle.scenario_text.specs.Plan.{with_policy};
 ghost use Rattle.scenario_text.specs.Steps.{fields_in, policy_in, step_of};
 ghost use Rattle.scenario_text.specs.Streams.{Reads, ReadsMembers, with_atom, with_named, with_value};
-ghost use Rattle.scenario_text.specs.Keys.{key_named};
 ghost use Rattle.scenario_text.specs.declared.keys.Key.TheVariants as key;
 
 use crate::arrays::read_set;
 use crate::atoms::{integer, text, user_in, word};
 use crate::fields::{Fields, KeyError};
-use crate::keys::{Key, Keys, key_named, set_of};
+use crate::keys::{Key, Keys, next_key, set_of};
 use crate::rules::read_rules;
 use crate::step_list::BareStep;
 use crate::steps::step_from;
 use event_masks::{CallKind, EventMask};
 use json::Invalid;
-use json_values::{Opening, Scalar, Tokens, next_scalar, open_value, pass_items, pass_value};
+use json_values::{Opening, Scalar, Tokens, next_scalar, open_item, pass_items, pass_value};
 use pid_blocks::Uid;
 use signals::{Disposition, SigSet};
 use step_types::{ActKind, Options, Request, StepKind};
@@ -152,18 +151,18 @@ fn read_value(
     }
 }
 
-/// Reads the value of the key with this name.
+/// Reads the value of a key, or passes over that of any other name.
 fn read_named(
     reader: &mut Tokens<'_>,
     depth: usize,
-    name: &str,
+    key: Option<Key>,
     fields: &mut Fields,
 ) -> Result<(), Invalid>
     requires { 2 < depth }
-    ensures value { Reads (λ _ d. fields.new ≡ with_named (key_named name.now) d fields.old) depth result reader.old reader.new }
+    ensures value { Reads (λ _ d. fields.new ≡ with_named key d fields.old) depth result reader.old reader.new }
     ensures shorter { OnOk result (length reader.new < length reader.old) }
 {
-    match key_named(name) {
+    match key {
         Some(key) => {
             read_value(reader, depth, key, fields)?;
             fields.keys = set_of(key) | fields.keys;
@@ -177,6 +176,40 @@ fn read_named(
     }
 }
 
+/// Returns the key that comes behind another one in the usual order of a step's keys: the user, the op, and then those of
+/// the op.
+#[inline(always)]
+fn likely_after(key: Option<Key>, fields: &Fields) -> Key {
+    match key {
+        Some(Key::User) => Key::Op,
+        Some(Key::Op) => match fields.op {
+            Ok(StepKind::Turn) => Key::Lwp,
+            _ => Key::Caller,
+        },
+        Some(Key::Caller) => match fields.op {
+            Ok(StepKind::Ptrace) => Key::Request,
+            Ok(StepKind::Sigaction) => Key::Signal,
+            Ok(StepKind::Install) => Key::Rules,
+            _ => Key::Which,
+        },
+        Some(Key::Request) => Key::Target,
+        Some(Key::Target) => Key::Data,
+        Some(Key::Which) => match fields.op {
+            Ok(StepKind::Kill) => Key::Signal,
+            _ => Key::Options,
+        },
+        Some(Key::Signal) => Key::Action,
+        Some(Key::Lwp) => Key::Act,
+        Some(Key::Act) => match fields.act {
+            Ok(ActKind::Enter) => Key::Call,
+            Ok(ActKind::Raise) => Key::Signal,
+            _ => Key::Set,
+        },
+        Some(Key::Call) => Key::Code,
+        _ => Key::User,
+    }
+}
+
 /// Reads the members of the object that the reader is in.
 #[tactic(auto, using(crate::proofs::ReadLoops::ends))]
 fn read_fields(reader: &mut Tokens<'_>, depth: usize, fields: &mut Fields) -> Result<(), Invalid>
@@ -185,8 +218,10 @@ fn read_fields(reader: &mut Tokens<'_>, depth: usize, fields: &mut Fields) -> Re
     ensures shorter { OnOk result (length reader.new < length reader.old) }
 {
     *fields = Fields::none();
-    'members: while let Some(name) = reader.next_key()? {
-        read_named(reader, depth, name, fields)?;
+    let mut likely = Key::User;
+    'members: while let Some(key) = next_key(reader, likely)? {
+        read_named(reader, depth, key, fields)?;
+        likely = likely_after(key, fields);
     }
     Ok(())
 }
@@ -202,7 +237,7 @@ pub(crate) fn read_step(
     ensures step { Reads (λ x d. Gives (with_policy (policy_in fields.new.rules)) x (step_of d)) depth result reader.old reader.new }
     ensures shorter { OnOk result (length reader.new < length reader.old) }
 {
-    let opening = open_value(reader)?;
+    let opening = open_item(reader)?;
     match opening {
         Opening::Object => {
             read_fields(reader, depth - 1, fields)?;

@@ -18,6 +18,7 @@ use crate::plan::{MAX_STEPS, Scenario};
 use crate::step_list::StepList;
 use crate::stop::Stop;
 use json_values::{Opening, Tokens, next_scalar, open_value, pass_items, pass_value};
+use simdutf8::from_utf8_baseline;
 use std::alloc::Global;
 use step_types::Settings;
 
@@ -199,7 +200,7 @@ pub fn parse(alloc: Global, bytes: &[u8]) -> Result<Scenario, Fault>
     if bytes.len() > MAX_BYTES {
         return Err(Fault::TooLong);
     }
-    let Ok(text) = str::from_utf8(bytes) else {
+    let Ok(text) = from_utf8_baseline(bytes) else {
         return Err(Fault::BadJson);
     };
     match read_text(alloc, text) {

@@ -11,11 +11,12 @@ ghost use Rattle.scenario_text.specs.Streams.{Reads, ReadsItems, ReadsMembers};
 use crate::arrays::read_set;
 use crate::atoms::{integer, signal_in, text, within};
 use crate::fields::{KeyError, only};
-use crate::keys::{Key, Keys, key_named, set_of};
+use crate::keys::{Key, Keys, next_key, set_of};
 use event_masks::StopFlags;
 use json::Invalid;
 use json_values::{
-    Opening, Scalar, Tokens, next_scalar, open_value, pass_items, pass_members, pass_value,
+    Opening, Scalar, Tokens, next_scalar, open_item, open_value, pass_items, pass_members,
+    pass_value,
 };
 use signals::{Pass, Signal};
 use stop_handlers::{Decision, DecisionKind, Policy, Rule};
@@ -88,7 +89,6 @@ fn rule_keys(kind: DecisionKind) -> Keys
 impl RuleFields {
     ghost use Rattle.scenario_text.specs.Rules.{rule_fields_in};
     ghost use Rattle.scenario_text.specs.Streams.{with_rule_atom, with_rule_value, with_named_rule};
-    ghost use Rattle.scenario_text.specs.Keys.{key_named};
 
     /// Returns what the keys of an empty object say.
     fn none() -> RuleFields
@@ -130,18 +130,18 @@ impl RuleFields {
         Ok(())
     }
 
-    /// Reads the value of the key with this name.
+    /// Reads the value of a key, or passes over that of any other name.
     fn read_named(
         &mut self,
         reader: &mut Tokens<'_>,
         depth: usize,
-        name: &str,
+        key: Option<Key>,
     ) -> Result<(), Invalid>
         requires { 0 < depth }
-        ensures value { Reads (λ _ d. self.new ≡ with_named_rule (key_named name.now) d self.old) depth result reader.old reader.new }
+        ensures value { Reads (λ _ d. self.new ≡ with_named_rule key d self.old) depth result reader.old reader.new }
         ensures shorter { OnOk result (length reader.new < length reader.old) }
     {
-        match key_named(name) {
+        match key {
             Some(key) => {
                 self.read(reader, depth, key)?;
                 self.keys = set_of(key) | self.keys;
@@ -173,6 +173,16 @@ impl RuleFields {
     }
 }
 
+/// Returns the key that comes behind another one in the usual order of a rule's keys.
+#[inline(always)]
+fn likely_after(key: Option<Key>) -> Key {
+    match key {
+        Some(Key::Signal) => Key::Flags,
+        Some(Key::Flags) => Key::Decision,
+        _ => Key::Pass,
+    }
+}
+
 /// Reads the members of the object that the reader is in.
 #[tactic(auto, using(crate::proofs::ReadLoops::ends))]
 fn read_rule_fields(reader: &mut Tokens<'_>, depth: usize) -> Result<RuleFields, Invalid>
@@ -181,8 +191,10 @@ fn read_rule_fields(reader: &mut Tokens<'_>, depth: usize) -> Result<RuleFields,
     ensures shorter { OnOk result (length reader.new < length reader.old) }
 {
     let mut fields = RuleFields::none();
-    'members: while let Some(name) = reader.next_key()? {
-        fields.read_named(reader, depth, name)?;
+    let mut likely = Key::Signal;
+    'members: while let Some(key) = next_key(reader, likely)? {
+        fields.read_named(reader, depth, key)?;
+        likely = likely_after(key);
     }
     Ok(fields)
 }
@@ -194,7 +206,7 @@ fn read_rule(reader: &mut Tokens<'_>, depth: usize) -> Result<Result<Rule, KeyEr
     ensures rule { Reads (λ x d. x ≡ rule_of d) depth result reader.old reader.new }
     ensures shorter { OnOk result (length reader.new < length reader.old) }
 {
-    let opening = open_value(reader)?;
+    let opening = open_item(reader)?;
     match opening {
         Opening::Object => {
             let fields = read_rule_fields(reader, depth - 1)?;
