@@ -38,9 +38,20 @@ impl Hints {
         }
     }
 
-    /// Notes the slot of a new row with the number.
+    /// Notes the slot of a new row with the number. `there` is the number of the row in the slot that was noted before: if
+    /// this is that row's hint, it stays, since long-lived rows are looked up most.
     #[inline(always)]
-    pub fn note(&mut self, number: u32, slot: usize) {
+    pub fn note_new(&mut self, number: u32, slot: usize, there: Option<u32>) {
+        let last = self.slots.len().wrapping_sub(1);
+        let is_its_hint = there.is_some_and(|other| (other ^ number) as usize & last == 0);
+        if !is_its_hint {
+            self.note(number, slot);
+        }
+    }
+
+    /// Notes the slot of a row with the number.
+    #[inline(always)]
+    fn note(&mut self, number: u32, slot: usize) {
         let last = self.slots.len().wrapping_sub(1);
         if let Some(place) = self.slots.get_mut(number as usize & last) {
             *place = u16::try_from(slot).unwrap_or(0);

@@ -269,8 +269,11 @@ pub fn note(heads: &mut NumberIndex<ListHead>, before: &LwpData, row: &LwpData)
     if Traits::of(before).is_bare() && Traits::of(row).is_bare() {
         return;
     }
-    let marks = ends_of(heads, row.pid).marks.noted(row);
-    mark(heads, row.pid, marks);
+    if let Some(ends) = heads.get_mut(&row.pid.get()) {
+        if ends.first.is_some() {
+            ends.marks = ends.marks.noted(row);
+        }
+    }
 }
 
 /// Returns the index, among the users, of the user whose block contains the number.

@@ -136,7 +136,9 @@ impl LwpTable {
         set_link(&mut self.rows, Link::NextOwn, own.prev, Some(slot));
         set_link(&mut self.rows, Link::NextUser, user.prev, Some(slot));
         self.slots.insert(row.tid.get(), slot).unwrap();
-        self.hints.note(row.tid.get(), slot);
+        let hinted = self.rows.get(self.hints.slot(row.tid.get()));
+        let there = hinted.map(|node| node.row.tid.get());
+        self.hints.note_new(row.tid.get(), slot, there);
         self.births += 1;
     }
 
