@@ -2,16 +2,17 @@
 //! order of pid, with links both ways. A walk visits only the rows of one list, and a change allocates nothing.
 //! A row leaves its list, or joins one at the end, in the same time whatever the length of the list.
 
-ghost use Rattle.std.specs.Prelude.{◌≡◌, ◌≢◌, ℕ, ◌<◌, Some, None, IsSome, IsSomeAnd, IfSome, nat_eq};
-ghost use Rattle.std.specs.Option.{option_map, option_copied, option_and_then};
+ghost use Rattle.std.specs.Prelude.{◌≡◌, ◌≢◌, ℕ, ◌<◌, Some, None, IsSomeAnd, IfSome, nat_eq};
+ghost use Rattle.std.specs.Option.{option_map};
 ghost use Rattle.std.specs.Map.{lookup};
 ghost use Rattle.slab.specs.Slab.{get, slab_len, ContainsKey};
 ghost use Rattle.proc_table.specs.Links.{keys, IsNext, IsLinked, members, at_least, forward, backward, hung};
 ghost use Rattle.lwp_table.specs.Chain.{IsNearest, up, down, below};
 ghost use Rattle.std.specs.Fn.{FnReturnsAt};
-ghost use Rattle.proc_table.specs.ListNodes.{links_in, put_links, no_links, other, pick, node_of, nodes_of, rows_of, slot_named, AreLinked, IsHead, IsFirst};
+ghost use Rattle.proc_table.specs.ListNodes.{links_in, put_links, no_links, other, pick, node_of, nodes_of, rows_of, AreLinked, IsHead, IsFirst};
 
 use crate::ProcData;
+use crate::lookups::{known_slot, slot_of};
 use lwp_table::{Hints, NumberIndex};
 use slab::Slab;
 
@@ -64,73 +65,6 @@ impl ListLinks {
             prev: None,
             next: None,
         }
-    }
-}
-
-/// Returns the slot of the row with this number, if any: the hinted one, or else the one to which the index leads.
-#[inline(always)]
-pub fn slot_of(
-    nodes: &Slab<RowNode>,
-    slots: &NumberIndex<usize>,
-    hints: &Hints,
-    number: u32,
-) -> Option<usize>
-    requires { (s : ℕ) (slot : RowNode) → get nodes.now s ≡ Some slot → lookup (nat_eq slot.row.pid) slots.now.entries ≡ Some s }
-    ensures { result ≡ slot_named (get nodes.now) slots.now.entries number }
-{
-    let hint = hints.slot(number);
-    match nodes.get(hint) {
-        Some(node) if node.row.pid.get() == number => Some(hint),
-        _ => indexed_slot(nodes, slots, number),
-    }
-}
-
-/// Returns the slot to which the index leads from this number, if its row has the number: it may have had it once.
-#[inline(never)]
-fn indexed_slot(nodes: &Slab<RowNode>, slots: &NumberIndex<usize>, number: u32) -> Option<usize>
-    ensures { result ≡ slot_named (get nodes.now) slots.now.entries number }
-{
-    let slot = *slots.get(&number)?;
-    if nodes.get(slot)?.row.pid.get() == number {
-        Some(slot)
-    } else {
-        None
-    }
-}
-
-/// Returns the node of the row with this number, if any. It is in the hinted slot, or else in that of the index.
-#[inline(always)]
-pub fn node_named<'a>(
-    nodes: &'a Slab<RowNode>,
-    slots: &NumberIndex<usize>,
-    hints: &Hints,
-    number: u32,
-) -> Option<&'a RowNode>
-    requires { (s : ℕ) (slot : RowNode) → get nodes.now s ≡ Some slot → lookup (nat_eq slot.row.pid) slots.now.entries ≡ Some s }
-    ensures { option_copied result ≡ option_and_then (get nodes.now) (slot_named (get nodes.now) slots.now.entries number) }
-{
-    match nodes.get(hints.slot(number)) {
-        Some(node) if node.row.pid.get() == number => Some(node),
-        _ => Some(&nodes[indexed_slot(nodes, slots, number)?]),
-    }
-}
-
-/// Returns the slot to which this number leads, which is one.
-#[inline(always)]
-pub fn known_slot(
-    nodes: &Slab<RowNode>,
-    slots: &NumberIndex<usize>,
-    hints: &Hints,
-    number: u32,
-) -> usize
-    requires listed { (s : ℕ) (slot : RowNode) → get nodes.now s ≡ Some slot → lookup (nat_eq slot.row.pid) slots.now.entries ≡ Some s }
-    requires there { IsSome (lookup (nat_eq number) slots.now.entries) }
-    ensures { lookup (nat_eq number) slots.now.entries ≡ Some result }
-{
-    let hint = hints.slot(number);
-    match nodes.get(hint) {
-        Some(node) if node.row.pid.get() == number => hint,
-        _ => *slots.get(&number).unwrap(),
     }
 }
 
@@ -324,7 +258,13 @@ fn unlink(nodes: &mut Slab<RowNode>, kin: ListKind, head: usize, list_owner: u32
 }
 
 /// Removes the row in `slot` from the list that contains it, if any.
-fn leave(nodes: &mut Slab<RowNode>, slots: &NumberIndex<usize>, kin: ListKind, slot: usize)
+fn leave(
+    nodes: &mut Slab<RowNode>,
+    slots: &NumberIndex<usize>,
+    hints: &Hints,
+    kin: ListKind,
+    slot: usize,
+)
     requires are_linked { AreLinked (get nodes.old) slots.now.entries }
     requires there { ContainsKey nodes.old slot }
     ensures are_linked { AreLinked (get nodes.new) slots.now.entries }
@@ -336,7 +276,7 @@ fn leave(nodes: &mut Slab<RowNode>, slots: &NumberIndex<usize>, kin: ListKind, s
     ensures capacity { nodes.new.capacity ≡ nodes.old.capacity }
 {
     if let Some(list_owner) = links_of(kin, &nodes[slot]).list_owner {
-        let head = slots[&list_owner];
+        let head = known_slot(nodes, slots, hints, list_owner);
         unlink(nodes, kin, head, list_owner, slot);
     }
 }
@@ -345,6 +285,7 @@ fn leave(nodes: &mut Slab<RowNode>, slots: &NumberIndex<usize>, kin: ListKind, s
 fn join(
     nodes: &mut Slab<RowNode>,
     slots: &NumberIndex<usize>,
+    hints: &Hints,
     kin: ListKind,
     slot: usize,
     list_owner: Option<u32>,
@@ -361,7 +302,7 @@ fn join(
     ensures capacity { nodes.new.capacity ≡ nodes.old.capacity }
 {
     if let Some(list_owner) = list_owner {
-        let head = slots[&list_owner];
+        let head = known_slot(nodes, slots, hints, list_owner);
         link(nodes, kin, head, list_owner, slot);
     }
 }
@@ -371,6 +312,7 @@ fn join(
 fn move_to_list(
     nodes: &mut Slab<RowNode>,
     slots: &NumberIndex<usize>,
+    hints: &Hints,
     kin: ListKind,
     slot: usize,
     list_owner: Option<u32>,
@@ -386,8 +328,8 @@ fn move_to_list(
     ensures len { slab_len nodes.new ≡ slab_len nodes.old }
     ensures capacity { nodes.new.capacity ≡ nodes.old.capacity }
 {
-    leave(nodes, slots, kin, slot);
-    join(nodes, slots, kin, slot, list_owner);
+    leave(nodes, slots, hints, kin, slot);
+    join(nodes, slots, hints, kin, slot, list_owner);
 }
 
 /// Moves the row in `slot` to the list of `list_owner`, or to none, if it isn't there yet. Allocates nothing.
@@ -395,6 +337,7 @@ fn move_to_list(
 pub fn update_list(
     nodes: &mut Slab<RowNode>,
     slots: &NumberIndex<usize>,
+    hints: &Hints,
     kin: ListKind,
     slot: usize,
     list_owner: Option<u32>,
@@ -411,7 +354,7 @@ pub fn update_list(
     ensures capacity { nodes.new.capacity ≡ nodes.old.capacity }
 {
     if links_of(kin, &nodes[slot]).list_owner != list_owner {
-        move_to_list(nodes, slots, kin, slot, list_owner);
+        move_to_list(nodes, slots, hints, kin, slot, list_owner);
     }
 }
 
@@ -419,6 +362,7 @@ pub fn update_list(
 pub fn update_lists(
     nodes: &mut Slab<RowNode>,
     slots: &NumberIndex<usize>,
+    hints: &Hints,
     slot: usize,
     tracer: Option<u32>,
     parent: Option<u32>,
@@ -433,8 +377,8 @@ pub fn update_lists(
     ensures len { slab_len nodes.new ≡ slab_len nodes.old }
     ensures capacity { nodes.new.capacity ≡ nodes.old.capacity }
 {
-    update_list(nodes, slots, ListKind::Tracees, slot, tracer);
-    update_list(nodes, slots, ListKind::Children, slot, parent);
+    update_list(nodes, slots, hints, ListKind::Tracees, slot, tracer);
+    update_list(nodes, slots, hints, ListKind::Children, slot, parent);
 }
 
 /// Returns the slot of the first row above `after` in the list of `list_owner`: by the link of `after` if that is

@@ -9,10 +9,8 @@ ghost use Rattle.proc_table.specs.Walks.{next_tracee, next_child, find_tracee, f
 ghost use Rattle.proc_table.specs.Kept.{InOwnBlock, put_process};
 
 use crate::ProcData;
-use crate::links::{
-    ListKind, ListLinks, RowNode, first_slot, known_slot, next_slot, node_named, slot_of,
-    update_lists,
-};
+use crate::links::{ListKind, ListLinks, RowNode, first_slot, next_slot, update_lists};
+use crate::lookups::{known_slot, node_named, noted_number, slot_of};
 use lwp_table::{Hints, NumberIndex};
 use pid_blocks::{Pid, Uid};
 use signals::SigSet;
@@ -47,17 +45,6 @@ fn unlinked(row: ProcData) -> RowNode
         row,
         tracees: ListLinks::none(),
         children: ListLinks::none(),
-    }
-}
-
-/// Returns the slot with another row.
-fn with_row(slot: &RowNode, row: ProcData) -> RowNode
-    ensures { result ≡ record slot.now { row = row } }
-{
-    RowNode {
-        row,
-        tracees: slot.tracees,
-        children: slot.children,
     }
 }
 
@@ -243,8 +230,16 @@ impl Processes {
         let parent = parent_of(&row);
         let slot = self.nodes.insert_reserved(unlinked(row));
         self.slots.insert(row.pid.get(), slot).unwrap();
-        self.hints.note(row.pid.get(), slot);
-        update_lists(&mut self.nodes, &self.slots, slot, tracer, parent);
+        let there = noted_number(&self.nodes, &self.hints, row.pid.get());
+        self.hints.note_new(row.pid.get(), slot, there);
+        update_lists(
+            &mut self.nodes,
+            &self.slots,
+            &self.hints,
+            slot,
+            tracer,
+            parent,
+        );
         self.counts[row.uid.slot()] += 1;
     }
 
@@ -261,11 +256,13 @@ impl Processes {
         update_lists(
             &mut self.nodes,
             &self.slots,
+            &self.hints,
             slot,
             tracer_of(&row),
             parent_of(&row),
         );
-        self.nodes[slot] = with_row(&self.nodes[slot], row);
+        let node = &mut self.nodes[slot];
+        node.row = row;
     }
 
     /// Replaces the pending signals of the row with this number, in its place.
@@ -290,7 +287,7 @@ impl Processes {
         let number = pid.get();
         // the number keeps its entry, which a row with the number takes again
         let slot = known_slot(&self.nodes, &self.slots, &self.hints, number);
-        update_lists(&mut self.nodes, &self.slots, slot, None, None);
+        update_lists(&mut self.nodes, &self.slots, &self.hints, slot, None, None);
         let gone = self.nodes.remove(slot);
         self.counts[gone.row.uid.slot()] -= 1;
     }

@@ -2,8 +2,8 @@ use Rattle.proc_table.proofs.CommonNames.{nat_tests, arith, None, get}
 use Rattle.proc_table.proofs.LinkedLists.{are_linked-moved}
 use Rattle.proc_table.proofs.links.leave.Goals as goal
 
-pub index-head-requires : goal.index-head-requires
-index-head-requires c = grind (arith, nat_tests, c.requires.are_linked.headed c.args.kin c.args.slot c.index.result.now c.in-Some.list_owner)
+pub known_slot-head-requires-clause-there : goal.known_slot-head-requires-clause-there
+known_slot-head-requires-clause-there c = grind (arith, nat_tests, c.requires.are_linked.headed c.args.kin c.args.slot c.index.result.now c.in-Some.list_owner)
 
 pub unlink-requires-clause-there : goal.unlink-requires-clause-there
 unlink-requires-clause-there c = grind (arith, nat_tests, c.requires.are_linked.headed c.args.kin c.args.slot c.index.result.now c.in-Some.list_owner)
