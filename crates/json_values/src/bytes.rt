@@ -6,6 +6,7 @@ ghost use Rattle.json.specs.Align.{is_blank};
 ghost use Rattle.json.specs.Lex.{between, class, lex};
 ghost use Rattle.json.specs.Run.{is_plain, is_stop};
 ghost use Rattle.json.specs.Word.{head, is_operator, is_space};
+ghost use Rattle.json_values.specs.Lexing.{piece};
 
 use std::simd::prelude::*;
 
@@ -18,17 +19,27 @@ pub(crate) fn byte_at(bytes: &[u8], at: usize) -> u8
     if at < bytes.len() { bytes[at] } else { b' ' }
 }
 
+/// Tests whether the bytes from a place on begin with these, byte by byte: the few of a known name are compared at once.
+#[inline(always)]
+pub(crate) fn is_at(bytes: &[u8], from: usize, name: &[u8]) -> bool
+    requires { from + length name.now ≤ length bytes.now }
+    ensures { result ≡ true → piece bytes.now from (from + length name.now) ≡ name.now }
+{
+    let mut count = 0;
+    while count < name.len() {
+        if bytes[from + count] != name[count] {
+            return false;
+        }
+        count += 1;
+    }
+    true
+}
+
 #[inline(always)]
 pub(crate) fn is_space(byte: u8) -> bool
     ensures { result ≡ is_blank (class byte) }
 {
     byte <= b' ' && matches!(byte, b' ' | b'\n' | b'\r' | b'\t')
-}
-
-/// Returns whether a byte is a digit or a minus.
-#[inline(always)]
-pub(crate) fn may_begin_number(byte: u8) -> bool {
-    byte.is_ascii_digit() || byte == b'-'
 }
 
 /// Returns whether a byte ends a number or a literal before it.

@@ -1,7 +1,7 @@
 //! The lexemes of a text, each read in its place.
-ghost use Rattle.std.specs.Prelude.{◌≡◌, ◌<◌, ◌≤◌, ◌∷◌, ℕ, List, [], length, drop, true, Some, None, IfSome, MatchOption, option_and_then, get_or};
+ghost use Rattle.std.specs.Prelude.{◌≡◌, ◌<◌, ◌≤◌, ◌∷◌, ℕ, List, [], length, drop, true, false, Some, None, IfSome, MatchOption, option_and_then, get_or};
 ghost use Rattle.json.specs.Align.{is_blank, is_good};
-ghost use Rattle.json.specs.Lex.{token, colon, operator, other, class, between, lex};
+ghost use Rattle.json.specs.Lex.{token, colon, operator, other, class, begins_colon, between, lex};
 ghost use Rattle.json.specs.Run.{is_plain};
 ghost use Rattle.std.specs.Bool.{MatchBool};
 ghost use Rattle.std.specs.List.{prefix_len};
@@ -13,7 +13,7 @@ ghost use Rattle.serde_json.specs.Find.{as_i64};
 ghost use Rattle.serde_json.specs.Read.{number_of};
 ghost use Rattle.json_values.specs.Lexing.{HasRoom, LiteralOf};
 
-use crate::bytes::{byte_at, is_delimiter, plain_end, spaces_end};
+use crate::bytes::{byte_at, is_at, is_delimiter, plain_end, spaces_end};
 use crate::escapes::unescape;
 use crate::words::{is_literal, number_end, short_number};
 use json::Token;
@@ -97,19 +97,44 @@ impl<'a> Lexer<'a> {
             ((head self.old ≡ 34) × (content plain (drop 1 self.old) ≡ Some name.now) × (drop 1 (lex between self.old) ≡ colon ∷ lex between self.new))
             (self.new ≡ self.old) }
     {
+        let bytes = self.text.as_bytes();
+        let start = self.at + 1;
+        let stop = start + name.len();
+        if stop + 1 >= bytes.len()
+            || bytes[stop + 1] != b':'
+            || bytes[stop] != b'"'
+            || bytes[start - 1] != b'"'
+            || !is_at(bytes, start, name.as_bytes())
+        {
+            return false;
+        }
+        self.at = spaces_end(bytes, stop + 2);
+        true
+    }
+
+    /// Takes a string with no escape and no colon behind it. `None` leaves open what is there.
+    #[inline(always)]
+    #[tactic(auto, using(crate::proofs::Texts::strings_read))]
+    pub(crate) fn plain_string(&mut self) -> Option<&'a str>
+        ensures { MatchOption result (self.new ≡ self.old) (λ s. (head self.old ≡ 34) × (content plain (drop 1 self.old) ≡ Some s.now)
+            × (lex between self.new ≡ drop 1 (lex between self.old)) × (begins_colon (lex between self.new) ≡ false)) }
+    {
+        if self.peek() != b'"' {
+            return None;
+        }
         let text = self.text;
         let bytes = text.as_bytes();
         let start = self.at + 1;
-        let stop = start + name.len();
-        if byte_at(bytes, stop + 1) != b':' || byte_at(bytes, stop) != b'"' || self.peek() != b'"' {
-            return false;
+        let stop = plain_end(bytes, start);
+        if byte_at(bytes, stop) != b'"' {
+            return None;
         }
-        if &text[start..stop] == name {
-            self.at = spaces_end(bytes, stop + 2);
-            true
-        } else {
-            false
+        let end = spaces_end(bytes, stop + 1);
+        if byte_at(bytes, end) == b':' {
+            return None;
         }
+        self.at = end;
+        Some(&text[start..stop])
     }
 
     /// Takes a string of a text with escapes.

@@ -21,6 +21,7 @@ mod tokens;
 mod words;
 
 pub use scalars::{
-    Opening, Scalar, next_scalar, open_item, open_value, pass_items, pass_members, pass_value,
+    Opening, Scalar, common_scalar, next_scalar, open_item, open_value, pass_items, pass_members,
+    pass_value,
 };
 pub use tokens::Tokens;

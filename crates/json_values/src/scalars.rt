@@ -1,9 +1,9 @@
 //! Values that are read without an allocation.
-ghost use Rattle.std.specs.Prelude.{◌≡◌, ◌<◌, ℕ, None, Some, IfOk, OnOk, OnErr, MatchResult, length};
+ghost use Rattle.std.specs.Prelude.{◌≡◌, ◌<◌, ℕ, None, Some, IfOk, IfSome, OnOk, OnErr, MatchOption, MatchResult, length};
 ghost use Rattle.json.specs.Json.{value};
 ghost use Rattle.serde_json.specs.Data.{Data};
 ghost use Rattle.serde_json.specs.Read.{of_json, number_of, converted};
-ghost use Rattle.json_values.specs.Reading.{IsNumber, Opens, Says, read_items, read_members, rest};
+ghost use Rattle.json_values.specs.Reading.{IsNumber, IsScalar, Opens, Says, read_items, read_members, rest};
 
 use crate::numbers::number;
 use crate::tokens::Tokens;
@@ -41,6 +41,21 @@ fn number_scalar<'a>(text: &str) -> Result<Scalar<'a>, Invalid>
     }
 }
 
+/// Takes a whole number of few digits or a string without escapes, as nearly all values are. `None` leaves open what comes
+/// next.
+#[inline(always)]
+#[tactic(auto, using(crate::proofs::FirstTokens::first_tokens))]
+pub fn common_scalar<'a>(reader: &mut Tokens<'a>) -> Option<Scalar<'a>>
+    ensures scalar { MatchOption result (reader.new ≡ reader.old) (λ s. IsScalar s reader.old reader.new) }
+    ensures shorter { IfSome result (λ _. length reader.new < length reader.old) }
+{
+    if let Some(text) = reader.next_text() {
+        return Some(Scalar::Text(text));
+    }
+    let integer = reader.next_integer()?;
+    Some(Scalar::Integer(integer))
+}
+
 /// Takes the bracket that opens an array, the brace that opens an object, or a whole value of another kind.
 #[inline(always)]
 #[tactic(auto, using(crate::proofs::FirstTokens::first_tokens))]
@@ -49,8 +64,8 @@ pub fn open_value<'a>(reader: &mut Tokens<'a>) -> Result<Opening<'a>, Invalid>
     ensures shorter { OnOk result (length reader.new < length reader.old) }
     ensures invalid { OnErr result ((depth : ℕ) → converted of_json (value depth reader.old) ≡ None) }
 {
-    if let Some(integer) = reader.next_integer() {
-        return Ok(Opening::Scalar(Scalar::Integer(integer)));
+    if let Some(scalar) = common_scalar(reader) {
+        return Ok(Opening::Scalar(scalar));
     }
     let token = reader.next().ok_or(Invalid)?;
     match token {
@@ -80,8 +95,22 @@ pub fn open_item<'a>(reader: &mut Tokens<'a>) -> Result<Opening<'a>, Invalid>
 /// is at some later token, or has no more tokens.
 #[cycle(pass)]
 #[inline(always)]
-#[tactic(auto, using(crate::proofs::FirstTokens::passed_over))]
 pub fn next_scalar<'a>(reader: &mut Tokens<'a>, depth: usize) -> Result<Scalar<'a>, Invalid>
+    ensures ok { IfOk result (λ s. (d : Data) × (converted of_json (value depth reader.old) ≡ Some (d, reader.new)) × Says s d) }
+    ensures shorter { OnOk result (length reader.new < length reader.old) }
+    ensures invalid { OnErr result (converted of_json (value depth reader.old) ≡ None) }
+{
+    match common_scalar(reader) {
+        Some(scalar) => Ok(scalar),
+        None => uncommon_scalar(reader, depth),
+    }
+}
+
+/// Does what `next_scalar` does, for any value.
+#[cycle(pass)]
+#[inline(never)]
+#[tactic(auto, using(crate::proofs::FirstTokens::passed_over))]
+fn uncommon_scalar<'a>(reader: &mut Tokens<'a>, depth: usize) -> Result<Scalar<'a>, Invalid>
     ensures ok { IfOk result (λ s. (d : Data) × (converted of_json (value depth reader.old) ≡ Some (d, reader.new)) × Says s d) }
     ensures shorter { OnOk result (length reader.new < length reader.old) }
     ensures invalid { OnErr result (converted of_json (value depth reader.old) ≡ None) }

@@ -6,12 +6,11 @@ ghost use Rattle.json.specs.Json.{after_end_array, read_key};
 ghost use Rattle.json.specs.Lex.{tokens};
 ghost use Rattle.json.specs.Reads.{Yields};
 ghost use Rattle.json.specs.Run.{is_plain};
-ghost use Rattle.json.specs.Token.{begin_object, number};
+ghost use Rattle.json.specs.Token.{begin_object, number, string};
 ghost use Rattle.serde_json.specs.Find.{as_i64};
 ghost use Rattle.serde_json.specs.Read.{number_of};
 ghost use Rattle.json_values.specs.Lexing.{HasRoom};
 
-use crate::bytes::may_begin_number;
 use crate::lexer::Lexer;
 use crate::punctuation::{Place, after_value, read};
 use json::{Invalid, Token};
@@ -85,7 +84,7 @@ impl<'a> Tokens<'a> {
     pub fn next_integer(&mut self) -> Option<i64>
         ensures { MatchOption result (self.new ≡ self.old) (λ z. (s : List ℕ) × (self.old ≡ number s ∷ self.new) × (option_and_then as_i64 (number_of s) ≡ Some z)) }
     {
-        if !self.place.may_begin() || !may_begin_number(self.lexer.peek()) {
+        if !self.place.may_begin() {
             return None;
         }
         let integer = self.lexer.integer();
@@ -93,6 +92,23 @@ impl<'a> Tokens<'a> {
             self.place = after_value(&mut self.lexer);
         }
         integer
+    }
+
+    /// Takes the next token if it is a string without escapes, as nearly all are. `None` leaves open what the next token
+    /// is.
+    #[inline(always)]
+    #[tactic(auto, using(crate::proofs::Places::on_some, crate::proofs::Places::a_string))]
+    pub fn next_text(&mut self) -> Option<&'a str>
+        ensures { MatchOption result (self.new ≡ self.old) (λ s. self.old ≡ string s.now ∷ self.new) }
+    {
+        if !self.place.may_begin() {
+            return None;
+        }
+        let text = self.lexer.plain_string();
+        if text.is_some() {
+            self.place = after_value(&mut self.lexer);
+        }
+        text
     }
 
     /// Takes this key, if it comes next as it is, with no space before its colon and no escape. `false` leaves open what

@@ -110,7 +110,7 @@ pub(crate) fn is_literal(bytes: &[u8], from: usize, name: &[u8]) -> bool
 /// Numbers with so many digits, or more, are read elsewhere.
 const MANY_DIGITS: usize = 18;
 
-/// Returns the number that the digits at a place write and where they end, if they are few. `None` leaves it open.
+/// Returns the number that the digits at a place write, and their end. `None` leaves it open: there are none, or many.
 #[inline(always)]
 fn few_digits(bytes: &[u8], from: usize) -> Option<(u64, usize)>
     requires { from ≤ length bytes.now }

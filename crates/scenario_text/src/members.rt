@@ -52,6 +52,7 @@ fn request_in(atom: &Scalar<'_>) -> Result<Request, KeyError>
 }
 
 /// Sets what a key says whose value is a whole number or a text.
+#[inline(always)]
 fn set(fields: &mut Fields, key: Key, atom: &Scalar<'_>)
     ensures { fields.new ≡ with_atom key (atom_in atom.now) fields.old }
 {

@@ -2,13 +2,16 @@ use Rattle.json_values.proofs.CommonNames.{◌≡◌, ℕ, ◌+◌, ◌*◌, ◌
 use Rattle.json_values.proofs.scalars.+pass.Given as goal
 
 abbrev pub decreases-next_scalar : goal.decreases-next_scalar
-decreases-next_scalar l = 2 * l.depth
+decreases-next_scalar l = 3 * l.depth + 1
+
+abbrev pub decreases-uncommon_scalar : goal.decreases-uncommon_scalar
+decreases-uncommon_scalar l = 3 * l.depth
 
 abbrev pub decreases-pass_items : goal.decreases-pass_items
-decreases-pass_items l = 2 * l.depth + 1
+decreases-pass_items l = 3 * l.depth + 2
 
 abbrev pub decreases-pass_members : goal.decreases-pass_members
-decreases-pass_members l = 2 * l.depth + 1
+decreases-pass_members l = 3 * l.depth + 2
 
 abbrev pub invariant-pass_items-loop-reader : goal.invariant-pass_items-loop-reader
 invariant-pass_items-loop-reader l =
