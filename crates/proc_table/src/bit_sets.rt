@@ -50,9 +50,11 @@ impl Clone for NumberSet {
     ghost is_clone = { λ set copy. copy.pages ≡ set.pages };
 
     fn clone(&self) -> Result<NumberSet, AllocError> {
+        let mut pages = Vec::with_capacity(*self.pages.allocator(), self.pages.len())?;
+        pages.extend_from_slice(self.pages.as_slice())?;
         Ok(NumberSet {
             indices: self.indices,
-            pages: self.pages.clone()?,
+            pages,
         })
     }
 }
