@@ -261,7 +261,7 @@ impl Tables {
     {
         let block = pid_block(uid);
         let first = after.saturating_add(1).max(block.first) - FIRST_PID;
-        set.next(true, first, block.first + block.size - FIRST_PID)
+        set.next(first, block.first + block.size - FIRST_PID)
     }
 
     /// Returns the number of the user's first process above a number, if any. It looks at no row.
