@@ -1,7 +1,7 @@
 //! The lists of each process's tracees and children. They run through the slots of the rows, in rising
 //! order of pid, with links both ways. A walk visits only the rows of one list, and a change allocates nothing.
-//! A row leaves its list, or joins one at the end or next to the number before its own, in the same time whatever the
-//! length of the list.
+//! A row leaves its list, or joins one at the end or right after the number before its own, in the same time whatever
+//! the length of the list.
 
 ghost use Rattle.std.specs.Prelude.{◌≡◌, ◌≢◌, ℕ, ◌+◌, ◌<◌, Some, None, IsSomeAnd, IfSome, nat_eq};
 ghost use Rattle.std.specs.Option.{option_map};
@@ -98,7 +98,7 @@ fn set_links(nodes: &mut Slab<RowNode>, kin: ListKind, at: usize, links: ListLin
 }
 
 /// Returns the place after the row with this number, if the row is in the list of `list_owner`.
-#[inline(always)]
+#[inline(never)]
 fn place_after(
     nodes: &Slab<RowNode>,
     slots: &NumberIndex<usize>,
@@ -123,8 +123,9 @@ fn place_after(
     }
 }
 
-/// Returns the place of `pid` in the list of `list_owner`, whose head is in this slot. It looks at the last row and at
-/// the row with the number before it walks, since numbers mostly rise and most lists have no gaps.
+/// Returns the place of `pid` in the list of `list_owner`, whose head is in this slot. Before it walks, it looks at the
+/// last row, and then at the row whose number is one less: numbers mostly rise, and most lists have no gaps.
+#[inline(always)]
 pub fn place_of(
     nodes: &Slab<RowNode>,
     slots: &NumberIndex<usize>,
