@@ -1,9 +1,9 @@
 -- Words with one bit changed, and the places of bits.
-use Rattle.std.proofs.Common.{◌≡◌, ◌≢◌, ℕ, ◌<◌, ◌≤◌, ◌+◌, ◌-◌, ◌*◌, ◌/◌, ◌%◌, ◌^◌, ◌==◌, Bool, true, false, not, List, length, get_or, set, w64, ap, sym, ◌∙◌, arith, if◌then◌else◌}
+use Rattle.std.proofs.Common.{◌≡◌, ◌≢◌, ℕ, ◌<◌, ◌≤◌, ◌+◌, ◌-◌, ◌*◌, ◌/◌, ◌%◌, ◌^◌, ◌==◌, true, false, List, length, get_or, set, ap, sym, ◌∙◌, arith}
 use Rattle.std.proofs.Common.{[], ◌∷◌, ◌++◌, replicate, subst, length-append, length-set}
 use Rattle.std.proofs.lemmas.Bool.Decides.{nat_tests}
 use Rattle.std.proofs.lemmas.List.{get_or-set_same, get_or-set_other, get_or-replicate, get_or_past, get_or_append_left, length-replicate}
-use Rattle.{std.{proofs.lemmas.Nat.{shr-shr, Bits.{bit_at-lt, bit_at_not, bit_at_above, bit_at-zero}}, specs.Int.bit_at}, lwp_table.{specs.Places.{placed, ArePlaced}, proofs.PlaceLemmas.{few, free, value_at, long_placed, replaced, are_with, placed_with, last_added}}, proc_table.specs.Members.{has_bit, member, word_at, IsBegun, IsPaged}}
+use Rattle.{std.{proofs.lemmas.Nat.{shr-shr, Bits.{bit_at_above, bit_at-zero}}, specs.Int.bit_at}, lwp_table.{specs.Places.{placed, ArePlaced}, proofs.PlaceLemmas.{few, free, value_at, long_placed, replaced, are_with, placed_with, last_added}}, proc_table.specs.Members.{has_bit, member, word_at, IsBegun, IsPaged}}
 
 -- a set without pages has no number
 pub no_member : (n : ℕ) → member (replicate 64 []) n ≡ false
@@ -134,23 +134,13 @@ has_bit-up word from i low =
     let e : from + (i - from) ≡ i = omega arith in
     ap (has_bit word) (sym e) ∙ sym (has_bit-shifted word from (i - from))
 
--- the complement's bits
-pub has_bit-not : (word i : ℕ) → word < 2 ^ 64 → i < 64 → has_bit (18446744073709551615 - word) i ≡ not (has_bit word i)
-has_bit-not word i fits below = grind (arith, bit_at_not w64 word i fits below, bit_at-lt word i)
-
--- the numbers of a word, by the word's marks
-abbrev pub Marks : List (List ℕ) → ℕ → Bool → ℕ → Type 0
-Marks pages at wanted word = (i : ℕ) → i < 64
-    → has_bit word i ≡ (if wanted then has_bit (word_at pages (at / 64)) i else not (has_bit (word_at pages (at / 64)) i))
-
 member-at : (pages : List (List ℕ)) (at n i : ℕ) → n / 64 ≡ at / 64 → n % 64 ≡ i → member pages n ≡ has_bit (word_at pages (at / 64)) i
 member-at pages at n i word place = ap (λ w. has_bit (word_at pages w) (n % 64)) word ∙ ap (has_bit (word_at pages (at / 64))) place
 
-pub next-here : (pages : List (List ℕ)) (at place word : ℕ) (wanted : Bool) → Marks pages at wanted word → place < 64
-    → has_bit word place ≡ true → member pages (at / 64 * 64 + place) ≡ wanted
-next-here pages at place word wanted marks below one = grind (arith, member-at pages at (at / 64 * 64 + place) place, marks place below)
+pub next-here : (pages : List (List ℕ)) (at place : ℕ) → place < 64 → has_bit (word_at pages (at / 64)) place ≡ true → member pages (at / 64 * 64 + place) ≡ true
+next-here pages at place below one = grind (arith, member-at pages at (at / 64 * 64 + place) place)
 
-pub next-before : (pages : List (List ℕ)) (at place word : ℕ) (wanted : Bool) → Marks pages at wanted word → place < 64
-    → ((i : ℕ) → at % 64 ≤ i → i < place → has_bit word i ≡ false)
-    → (n : ℕ) → at ≤ n → n < at / 64 * 64 + place → member pages n ≡ not wanted
-next-before pages at place word wanted marks below none n low high = grind (arith, member-at pages at n (n % 64), marks (n % 64), none (n % 64))
+pub next-before : (pages : List (List ℕ)) (at place : ℕ) → place < 64
+    → ((i : ℕ) → at % 64 ≤ i → i < place → has_bit (word_at pages (at / 64)) i ≡ false)
+    → (n : ℕ) → at ≤ n → n < at / 64 * 64 + place → member pages n ≡ false
+next-before pages at place below none n low high = grind (arith, member-at pages at n (n % 64), none (n % 64))

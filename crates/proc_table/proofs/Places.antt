@@ -1,5 +1,5 @@
--- The place of a number in a list, by a walk from the first member.
-use Rattle.proc_table.proofs.CommonNames.{nat_tests, ◌≡◌, ℕ, ◌<◌, ◌≤◌, Option, Some, None, arith, IsNearest, up, down, anywhere, above, below, at_least}
+-- The place of a number in a list: by a walk from the first member, or after the member with the number before.
+use Rattle.proc_table.proofs.CommonNames.{nat_tests, ◌≡◌, ℕ, ◌+◌, ◌<◌, ◌≤◌, Option, Some, None, arith, IsNearest, up, down, anywhere, above, below, at_least}
 use Rattle.lwp_table.specs.Chain.{Node}
 
 -- the numbers up to this one
@@ -34,3 +34,7 @@ module _ (m : ℕ → Option Node) (t pid : ℕ) where
     -- and ends before a member whose number isn't less, or after all
     pub place-found : (next : Option ℕ) → (walk : HasPassed m t pid passed prev next) → ((j : ℕ) (node : Node) → m j ≡ Some node → node.list ≡ t → passed < node.key → pid ≤ node.key) → IsPlace m t pid prev next
     place-found next walk past = grind (arith, nat_tests)
+
+-- the place after a member, by its link
+pub place-next : (m : ℕ → Option Node) (t s : ℕ) (node : Node) → m s ≡ Some node → node.list ≡ t → IsNearest up m t (above node.key) node.next → IsPlace m t (node.key + 1) (Some s) node.next
+place-next m t s node there its near = grind (arith, nat_tests)

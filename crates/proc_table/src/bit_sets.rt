@@ -4,7 +4,7 @@
 //! next number of the set by whole words of 64 bits. A page gets its memory with its first number, so the set of a few
 //! users' processes is small.
 
-ghost use Rattle.std.specs.Prelude.{◌≡◌, ◌≢◌, ℕ, ◌+◌, ◌<◌, ◌≤◌, true, false, not, ◌/◌, IfSome, IfNone, OnOk, if◌then◌else◌};
+ghost use Rattle.std.specs.Prelude.{◌≡◌, ◌≢◌, ℕ, ◌+◌, ◌<◌, ◌≤◌, true, false, ◌/◌, IfSome, IfNone, OnOk};
 ghost use Rattle.proc_table.specs.Members.{has_bit, member, word_at, max_number, IsBegun};
 
 use std::alloc::{AllocError, Global};
@@ -50,18 +50,13 @@ impl Clone for NumberSet {
     ghost is_clone = { λ set copy. copy.pages ≡ set.pages };
 
     fn clone(&self) -> Result<NumberSet, AllocError> {
+        let mut pages = Vec::with_capacity(*self.pages.allocator(), self.pages.len())?;
+        pages.extend_from_slice(self.pages.as_slice())?;
         Ok(NumberSet {
             indices: self.indices,
-            pages: self.pages.clone()?,
+            pages,
         })
     }
-}
-
-/// Returns the word if `wanted`, or else its complement.
-fn marks(word: u64, wanted: bool) -> u64
-    ensures { (i : ℕ) → i < 64 → has_bit result i ≡ (if wanted then has_bit word i else not (has_bit word i)) }
-{
-    if wanted { word } else { !word }
 }
 
 /// Returns the first place, from `from` on, at which the word has a 1.
@@ -171,18 +166,17 @@ impl NumberSet {
         self.set_word(k, if is_member { word | bit } else { word & !bit });
     }
 
-    /// Returns the first number from `from` to below `end` that is in the set, or, unless `wanted`, that isn't.
-    pub fn next(&self, wanted: bool, from: u32, end: u32) -> Option<u32>
+    /// Returns the first number from `from` to below `end` that is in the set.
+    pub fn next(&self, from: u32, end: u32) -> Option<u32>
         requires { end ≤ max_number }
-        ensures some { IfSome result (λ r. (from ≤ r) × (r < end) × (member self.now.pages r ≡ wanted)
-            × ((n : ℕ) → from ≤ n → n < r → member self.now.pages n ≡ not wanted)) }
-        ensures none { IfNone result ((n : ℕ) → from ≤ n → n < end → member self.now.pages n ≡ not wanted) }
+        ensures some { IfSome result (λ r. (from ≤ r) × (r < end) × (member self.now.pages r ≡ true)
+            × ((n : ℕ) → from ≤ n → n < r → member self.now.pages n ≡ false)) }
+        ensures none { IfNone result ((n : ℕ) → from ≤ n → n < end → member self.now.pages n ≡ false) }
     {
         let mut at = from;
         while at < end {
             let base = at / WIDTH * WIDTH;
-            let word = marks(self.word(at / WIDTH), wanted);
-            if let Some(place) = first_one(word, at % WIDTH) {
+            if let Some(place) = first_one(self.word(at / WIDTH), at % WIDTH) {
                 let number = base + place;
                 return if number < end { Some(number) } else { None };
             }

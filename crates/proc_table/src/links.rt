@@ -1,8 +1,9 @@
 //! The lists of each process's tracees and children. They run through the slots of the rows, in rising
 //! order of pid, with links both ways. A walk visits only the rows of one list, and a change allocates nothing.
-//! A row leaves its list, or joins one at the end, in the same time whatever the length of the list.
+//! A row leaves its list, or joins one at the end or right after the number before its own, in the same time whatever
+//! the length of the list.
 
-ghost use Rattle.std.specs.Prelude.{◌≡◌, ◌≢◌, ℕ, ◌<◌, Some, None, IsSomeAnd, IfSome, nat_eq};
+ghost use Rattle.std.specs.Prelude.{◌≡◌, ◌≢◌, ℕ, ◌+◌, ◌<◌, Some, None, IsSomeAnd, IfSome, nat_eq};
 ghost use Rattle.std.specs.Option.{option_map};
 ghost use Rattle.std.specs.Map.{lookup};
 ghost use Rattle.slab.specs.Slab.{get, slab_len, ContainsKey};
@@ -96,16 +97,45 @@ fn set_links(nodes: &mut Slab<RowNode>, kin: ListKind, at: usize, links: ListLin
     }
 }
 
-/// Returns the place of `pid` in the list of `list_owner`, whose head is in this slot. It looks at the last row
-/// before it walks, since numbers mostly rise.
+/// Returns the place after the row with this number, if the row is in the list of `list_owner`.
+#[inline(never)]
+fn place_after(
+    nodes: &Slab<RowNode>,
+    slots: &NumberIndex<usize>,
+    hints: &Hints,
+    kin: ListKind,
+    list_owner: u32,
+    number: u32,
+) -> Option<Place>
+    requires are_linked { AreLinked (get nodes.now) slots.now.entries }
+    ensures prev { IfSome result (λ place. IsNearest down (members (nodes_of kin (get nodes.now))) list_owner (below (number + 1)) place.prev) }
+    ensures next { IfSome result (λ place. IsNearest up (members (nodes_of kin (get nodes.now))) list_owner (at_least (number + 1)) place.next) }
+{
+    let at = slot_of(nodes, slots, hints, number)?;
+    let links = links_of(kin, &nodes[at]);
+    if links.list_owner == Some(list_owner) {
+        Some(Place {
+            prev: Some(at),
+            next: links.next,
+        })
+    } else {
+        None
+    }
+}
+
+/// Returns the place of `pid` in the list of `list_owner`, whose head is in this slot. Before it walks, it looks at the
+/// last row, and then at the row whose number is one less: numbers mostly rise, and most lists have no gaps.
+#[inline(always)]
 pub fn place_of(
     nodes: &Slab<RowNode>,
+    slots: &NumberIndex<usize>,
+    hints: &Hints,
     kin: ListKind,
     head: usize,
     list_owner: u32,
     pid: u32,
 ) -> Place
-    requires linked { IsLinked (nodes_of kin (get nodes.now)) }
+    requires are_linked { AreLinked (get nodes.now) slots.now.entries }
     requires there { IsHead (get nodes.now) head list_owner }
     requires positive { 0 < pid }
     ensures prev { IsNearest down (members (nodes_of kin (get nodes.now))) list_owner (below pid) result.prev }
@@ -118,6 +148,9 @@ pub fn place_of(
                 prev: ends.last,
                 next: None,
             };
+        }
+        if let Some(place) = place_after(nodes, slots, hints, kin, list_owner, pid - 1) {
+            return place;
         }
     }
     let mut passed = 0;
@@ -219,8 +252,16 @@ fn hang(
 }
 
 /// Adds the row in `slot`, which is in no list, to the list of `list_owner`.
-fn link(nodes: &mut Slab<RowNode>, kin: ListKind, head: usize, list_owner: u32, slot: usize)
-    requires linked { IsLinked (nodes_of kin (get nodes.old)) }
+fn link(
+    nodes: &mut Slab<RowNode>,
+    slots: &NumberIndex<usize>,
+    hints: &Hints,
+    kin: ListKind,
+    head: usize,
+    list_owner: u32,
+    slot: usize,
+)
+    requires are_linked { AreLinked (get nodes.old) slots.now.entries }
     requires there { IsHead (get nodes.old) head list_owner }
     requires free { IsSomeAnd (get nodes.old slot) (λ was. (node_of kin was).list_owner ≡ None) }
     ensures linked { IsLinked (nodes_of kin (get nodes.new)) }
@@ -232,7 +273,7 @@ fn link(nodes: &mut Slab<RowNode>, kin: ListKind, head: usize, list_owner: u32, 
     ensures capacity { nodes.new.capacity ≡ nodes.old.capacity }
 {
     let pid = nodes[slot].row.pid.get();
-    let place = place_of(nodes, kin, head, list_owner, pid);
+    let place = place_of(nodes, slots, hints, kin, head, list_owner, pid);
     set_next(nodes, kin, head, place.prev, Some(slot));
     set_prev(nodes, kin, head, place.next, Some(slot));
     hang(nodes, kin, slot, Some(list_owner), place.prev, place.next);
@@ -303,7 +344,7 @@ fn join(
 {
     if let Some(list_owner) = list_owner {
         let head = known_slot(nodes, slots, hints, list_owner);
-        link(nodes, kin, head, list_owner, slot);
+        link(nodes, slots, hints, kin, head, list_owner, slot);
     }
 }
 
@@ -381,8 +422,7 @@ pub fn update_lists(
     update_list(nodes, slots, hints, ListKind::Children, slot, parent);
 }
 
-/// Returns the slot of the first row above `after` in the list of `list_owner`: by the link of `after` if that is
-/// in the list, and else by a walk of the list.
+/// Returns the slot of the first row above `after` in the list of `list_owner`.
 #[inline(always)]
 pub fn next_slot(
     nodes: &Slab<RowNode>,
@@ -401,13 +441,8 @@ pub fn next_slot(
     if after == 0 {
         return links_of(kin, &nodes[head]).first;
     }
-    if let Some(at) = slot_of(nodes, slots, hints, after) {
-        let links = links_of(kin, &nodes[at]);
-        if links.list_owner == Some(list_owner) {
-            return links.next;
-        }
-    }
-    place_of(nodes, kin, head, list_owner, after.saturating_add(1)).next
+    let number = after.saturating_add(1);
+    place_of(nodes, slots, hints, kin, head, list_owner, number).next
 }
 
 /// Returns the slot of the first row in the list of `list_owner` that passes the test, if any. No row is copied.

@@ -8,14 +8,14 @@ use Rattle.proc_table.proofs.links.place_of.Goals as goal
 pub index-requires-in-Some : goal.index-requires-in-Some
 index-requires-in-Some c =
     let f = get c.args.nodes.now in
-    let list = list-ends c.args.kin f c.requires.linked c.args.head c.args.list_owner c.index.result.now c.links_of-ends.result c.index.ensures (rw c.index.ensures at c.requires.there) c.links_of-ends.ensures in
+    let list = list-ends c.args.kin f (c.requires.are_linked.linked c.args.kin) c.args.head c.args.list_owner c.index.result.now c.links_of-ends.result c.index.ensures (rw c.index.ensures at c.requires.there) c.links_of-ends.ensures in
     link-there down c.args.kin f c.args.list_owner anywhere (Some c.in-Some.last) (rw c.in-Some.is at list.last_is)
 
 -- the place after the last row
 at_end : (c : After-get) → c.get.result < c.args.pid → IsPlace (members (nodes_of c.args.kin (get c.args.nodes.now))) c.args.list_owner c.args.pid (Some c.in-Some.last) None
 at_end c less =
     let f = get c.args.nodes.now in
-    let list = list-ends c.args.kin f c.requires.linked c.args.head c.args.list_owner c.index.result.now c.links_of-ends.result c.index.ensures (rw c.index.ensures at c.requires.there) c.links_of-ends.ensures in
+    let list = list-ends c.args.kin f (c.requires.are_linked.linked c.args.kin) c.args.head c.args.list_owner c.index.result.now c.links_of-ends.result c.index.ensures (rw c.index.ensures at c.requires.there) c.links_of-ends.ensures in
     let last : IsNearest down (members (nodes_of c.args.kin f)) c.args.list_owner anywhere (Some c.in-Some.last) = rw c.in-Some.is at list.last_is in
     let its = member-row c.args.kin f c.in-Some.last last.0 c.index-in-Some.result.now last.1 c.index-in-Some.ensures in
     place-last (members (nodes_of c.args.kin f)) c.args.list_owner c.args.pid c.in-Some.last last (omega (arith, less, c.get.ensures.number, ap (λ n. n.key) its))
@@ -29,8 +29,8 @@ returns-then-get-pid-clause-next c = (at_end (goal.at.returns-then-get-pid-claus
 pub loop-next-init : goal.loop-next-init
 loop-next-init c =
     let f = get c.args.nodes.now in
-    let list = list-ends c.args.kin f c.requires.linked c.args.head c.args.list_owner c.index.result.now c.links_of-ends.result c.index.ensures (rw c.index.ensures at c.requires.there) c.links_of-ends.ensures in
-    passing-first (members (nodes_of c.args.kin f)) c.args.list_owner c.args.pid c.links_of-ends.result.first (positive-members (nodes_of c.args.kin f) c.requires.linked) c.requires.positive list.first_is
+    let list = list-ends c.args.kin f (c.requires.are_linked.linked c.args.kin) c.args.head c.args.list_owner c.index.result.now c.links_of-ends.result c.index.ensures (rw c.index.ensures at c.requires.there) c.links_of-ends.ensures in
+    passing-first (members (nodes_of c.args.kin f)) c.args.list_owner c.args.pid c.links_of-ends.result.first (positive-members (nodes_of c.args.kin f) (c.requires.are_linked.linked c.args.kin)) c.requires.positive list.first_is
 
 pub returns-then-number-pid-clause-prev : goal.returns-then-number-pid-clause-prev
 returns-then-number-pid-clause-prev c = grind (arith, nat_tests, member-row, place-found)
@@ -38,7 +38,7 @@ returns-then-number-pid-clause-prev c = grind (arith, nat_tests, member-row, pla
 pub loop-next-preserved : goal.loop-next-preserved
 loop-next-preserved c =
     let f = get c.args.nodes.now in
-    let list = list-ends c.args.kin f c.requires.linked c.args.head c.args.list_owner c.index.result.now c.links_of-ends.result c.index.ensures (rw c.index.ensures at c.requires.there) c.links_of-ends.ensures in
+    let list = list-ends c.args.kin f (c.requires.are_linked.linked c.args.kin) c.args.head c.args.list_owner c.index.result.now c.links_of-ends.result c.index.ensures (rw c.index.ensures at c.requires.there) c.links_of-ends.ensures in
     let walk = rw c.in-Some-next.is at c.loop-next.invariant in
     let near = walk.next_is in
     let its = member-row c.args.kin f c.in-Some-next.slot near.0 c.index-in-Some-next.result.now near.1 c.index-in-Some-next.ensures in
