@@ -6,7 +6,7 @@ ghost use Rattle.json.specs.Json.{after_end_array, read_key};
 ghost use Rattle.json.specs.Lex.{tokens};
 ghost use Rattle.json.specs.Reads.{Yields};
 ghost use Rattle.json.specs.Run.{is_plain};
-ghost use Rattle.json.specs.Token.{begin_object, number, string};
+ghost use Rattle.json.specs.Token.{begin_object, end_object, number, string};
 ghost use Rattle.serde_json.specs.Find.{as_i64};
 ghost use Rattle.serde_json.specs.Read.{number_of};
 ghost use Rattle.json_values.specs.Lexing.{HasRoom};
@@ -131,12 +131,29 @@ impl<'a> Tokens<'a> {
     pub fn next_key(&mut self) -> Result<Option<&'a str>, Invalid>
         ensures value { MatchResult result (λ k. read_key self.old ≡ Some (option_map (λ s. s.now) k, self.new)) (λ _. read_key self.old ≡ None) }
     {
+        if self.take_end_object() {
+            return Ok(None);
+        }
         let token = self.next().ok_or(Invalid)?;
         match token {
             Token::Key(key) => Ok(Some(key)),
             Token::EndObject => Ok(None),
             _ => Err(Invalid),
         }
+    }
+
+    /// Takes the brace that closes an object, if it is next.
+    #[inline(always)]
+    #[tactic(auto, using(crate::proofs::Places::closes_object))]
+    fn take_end_object(&mut self) -> bool
+        ensures { MatchBool result (self.old ≡ end_object ∷ self.new) (self.new ≡ self.old) }
+    {
+        if self.lexer.peek() != b'}' || !self.place.may_close() {
+            return false;
+        }
+        self.lexer.skip();
+        self.place = after_value(&mut self.lexer);
+        true
     }
 
     /// Takes the brace that opens an object, if it is next.
