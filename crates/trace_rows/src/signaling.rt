@@ -1,13 +1,12 @@
 //! Signals posted to live processes and their LWPs, as kill(2) and thr_kill(2) post them.
 
-ghost use Rattle.std.specs.Prelude.{◌≡◌, ◌∷◌, [], None, Some, true, is_none};
+ghost use Rattle.std.specs.Prelude.{◌≡◌, ◌∷◌, [], None, Some, true};
 ghost use Rattle.proc_table.specs.Processes.{process_of};
 ghost use Rattle.proc_table.specs.Rows.{change, is_numbered};
 ghost use Rattle.proc_table.specs.Kept.{IsRow};
-ghost use Rattle.trace_rows.specs.declared.edits.Edit.TheVariants as edit;
 ghost use Rattle.trace_rows.specs.Facts.{IsSound};
 ghost use Rattle.trace_rows.specs.Before.{IsSoundButPending, MayTell};
-ghost use Rattle.trace_rows.specs.Post.{unwanted, continues, settle, posted_set, posted_process, posted_lwp, notified, notifies, posted};
+ghost use Rattle.trace_rows.specs.Post.{unwanted, continues, settle, posted_process, posted_lwp, notified, notifies, posted};
 ghost use Rattle.trace_rows.specs.Stop.{tracers};
 
 use crate::edits::{Edit, add_pending, edit_lwps};
@@ -46,26 +45,9 @@ fn continues(signal: Signal, p: &ProcData) -> bool
     signal == Signal::CONT && matches!(p.state, State::Job { .. })
 }
 
-/// Returns the pending set of a process after the signal is posted to it, or to an LWP of it.
-fn posted_set(p: &ProcData, signal: Signal, to: &Option<Tid>) -> SigSet
-    ensures { result ≡ posted_set signal (is_none to.now) p.now p.now.pending }
-{
-    add_pending(p.pending, signal, to.is_none()).difference(unwanted(p))
-}
-
-/// Returns what the post of the signal changes in the LWPs of the process.
-fn posted_lwps(p: &ProcData, signal: Signal, to: &Option<Tid>) -> Edit
-    ensures { result ≡ edit.Post signal to.now (unwanted p.now) }
-{
-    Edit::Post {
-        signal,
-        to: *to,
-        lost: unwanted(p),
-    }
-}
-
 /// Puts a signal into the pending set of a process or of an LWP of it. SIGCONT continues a process that job
 /// control has stopped. Then the result is the process's parent, which the caller notifies.
+#[inline(always)]
 #[tactic(auto, using(proc_table::proofs::Rows::found_row))]
 fn put(tables: &mut Tables, p: &ProcData, signal: Signal, to: &Option<Tid>) -> Option<u32>
     requires { process_of p.now.pid tables.old.rows.processes ≡ Some p.now }
@@ -73,8 +55,8 @@ fn put(tables: &mut Tables, p: &ProcData, signal: Signal, to: &Option<Tid>) -> O
     ensures notifies { tracers result ≡ notifies signal (process_of p.now.pid tables.old.rows.processes) }
 {
     tables.assert_invariant();
-    let pending = posted_set(p, signal, to);
-    let edit = posted_lwps(p, signal, to);
+    let lost = unwanted(p);
+    let pending = add_pending(p.pending, signal, to.is_none()).difference(lost);
     let parent = if continues(signal, p) {
         tables.set_process(ProcData {
             state: State::Run,
@@ -87,7 +69,8 @@ fn put(tables: &mut Tables, p: &ProcData, signal: Signal, to: &Option<Tid>) -> O
         tables.set_pending(p.pid, pending);
         None
     };
-    edit_lwps(tables, p.pid, &edit);
+    let to = *to;
+    edit_lwps(tables, p.pid, &Edit::Post { signal, to, lost });
     parent
 }
 
