@@ -2,14 +2,15 @@
 
 ghost use Rattle.std.specs.Prelude.{◌≡◌, ◌∷◌, [], None, Some, true};
 ghost use Rattle.proc_table.specs.Processes.{process_of};
-ghost use Rattle.proc_table.specs.Rows.{change, is_numbered};
+ghost use Rattle.proc_table.specs.Rows.{change, change_process, is_numbered};
+ghost use Rattle.proc_table.specs.declared.State.TheVariants.{Run};
 ghost use Rattle.proc_table.specs.Kept.{IsRow};
 ghost use Rattle.trace_rows.specs.Facts.{IsSound};
 ghost use Rattle.trace_rows.specs.Before.{IsSoundButPending, MayTell};
 ghost use Rattle.trace_rows.specs.Post.{unwanted, continues, settle, posted_process, posted_lwp, notified, notifies, posted};
 ghost use Rattle.trace_rows.specs.Stop.{tracers};
 
-use crate::edits::{Edit, add_pending, edit_lwps};
+use crate::edits::{add_pending, post_lwps, settle_lwps};
 use pid_blocks::{Pid, Tid};
 use proc_table::{ProcData, State, Tables};
 use signals::{SigSet, Signal};
@@ -35,7 +36,7 @@ pub fn settle(tables: &mut Tables, pid: Pid)
     let p = tables.process(pid).unwrap();
     let lost = unwanted(&p);
     tables.set_pending(pid, p.pending.difference(lost));
-    edit_lwps(tables, pid, &Edit::Settle(lost));
+    settle_lwps(tables, pid, lost);
 }
 
 /// Tests whether the signal continues the process, which job control has stopped.
@@ -43,6 +44,23 @@ fn continues(signal: Signal, p: &ProcData) -> bool
     ensures { result ≡ continues signal p.now }
 {
     signal == Signal::CONT && matches!(p.state, State::Job { .. })
+}
+
+/// Lets a process that job control has stopped run again, with these pending signals.
+#[inline(never)]
+#[tactic(auto, using(proc_table::proofs::Seen::has_row))]
+fn end_job_stop(tables: &mut Tables, pid: Pid, pending: SigSet)
+    requires { IsRow tables.old.rows pid }
+    ensures { tables.new.rows
+        ≡ change_process pid (λ q. record q { state = Run; continued = true; pending = pending }) tables.old.rows }
+{
+    let p = tables.process(pid).unwrap();
+    tables.set_process(ProcData {
+        state: State::Run,
+        continued: true,
+        pending,
+        ..p
+    });
 }
 
 /// Puts a signal into the pending set of a process or of an LWP of it. SIGCONT continues a process that job
@@ -58,19 +76,13 @@ fn put(tables: &mut Tables, p: &ProcData, signal: Signal, to: &Option<Tid>) -> O
     let lost = unwanted(p);
     let pending = add_pending(p.pending, signal, to.is_none()).difference(lost);
     let parent = if continues(signal, p) {
-        tables.set_process(ProcData {
-            state: State::Run,
-            continued: true,
-            pending,
-            ..*p
-        });
+        end_job_stop(tables, p.pid, pending);
         Some(p.parent)
     } else {
         tables.set_pending(p.pid, pending);
         None
     };
-    let to = *to;
-    edit_lwps(tables, p.pid, &Edit::Post { signal, to, lost });
+    post_lwps(tables, p.pid, signal, to, lost);
     parent
 }
 
