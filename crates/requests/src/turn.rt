@@ -63,7 +63,7 @@ fn next_signal(p: &ProcData, l: &LwpData) -> Option<Signal>
 }
 
 /// Removes a pending signal from the LWP's own set, or else from its process's.
-#[tactic(auto, using(proc_table::proofs::Stays::lwp_there))]
+#[tactic(auto, using(proc_table::proofs::Rows::found_row, proc_table::proofs::Stays::lwp_there))]
 fn drop_signal(tables: &mut Tables, signal: Signal, p: &ProcData, l: &LwpData)
     requires { IsActing p.now l.now tables.old.rows }
     ensures { tables.new.rows ≡ without_signal signal p.now l.now tables.old.rows }
@@ -75,10 +75,7 @@ fn drop_signal(tables: &mut Tables, signal: Signal, p: &ProcData, l: &LwpData)
             ..*l
         });
     } else {
-        tables.set_process(ProcData {
-            pending: p.pending.without(signal),
-            ..*p
-        });
+        tables.set_pending(p.pid, p.pending.without(signal));
     }
 }
 

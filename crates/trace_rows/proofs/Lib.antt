@@ -28,6 +28,7 @@ pub mod SoundAfterThread
 pub mod Found
 pub mod CommonNames
 pub mod OneEdited
+pub mod Reported
 pub mod CommonLemmas
 pub mod FilteredLists
 pub mod IsolationRelation

@@ -1,12 +1,13 @@
 -- Changes that touch few LWPs of a process.
 use Rattle.trace_rows.proofs.CommonNames.{◌≡◌, ℕ, true, false, nat_tests, arith, refl, sym, ap, ◌∙◌, inl, inr, nat_eq, List, [], ◌∷◌, map, Some, None, LwpData, Differ, LacksLwp, lwp_of, lwp_of-tid, eq-eqb, subst, IsSomeAnd, own_lwp, with_lwp, without, edited, Rows, map_lwps, set_lwp}
-use Rattle.trace_rows.specs.Edits.{only, of_others, touched}
-use Rattle.trace_rows.specs.CommonNames.{Edit, Settle, Post, Step, Detach, Stepping, Nothing, Due, opposed}
-use Rattle.lwp_table.specs.Marks.{Spares, meets, traits_of, is_due}
+use Rattle.trace_rows.specs.Edits.{only, of_others, settled, touched}
+use Rattle.trace_rows.specs.CommonNames.{Edit, Post, Step, Detach, Stepping, Nothing, Due, opposed}
+use Rattle.lwp_table.specs.Marks.{Spares, meets, no_traits, traits_of, is_due}
 use Rattle.std.specs.Int.{bit_at}
 use Rattle.std.specs.Int.RustNames.{bit_or}
 use Rattle.std.proofs.lemmas.Nat.Bits.{bit_at_or, bit_at_xor, bit_at-lt, same_from_bits}
 use Rattle.std.proofs.lemmas.Bool.Decides.{eqb_tells}
+use Rattle.std.proofs.Math.Path.{fun_ext}
 use Rattle.std.proofs.lemmas.Option.{same_Some}
 use Rattle.lwp_table.specs.Lwps.{put_lwp}
 
@@ -15,13 +16,24 @@ without_two : (p a b : ℕ) → without p (bit_or a b) ≡ p → without (withou
 without_two p a b none = same_from_bits _ _ (λ i. let is = ap (λ x. bit_at x i) none in
     simp (bit_at_or, bit_at_xor) (omega (arith, simp (bit_at_or, bit_at_xor) at is, bit_at-lt p i, bit_at-lt a i, bit_at-lt b i)))
 
+-- what loses two sets loses their union
+without_union : (p a b : ℕ) → without p (bit_or a b) ≡ without (without p a) b
+without_union p a b = same_from_bits _ _ (λ i. simp (bit_at_or, bit_at_xor) (omega (arith, bit_at-lt p i, bit_at-lt a i, bit_at-lt b i)))
+
+settled_posted : (s lost : ℕ) (l : LwpData) → settled (bit_or (opposed s) lost) l ≡ edited (Post s None lost) l
+settled_posted s lost l = ap (λ x. record l { pending = x }) (without_union l.pending (opposed s) lost)
+
+-- the post of a signal to a process settles its LWPs
+pub posted_lwps : (pid s lost : ℕ) (rows : Rows) → map_lwps pid (settled (bit_or (opposed s) lost)) rows ≡ map_lwps pid (edited (Post s None lost)) rows
+posted_lwps pid s lost rows = ap (λ f. map_lwps pid f rows) (fun_ext (settled_posted s lost))
+
 nothing_due : (d : Due) → is_due d ≡ false → d ≡ Nothing
 nothing_due d none = grind (arith, nat_tests)
 
 -- an LWP without the touched traits stays as it is
 module _ (l : LwpData) where
-  settled : (lost : ℕ) → meets (traits_of l) (touched (Settle lost)) ≡ false → edited (Settle lost) l ≡ l
-  settled lost apart = let is : without l.pending lost ≡ l.pending = grind (arith, nat_tests) in ap (λ x. record l { pending = x }) is
+  pub settled_spared : (lost : ℕ) → meets (traits_of l) (record no_traits { pending = lost }) ≡ false → settled lost l ≡ l
+  settled_spared lost apart = let is : without l.pending lost ≡ l.pending = grind (arith, nat_tests) in ap (λ x. record l { pending = x }) is
 
   posted_to_none : (s lost : ℕ) → meets (traits_of l) (touched (Post s None lost)) ≡ false → edited (Post s None lost) l ≡ l
   posted_to_none s lost apart = let is : without l.pending (bit_or (opposed s) lost) ≡ l.pending = grind (arith, nat_tests) in ap (λ x. record l { pending = x }) (without_two l.pending (opposed s) lost is)
@@ -39,7 +51,6 @@ module _ (l : LwpData) where
       ∙ ap (λ x. record l { stepping = x; suspended = false; due = Nothing }) (sym still) ∙ ap (λ x. record l { suspended = x; due = Nothing }) (sym free) ∙ ap (λ x. record l { due = x }) (sym none)
 
 pub spares : (e : Edit) → only e ≡ None → Spares (touched e) (edited e)
-spares (Settle lost) alike l apart = settled l lost apart
 spares (Post s None lost) alike l apart = posted_to_none l s lost apart
 spares (Post s (Some tid) lost) alike l apart = absurd (cc)
 spares (Step Stepping.Unchanged) alike l apart = refl
@@ -59,7 +70,6 @@ pub edited_pid : (e : Edit) (l : LwpData) → (edited e l).pid ≡ l.pid
 edited_pid e l = grind arith
 
 as_others : (e : Edit) (tid : ℕ) → only e ≡ Some tid → (l : LwpData) → nat_eq l.tid tid ≡ false → edited (of_others e) l ≡ edited e l
-as_others (Settle lost) tid is l off = refl
 as_others (Post s None lost) tid is l off = refl
 as_others (Post s (Some t) lost) tid is l off = grind (arith, nat_tests)
 as_others (Step Stepping.Unchanged) tid is l off = refl

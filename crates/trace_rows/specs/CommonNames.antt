@@ -33,4 +33,4 @@ pub use Rattle.std.specs.Prelude.{negsuc, option_to_list, pos, suc, unwrap_or, z
 pub use Rattle.step_types.specs.declared.Settings.{Settings}
 pub use Rattle.trace_rows.specs.declared.{Resumption.Resumption, Stepping.Stepping, StopInfo.StopInfo}
 pub use Rattle.trace_rows.specs.declared.edits.Edit.{Edit}
-pub use Rattle.trace_rows.specs.declared.edits.Edit.TheVariants.{Detach, Post, Settle, Step}
+pub use Rattle.trace_rows.specs.declared.edits.Edit.TheVariants.{Detach, Post, Step}

@@ -2,7 +2,8 @@
 
 ghost use Rattle.std.specs.Prelude.{◌≡◌, None, Some};
 ghost use Rattle.proc_table.specs.Edits.{map_lwps};
-ghost use Rattle.trace_rows.specs.Edits.{edited, only, of_others, touched};
+ghost use Rattle.trace_rows.specs.declared.edits.Edit.TheVariants as edit;
+ghost use Rattle.trace_rows.specs.Edits.{edited, only, of_others, settled, touched};
 ghost use Rattle.trace_rows.specs.Post.{signal_put};
 
 use crate::Stepping;
@@ -23,8 +24,6 @@ pub fn add_pending(pending: SigSet, signal: Signal, here: bool) -> SigSet
 /// A change of an LWP.
 #[derive(Clone, Copy, Debug, PartialEq, Eq, Drop)]
 pub enum Edit {
-    /// The signals of this set leave the LWP's pending set.
-    Settle(SigSet),
     /// A signal is posted to the LWP `to`, or to its process; then the signals of the set `lost` leave the
     /// LWP's pending set.
     Post {
@@ -73,10 +72,6 @@ impl Edit {
         ensures { result ≡ touched self.now }
     {
         match *self {
-            Edit::Settle(lost) => Traits {
-                pending: lost,
-                ..Traits::none()
-            },
             Edit::Post { signal, lost, .. } => Traits {
                 pending: SigSet::opposed(signal).union(lost),
                 ..Traits::none()
@@ -99,10 +94,6 @@ impl Edit {
         ensures { result ≡ edited self.now l.now }
     {
         match *self {
-            Edit::Settle(lost) => LwpData {
-                pending: l.pending.difference(lost),
-                ..*l
-            },
             Edit::Post { signal, to, lost } => {
                 let here = to == Some(l.tid);
                 LwpData {
@@ -157,5 +148,40 @@ pub fn edit_lwps(tables: &mut Tables, pid: Pid, edit: &Edit)
     match edit.only() {
         Some(tid) => edit_apart(tables, pid, tid, edit),
         None => edit_alike(tables, pid, edit),
+    }
+}
+
+/// Returns the LWP after the signals of the set have left its pending set.
+fn settled(l: &LwpData, lost: SigSet) -> LwpData
+    ensures { result ≡ settled lost l.now }
+{
+    LwpData {
+        pending: l.pending.difference(lost),
+        ..*l
+    }
+}
+
+/// Removes the signals of the set from the pending sets of each LWP of a process. Looks only at LWPs with pending
+/// signals.
+#[inline(always)]
+pub fn settle_lwps(tables: &mut Tables, pid: Pid, lost: SigSet)
+    ensures { tables.new.rows ≡ map_lwps pid (settled lost) tables.old.rows }
+{
+    let pending = Traits {
+        pending: lost,
+        ..Traits::none()
+    };
+    tables.edit_touched_lwps(pid, &pending, |l| settled(l, lost));
+}
+
+/// Changes each LWP of a process as the post of a signal does: to the process, or to its LWP `to`. Then the signals of
+/// the set `lost` leave the pending sets.
+#[inline(always)]
+pub fn post_lwps(tables: &mut Tables, pid: Pid, signal: Signal, to: &Option<Tid>, lost: SigSet)
+    ensures { tables.new.rows ≡ map_lwps pid (edited (edit.Post signal to.now lost)) tables.old.rows }
+{
+    match *to {
+        None => settle_lwps(tables, pid, SigSet::opposed(signal).union(lost)),
+        to => edit_lwps(tables, pid, &Edit::Post { signal, to, lost }),
     }
 }

@@ -1,16 +1,16 @@
 //! Signals posted to live processes and their LWPs, as kill(2) and thr_kill(2) post them.
 
-ghost use Rattle.std.specs.Prelude.{◌≡◌, ◌∷◌, [], None, Some, true, is_none};
+ghost use Rattle.std.specs.Prelude.{◌≡◌, ◌∷◌, [], None, Some, true};
 ghost use Rattle.proc_table.specs.Processes.{process_of};
-ghost use Rattle.proc_table.specs.Rows.{change, is_numbered};
+ghost use Rattle.proc_table.specs.Rows.{change, change_process, is_numbered};
+ghost use Rattle.proc_table.specs.declared.State.TheVariants.{Run};
 ghost use Rattle.proc_table.specs.Kept.{IsRow};
-ghost use Rattle.trace_rows.specs.declared.edits.Edit.TheVariants as edit;
 ghost use Rattle.trace_rows.specs.Facts.{IsSound};
 ghost use Rattle.trace_rows.specs.Before.{IsSoundButPending, MayTell};
-ghost use Rattle.trace_rows.specs.Post.{unwanted, continues, settle, posted_set, posted_process, posted_lwp, notified, notifies, posted};
+ghost use Rattle.trace_rows.specs.Post.{unwanted, continues, settle, posted_process, posted_lwp, notified, notifies, posted};
 ghost use Rattle.trace_rows.specs.Stop.{tracers};
 
-use crate::edits::{Edit, add_pending, edit_lwps};
+use crate::edits::{add_pending, post_lwps, settle_lwps};
 use pid_blocks::{Pid, Tid};
 use proc_table::{ProcData, State, Tables};
 use signals::{SigSet, Signal};
@@ -36,7 +36,7 @@ pub fn settle(tables: &mut Tables, pid: Pid)
     let p = tables.process(pid).unwrap();
     let lost = unwanted(&p);
     tables.set_pending(pid, p.pending.difference(lost));
-    edit_lwps(tables, pid, &Edit::Settle(lost));
+    settle_lwps(tables, pid, lost);
 }
 
 /// Tests whether the signal continues the process, which job control has stopped.
@@ -46,26 +46,26 @@ fn continues(signal: Signal, p: &ProcData) -> bool
     signal == Signal::CONT && matches!(p.state, State::Job { .. })
 }
 
-/// Returns the pending set of a process after the signal is posted to it, or to an LWP of it.
-fn posted_set(p: &ProcData, signal: Signal, to: &Option<Tid>) -> SigSet
-    ensures { result ≡ posted_set signal (is_none to.now) p.now p.now.pending }
+/// Lets a process that job control has stopped run again, with these pending signals.
+#[inline(never)]
+#[tactic(auto, using(proc_table::proofs::Seen::has_row))]
+fn end_job_stop(tables: &mut Tables, pid: Pid, pending: SigSet)
+    requires { IsRow tables.old.rows pid }
+    ensures { tables.new.rows
+        ≡ change_process pid (λ q. record q { state = Run; continued = true; pending = pending }) tables.old.rows }
 {
-    add_pending(p.pending, signal, to.is_none()).difference(unwanted(p))
-}
-
-/// Returns what the post of the signal changes in the LWPs of the process.
-fn posted_lwps(p: &ProcData, signal: Signal, to: &Option<Tid>) -> Edit
-    ensures { result ≡ edit.Post signal to.now (unwanted p.now) }
-{
-    Edit::Post {
-        signal,
-        to: *to,
-        lost: unwanted(p),
-    }
+    let p = tables.process(pid).unwrap();
+    tables.set_process(ProcData {
+        state: State::Run,
+        continued: true,
+        pending,
+        ..p
+    });
 }
 
 /// Puts a signal into the pending set of a process or of an LWP of it. SIGCONT continues a process that job
 /// control has stopped. Then the result is the process's parent, which the caller notifies.
+#[inline(always)]
 #[tactic(auto, using(proc_table::proofs::Rows::found_row))]
 fn put(tables: &mut Tables, p: &ProcData, signal: Signal, to: &Option<Tid>) -> Option<u32>
     requires { process_of p.now.pid tables.old.rows.processes ≡ Some p.now }
@@ -73,21 +73,16 @@ fn put(tables: &mut Tables, p: &ProcData, signal: Signal, to: &Option<Tid>) -> O
     ensures notifies { tracers result ≡ notifies signal (process_of p.now.pid tables.old.rows.processes) }
 {
     tables.assert_invariant();
-    let pending = posted_set(p, signal, to);
-    let edit = posted_lwps(p, signal, to);
+    let lost = unwanted(p);
+    let pending = add_pending(p.pending, signal, to.is_none()).difference(lost);
     let parent = if continues(signal, p) {
-        tables.set_process(ProcData {
-            state: State::Run,
-            continued: true,
-            pending,
-            ..*p
-        });
+        end_job_stop(tables, p.pid, pending);
         Some(p.parent)
     } else {
         tables.set_pending(p.pid, pending);
         None
     };
-    edit_lwps(tables, p.pid, &edit);
+    post_lwps(tables, p.pid, signal, to, lost);
     parent
 }
 

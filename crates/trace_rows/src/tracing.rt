@@ -1,6 +1,6 @@
 //! Trace stops, and how processes run on from them, with their tracers or without.
 
-ghost use Rattle.std.specs.Prelude.{◌≡◌, IfSome, IsSome, Some, false, true};
+ghost use Rattle.std.specs.Prelude.{◌≡◌, ◌==◌, ◌&&◌, not, IfSome, IsSome, Some, false, true};
 ghost use Rattle.std.specs.Option.{IsSomeAnd};
 ghost use Rattle.lwp_table.specs.Lwps.{lwp_of};
 ghost use Rattle.proc_table.specs.Edits.{map_lwps};
@@ -23,6 +23,13 @@ use pid_blocks::{Pid, Tid};
 use proc_table::{ProcData, State, Tables};
 use signals::SigSet;
 
+/// Tests whether an LWP reports anything.
+fn reports(l: &LwpData) -> bool
+    ensures { result ≡ not ((l.now.flags.0 == 0) && ((l.now.child == 0) && (l.now.code == 0))) }
+{
+    !(l.flags == StopFlags::none() && l.child == 0 && l.code == 0)
+}
+
 /// Returns an LWP that reports nothing.
 fn unreported(l: &LwpData) -> LwpData
     ensures { result ≡ unreported l.now }
@@ -36,7 +43,7 @@ fn unreported(l: &LwpData) -> LwpData
 }
 
 /// Drops what an LWP has reported, and removes the LWP if it has exited.
-#[tactic(auto, using(crate::proofs::Found::found_rows))]
+#[tactic(auto, using(crate::proofs::Found::found_rows, crate::proofs::Reported::none_reported))]
 fn drop_report(tables: &mut Tables, tid: Tid)
     requires { IsSome (lwp_of tid tables.old.rows.lwps) }
     ensures { tables.new.rows ≡ report_dropped (lwp_of tid tables.old.rows.lwps) tables.old.rows }
@@ -44,7 +51,7 @@ fn drop_report(tables: &mut Tables, tid: Tid)
     let l = tables.lwp(tid).unwrap();
     if l.flags.shows(StopFlags::PL_FLAG_EXITED) {
         tables.remove_lwp(tid);
-    } else {
+    } else if reports(&l) {
         tables.set_lwp(unreported(&l));
     }
 }
