@@ -1,4 +1,5 @@
-"""A step means the same with its keys in any order and spelling, and a name that is only nearly a key's is refused."""
+"""A step means the same with its keys in any order and its names and texts in any spelling, and what is only nearly one of
+them is refused."""
 
 from __future__ import annotations
 
@@ -89,4 +90,30 @@ def test_keys_without_their_marks(program: Path, kind: str) -> None:
         usual = f'"{name}":'
         for other in (f'"{name}"', f'"{name}:', f'{name}":', f"{name}:", f'"{name}"::', f'""{name}":', f'"{name}"":', ""):
             broken = text.replace(usual, other, 1)
+            answers(program, status=1, err="tracehost: refused: BadJson\n", given=scenario([broken]))
+
+
+def texts_of(kind: str) -> list[str]:
+    return [value for value in STEPS[kind][0].values() if isinstance(value, str)]
+
+
+@pytest.mark.parametrize("kind", STEPS)
+def test_texts_in_any_spelling(program: Path, kind: str) -> None:
+    """Each letter of a text may be an escape, and spaces may follow the text."""
+    usual = next(spellings(members_of(kind)))
+    steps = [
+        usual.replace(f'"{text}"', f'"{text[:at]}\\u{ord(text[at]):04x}{text[at + 1 :]}" ', 1)
+        for text in texts_of(kind)
+        for at in range(len(text))
+    ]
+    check_alike(program, steps, kind)
+
+
+@pytest.mark.parametrize("kind", STEPS)
+def test_texts_without_their_marks(program: Path, kind: str) -> None:
+    """A quote is missing or there is one too many, a colon follows, or a byte stands in the text that may not."""
+    usual = next(spellings(members_of(kind)))
+    for text in texts_of(kind):
+        for other in (f'"{text}', f'{text}"', text, f'"{text}":', f'"{text}":1', f'""{text}"', f'"{text}\n"', f'"{text}\\q"'):
+            broken = usual.replace(f'"{text}"', other, 1)
             answers(program, status=1, err="tracehost: refused: BadJson\n", given=scenario([broken]))
