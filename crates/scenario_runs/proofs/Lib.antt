@@ -2,5 +2,6 @@ pub mod CommonNames
 pub mod ShortLines
 pub mod BindLemmas
 pub mod WriteLemmas
+pub mod Beginnings
 pub mod LineLemmas
 pub mod RunLemmas

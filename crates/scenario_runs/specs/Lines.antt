@@ -1,9 +1,9 @@
 -- The text of a run.
-use Rattle.std.specs.Prelude.{ℕ, ◌==◌, ◌+◌, Bool, true, List, [], ◌∷◌, ◌++◌, Option, Some, None, if◌then◌else◌, map, filter, count_by, decimal}
+use Rattle.std.specs.Prelude.{ℕ, ◌≡◌, ◌≤◌, ◌==◌, ◌+◌, Bool, true, List, [], ◌∷◌, ◌++◌, Option, Some, None, IfSome, if◌then◌else◌, map, filter, count_by, decimal, length}
 use Rattle.std.specs.List.{join_with_byte, concat}
 use Rattle.step_types.specs.{Words.reply_words, declared.Reply.Reply}
 use Rattle.reply_json.specs.Replies.{reply_json}
-use Rattle.scenario_runs.specs.{declared.style.Style.Style, declared.style.Style.TheVariants.Text, declared.style.Style.TheVariants.Json}
+use Rattle.scenario_runs.specs.{declared.lines.Words.TheInside.Inside, declared.style.Style.Style, declared.style.Style.TheVariants.Text, declared.style.Style.TheVariants.Json}
 
 -- a reply and its user
 pub record Answered : Type 0 where
@@ -52,3 +52,13 @@ shows (Some user) uid = uid == user
 
 abbrev pub shown_line : Option ℕ → Line → List ℕ
 shown_line user l = if shows user l.uid then l.text else []
+
+-- the line begins with the user's number and a space, which are so many bytes, and few
+pub record Begins (bytes : List ℕ) (kept user : ℕ) : Type 0 where
+  pub rest : List ℕ
+  pub is : bytes ≡ decimal user ++ (32 ∷ rest)
+  pub size : kept ≡ length (decimal user) + 1
+  pub few : kept ≤ 11
+
+abbrev pub IsBegun : Inside → Type 0
+IsBegun a = IfSome a.user (λ user. Begins a.line.bytes a.kept user)

@@ -1,5 +1,5 @@
 //! The lines of replies.
-ghost use Rattle.std.specs.Prelude.{◌≡◌, ◌+◌, ◌-◌, ◌^◌, ◌<◌, ◌≤◌, ◌++◌, ◌==◌, ℕ, map, Option, IfOk, OnOk, string_bytes, slice_index, slice_set};
+ghost use Rattle.std.specs.Prelude.{◌≡◌, ◌+◌, ◌-◌, ◌^◌, ◌<◌, ◌≤◌, ◌++◌, ◌==◌, ℕ, codes, decimal, length, map, Option, IfOk, OnOk, string_bytes, slice_index, slice_set};
 ghost use Rattle.pid_blocks.specs.Blocks.{slot};
 ghost use Rattle.scenario_runs.specs.Lines.{line, shown_line};
 ghost use Rattle.scenario_runs.specs.declared.style.Style.TheVariants as style;
@@ -15,10 +15,62 @@ use reply_json::ObjectWriter;
 use requests::Reply;
 use scenario_text::USERS;
 use std::alloc::{AllocError, Global};
+use std::marker::Model;
+
+/// The words of a line while they are put together. The lines of a user begin alike, so the next line of the same user
+/// keeps its beginning.
+#[derive(Drop)]
+pub(crate) struct Words {
+    line: ArrayString<ROOM>,
+    /// The user with whose number the line begins, if any.
+    user: Option<Uid>,
+    /// The bytes of that number and of the space behind it.
+    kept: usize,
+}
+
+impl Model for Words {
+    ghost use Rattle.std.specs.Prelude.{List, ℕ};
+    ghost use Rattle.scenario_runs.specs.Lines.{IsBegun};
+
+    ghost Value = { List ℕ };
+
+    ghost view = { λ a. a.line.bytes };
+
+    ghost invariant = { IsBegun };
+}
+
+impl Words {
+    pub(crate) fn new() -> Words {
+        Words {
+            line: ArrayString::new(),
+            user: None,
+            kept: 0,
+        }
+    }
+
+    /// Begins a line with the user's number and a space.
+    fn begin(&mut self, uid: Uid)
+        ensures words { self.new ≡ decimal uid ++ codes " " }
+        ensures few { length self.new ≤ 11 }
+    {
+        if self.user == Some(uid) {
+            let _ = self.line.as_str();
+            self.line.truncate(self.kept);
+            return;
+        }
+        let mut digits = Buffer::new();
+        self.user = None;
+        self.line.clear();
+        self.line.push_str(digits.format(uid.get()));
+        self.line.push_str(" ");
+        self.kept = self.line.len();
+        self.user = Some(uid);
+    }
+}
 
 /// Adds the line of a reply as text. It is put together in `words`.
 fn push_text(
-    words: &mut ArrayString<ROOM>,
+    words: &mut Words,
     text: &mut String,
     uid: Uid,
     number: u64,
@@ -28,14 +80,12 @@ fn push_text(
         ≡ string_bytes text.old ++ (line style.Text number (answered (uid, reply.now))).text) }
 {
     let mut digits = Buffer::new();
-    words.clear();
-    words.push_str(digits.format(uid.get()));
-    words.push_str(" ");
-    words.push_str(digits.format(number));
-    if push_short(words, reply) {
-        return text.push_str(words.as_str());
+    words.begin(uid);
+    words.line.push_str(digits.format(number));
+    if push_short(&mut words.line, reply) {
+        return text.push_str(words.line.as_str());
     }
-    text.push_str(words.as_str())?;
+    text.push_str(words.line.as_str())?;
     writeln!(text, " {reply}")?;
     Ok(())
 }
@@ -70,7 +120,7 @@ pub fn push_line(
         ≡ string_bytes text.old ++ (line style number (answered (uid, reply.now))).text) }
 {
     match style {
-        Style::Text => push_text(&mut ArrayString::new(), text, uid, number, reply),
+        Style::Text => push_text(&mut Words::new(), text, uid, number, reply),
         Style::Json => push_object(alloc, objects, text, uid, number, reply),
     }
 }
@@ -80,7 +130,7 @@ pub fn push_line(
 pub(crate) fn push_shown_by(
     alloc: Global,
     options: &LineOptions,
-    words: &mut ArrayString<ROOM>,
+    words: &mut Words,
     objects: &mut ObjectWriter,
     text: &mut String,
     uid: Uid,
@@ -116,7 +166,7 @@ pub fn push_shown(
     ensures { OnOk result (string_bytes text.new
         ≡ string_bytes text.old ++ shown_line options.now.user (line options.now.style number (answered (uid, reply.now)))) }
 {
-    let mut words = ArrayString::new();
+    let mut words = Words::new();
     push_shown_by(
         alloc, options, &mut words, objects, text, uid, number, reply,
     )

@@ -7,10 +7,9 @@ ghost use Rattle.scenario_runs.specs.declared.running.RunFault.TheVariants.{Mism
 ghost use Rattle.scenario_runs.specs.declared.style.Style.TheVariants as style;
 
 use crate::binding::{obey, step_with_handler};
-use crate::lines::{count_reply, push_shown_by};
+use crate::lines::{Words, count_reply, push_shown_by};
 use crate::retrying::write_some;
 use crate::style::Style;
-use arrayvec::ArrayString;
 use pid_blocks::Uid;
 use reply_json::ObjectWriter;
 use requests::{Host, Reply};
@@ -118,7 +117,7 @@ fn text_of<F: Decider + Send + Drop>(
     let mut rest = handlers.into_iter();
     let mut text = String::with_capacity(alloc, bare_steps.len() * TYPICAL_LINE)?;
     let mut objects = ObjectWriter::new(alloc);
-    let mut words = ArrayString::new();
+    let mut words = Words::new();
     let mut made = [0u64; USERS];
     for bare_step in bare_steps {
         let Some(reply) = reply_of(alloc, &mut host, bare_step.0, &bare_step.1, &mut rest) else {

@@ -1,6 +1,6 @@
-use Rattle.scenario_runs.proofs.CommonNames.{◌≡◌, sym, ◌∙◌}
+use Rattle.scenario_runs.proofs.CommonNames.{sym, ◌∙◌}
 use Rattle.std.specs.Prelude.{decimal}
-use Rattle.step_types.specs.{Status.word, Words.index_text}
+use Rattle.step_types.specs.{Words.index_text}
 use Rattle.scenario_runs.proofs.ShortLines.{decided}
 use Rattle.scenario_runs.proofs.short_lines.push_decided.Goals as goal
 

@@ -1,4 +1,4 @@
-use Rattle.scenario_runs.proofs.CommonNames.{◌≡◌, ◌∙◌}
+use Rattle.scenario_runs.proofs.CommonNames.{◌∙◌}
 use Rattle.scenario_runs.proofs.ShortLines.{told}
 use Rattle.scenario_runs.proofs.short_lines.push_told.Goals as goal
 
