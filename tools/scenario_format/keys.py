@@ -47,9 +47,10 @@ def names(form: Format) -> str:
     return "".join(arms)
 
 
-def taken(form: Format) -> str:
-    """The arms of `take`, in the same file"""
-    return "".join(f'        Key::{key.variant} => reader.take_key("{key.name}"),\n' for key in form.keys)
+def written(form: Format) -> str:
+    """The arms of `written`, in the same file: a name, and 16 bytes that begin with it as texts have it"""
+    arms = [(key, f'\\"{key.name}\\":' + " " * (13 - len(key.name))) for key in form.keys]
+    return "".join(f'        Key::{key.variant} => ("{key.name}", b"{text}"),\n' for key, text in arms)
 
 
 def sets(form: Format) -> str:

@@ -1,14 +1,14 @@
 -- The names that proofs speak by: those of the libraries, and of this crate's definitions.
 pub use Rattle.std.proofs.Common.{Bool, Bor, Equal, Greater, Less, List, None, Option, Ordering, Some, [], add-zero, ap, append-nil, ap₂, arith, cond, decimal, drop, eqb, false, get_or, inl, inr}
-pub use Rattle.std.proofs.Common.{is_some, length, lt_of_not-le, ltb, map, nat_cmp, nat_eq, neg_ℤ, negsuc, option_and_then, pos, refl, rules, subst, suc, sym, take, take_all, true, w64, zero, ℕ, ℤ}
+pub use Rattle.std.proofs.Common.{is_some, length, lt_of_not-le, ltb, map, nat_cmp, nat_eq, neg_ℤ, negsuc, not, option_and_then, pos, refl, rules, subst, suc, sym, take, take-take, take_all, true, w64, zero, ℕ, ℤ}
 pub use Rattle.std.proofs.Common.{⊎_elim, ◌%◌, ◌&&◌, ◌*◌, ◌++◌, ◌+◌, ◌-◌, ◌<◌, ◌==◌, ◌^◌, ◌∙◌, ◌∷◌, ◌≡◌, ◌≢◌, ◌≤◌, ◌⊎◌}
 pub use Rattle.std.proofs.lemmas.Bool.{and_parts, cases_lt, eq-eqb, eqb-true, false≢true, lt-leb, ne_eqb, not-true, or_parts, true≢false}
 pub use Rattle.std.proofs.lemmas.List.{drop-drop, drop_all, drop_more, get_or-drop, get_or-take, get_or_default, get_or_past, length-drop, length-map, take-append-drop}
-pub use Rattle.std.proofs.{Math.Dec.leb, lemmas.Simd.chunk-drop, lemmas.Simd.leading_from_mask_l, lemmas.Simd.length-chunk, lemmas.Simd.mask_l-mod, lemmas.Simd.trailing_mask_l, lemmas.Simd.zip2_splat}
+pub use Rattle.std.proofs.{Math.Dec.leb, lemmas.Simd.chunk-drop, lemmas.Simd.first_set_mask_l, lemmas.Simd.leading_from_mask_l, lemmas.Simd.length-chunk, lemmas.Simd.mask_l-mod, lemmas.Simd.trailing_mask_l, lemmas.Simd.zip2_splat, lemmas.Slice.Zip.length-zip}
 pub use Rattle.std.proofs.{lemmas.Bool.Decides.nat_tests, lemmas.Fmt.decimal-digits_value, lemmas.List.Folds.prefix_len-append, lemmas.Map.Text.is_eq-slice_cmp, lemmas.Slice.Eq.bytes_eq-Decides}
 pub use Rattle.std.proofs.{lemmas.Int.ints, lemmas.Int.to_z_pos, lemmas.List.Sums.prefix_len-le-length, lemmas.Str.Parse.numerals_by_value, lemmas.Str.Parse.tells_digits}
 pub use Rattle.std.proofs.{lemmas.Int.Digits.digits_more, lemmas.Int.Digits.digits_value_more, lemmas.Option.none-some, lemmas.Str.IsCharBoundary-after_ascii, lemmas.Str.IsCharBoundary-before_ascii}
-pub use Rattle.std.specs.{Char.digit_value, Char.is_ascii_digit, List.list_any, List.prefix_len, List.starts_with, Prelude.MatchOption, Prelude.⊤, Str.Parse.AllDigits, Str.Parse.digits_value}
+pub use Rattle.std.specs.{Char.digit_value, Char.is_ascii_digit, List.list_any, List.prefix_len, List.starts_with, Prelude.MatchOption, Prelude.zip, Prelude.⊤, Str.Parse.AllDigits, Str.Parse.digits_value}
 pub use Rattle.std.specs.{Cmp.Lexicographic.slice_cmp, Ordering.match_ordering, Str.bytes_eq}
 pub use Rattle.fast_float.proofs.Writing.{scan-text_of}
 pub use Rattle.fast_float.specs.Text.{IsWellFormed, Parts, scan}
@@ -28,7 +28,7 @@ pub use lib.Bits.{bit_or}
 pub use lib.Count.{count_trailing_zeros}
 pub use lib.Lanes.{chunk, mask_l, top, zip2}
 pub use mir.Val.{SFits}
-pub use Rattle.json_values.specs.Lexing.{Ends, IsNumberAt, IsWholeAt, LiteralOf, NotBeforeComma, may_begin, may_close, piece, refused_at, tokens_at}
+pub use Rattle.json_values.specs.Lexing.{Ends, IsNumberAt, IsWholeAt, LiteralOf, IsWritten, NotBeforeComma, differ, may_begin, may_close, piece, refused_at, tokens_at}
 pub use Rattle.json_values.specs.declared.punctuation.Place.TheVariants.{AfterComma, AfterValue, Failed, Fresh}
 pub use Rattle.json_values.specs.{Reading.IsScalar, Reading.Opens, Reading.Says, Reading.members_among, Reading.read_items, Reading.read_members, Reading.rest, declared.scalars.Opening.Opening}
 pub use Rattle.json_values.specs.{declared.punctuation.Place.Place, declared.scalars.Scalar.Scalar}

@@ -8,3 +8,4 @@ pub mod Places
 pub mod Runs
 pub mod StringEnds
 pub mod Texts
+pub mod WrittenKeys

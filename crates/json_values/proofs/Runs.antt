@@ -1,5 +1,5 @@
 -- The plain text of a string, seen 16 bytes at a time through the mask of the bytes that end it.
-use Rattle.json_values.proofs.CommonNames.{nat_tests, ◌≡◌, ℕ, ◌+◌, ◌%◌, ◌^◌, ◌<◌, ◌≤◌, cond, eqb, ltb, List, [], ◌∷◌, map, length, drop, refl, ap, ◌∙◌, arith, rules, chunk-drop, leading_from_mask_l}
+use Rattle.json_values.proofs.CommonNames.{differ, first_set_mask_l, length-zip, not, suc, take, zero, zip, nat_tests, ◌≡◌, ℕ, ◌+◌, ◌%◌, ◌^◌, ◌<◌, ◌≤◌, cond, eqb, ltb, List, [], ◌∷◌, map, length, drop, refl, ap, ◌∙◌, arith, rules, chunk-drop, leading_from_mask_l}
 use Rattle.json_values.proofs.CommonNames.{length-chunk, mask_l-mod, trailing_mask_l, length-map, prefix_len-le-length, eq-eqb, ne_eqb, prefix_len, is_plain, is_stop, count_trailing_zeros}
 use Rattle.json_values.proofs.CommonNames.{prefix_len-append, bit_or, chunk, mask_l, top, zip2}
 
@@ -25,6 +25,29 @@ joined f g (x ∷ xs) = ap (λ r. bit_or (f x) (g x) ∷ r) (joined f g xs)
 pub stop_mask : (v a b c : List ℕ) → length v ≡ 16 → a ≡ map (λ x. hit x 34) v → b ≡ map (λ x. hit x 92) v → c ≡ map (λ x. below x 32) v
     → mask_l (map (top 7) (zip2 bit_or (zip2 bit_or a b) c)) % 2 ^ 64 ≡ mask_l (map is_stop v)
 stop_mask v a b c long p q r = grind (arith, nat_tests, zip2 bit_or, top 7, tops v, mask_l-mod (map is_stop v) 64, length-map v is_stop, bit_or, joined, mask_l)
+
+-- ---- the mask of the bytes that differ from others
+
+abbrev pub other : ℕ → ℕ → ℕ
+other a b = cond (not (eqb a b)) 255 0
+
+tops_zip : (v w : List ℕ) → map (top 7) (zip2 other v w) ≡ map differ (zip v w)
+tops_zip [] w = refl
+tops_zip (x ∷ xs) [] = refl
+tops_zip (x ∷ xs) (y ∷ ys) = grind (arith, nat_tests, tops_zip xs ys)
+
+pub difference_mask : (v w : List ℕ) → length v ≡ 16 → length w ≡ 16 → mask_l (map (top 7) (zip2 other v w)) % 2 ^ 64 ≡ mask_l (map differ (zip v w))
+difference_mask v w p q = ap (λ ms. mask_l ms % 2 ^ 64) (tops_zip v w) ∙ mask_l-mod (map differ (zip v w)) 64 (omega (arith, length-map (zip v w) differ, length-zip v w, p, q))
+
+-- lists agree as far as no difference comes
+pub agree : (v w : List ℕ) (n : ℕ) → n ≤ prefix_len (λ p. not (differ p)) (zip v w) → take n v ≡ take n w
+agree v w zero h = refl
+agree [] w (suc n) h = grind (arith, nat_tests, h)
+agree (x ∷ xs) [] (suc n) h = grind (arith, nat_tests, h)
+agree (x ∷ xs) (y ∷ ys) (suc n) h = grind (arith, nat_tests, agree xs ys n)
+
+pub no_differences : (v w : List ℕ) (n : ℕ) → length v ≡ 16 → length w ≡ 16 → n ≤ 16 → n ≤ count_trailing_zeros 64 (mask_l (map differ (zip v w))) → take n v ≡ take n w
+no_differences v w n p q few h = agree v w n (grind (arith, nat_tests, first_set_mask_l differ (zip v w) 16, length-zip v w, p, q, few, h))
 
 -- ---- 16 bytes at a time
 

@@ -1,5 +1,5 @@
 -- Lexemes at a place of a text, and the tokens that a reader of a text has before it.
-use Rattle.std.specs.Prelude.{◌≡◌, ◌≢◌, ℕ, ◌+◌, ◌-◌, ◌^◌, ◌<◌, ◌≤◌, Bool, true, false, List, [], ◌∷◌, ◌++◌, length, take, drop, get_or, IsUtf8, ⊤, Option, IfSome}
+use Rattle.std.specs.Prelude.{◌≡◌, ◌≢◌, ◌==◌, not, ℕ, ◌+◌, ◌-◌, ◌^◌, ◌<◌, ◌≤◌, Bool, true, false, List, [], ◌∷◌, ◌++◌, length, take, drop, get_or, IsUtf8, ⊤, Option, IfSome}
 use Rattle.std.specs.Str.Parse.{AllDigits, digits_value}
 use Rattle.json.specs.{Token.Token, Token.bad, Word.head, Word.ends_word, Lex.Lexeme, Lex.token, Lex.class, Lex.between, Lex.in_string, Lex.lex, Lex.fresh, Lex.after_value, Lex.after_comma, Lex.punctuate, Align.is_blank}
 use Rattle.json.specs.Print.{IsNumber}
@@ -21,6 +21,14 @@ Ends text = is_blank (class (head text)) ≡ true → text ≡ []
 -- the bytes from a place up to `end`
 abbrev pub piece : List ℕ → ℕ → ℕ → List ℕ
 piece text from end = take (end - from) (drop from text)
+
+-- the bytes begin with the name in quotes and a colon
+abbrev pub IsWritten : List ℕ → List ℕ → Type 0
+IsWritten name bytes = (length name ≤ 13) × (take (length name + 3) bytes ≡ 34 ∷ name ++ (34 ∷ 58 ∷ []))
+
+-- whether two bytes differ
+abbrev pub differ : ℕ × ℕ → Bool
+differ p = not (p.0 == p.1)
 
 -- digits, at least one, which write this value, below 10^18
 pub record AreDigits (text : List ℕ) (from end value : ℕ) : Type 0 where

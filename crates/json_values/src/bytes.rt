@@ -1,12 +1,12 @@
 //! Where spaces, digits and plain text end.
-ghost use Rattle.std.specs.Prelude.{◌≡◌, ◌+◌, ◌≤◌, ◌||◌, [], true, length, drop, get_or, map};
+ghost use Rattle.std.specs.Prelude.{◌≡◌, ◌+◌, ◌≤◌, ◌||◌, [], true, length, drop, take, get_or, map, zip};
 ghost use Rattle.std.specs.List.{prefix_len};
 ghost use Rattle.std.specs.Simd.Lanes.{mask_l};
 ghost use Rattle.json.specs.Align.{is_blank};
 ghost use Rattle.json.specs.Lex.{between, class, lex};
 ghost use Rattle.json.specs.Run.{is_plain, is_stop};
 ghost use Rattle.json.specs.Word.{head, is_operator, is_space};
-ghost use Rattle.json_values.specs.Lexing.{piece};
+ghost use Rattle.json_values.specs.Lexing.{differ, piece};
 
 use std::simd::prelude::*;
 
@@ -19,20 +19,49 @@ pub(crate) fn byte_at(bytes: &[u8], at: usize) -> u8
     if at < bytes.len() { bytes[at] } else { b' ' }
 }
 
-/// Tests whether the bytes from a place on begin with these, byte by byte: the few of a known name are compared at once.
+/// Returns which of 16 bytes differ from others, as a bit for each.
 #[inline(always)]
-pub(crate) fn is_at(bytes: &[u8], from: usize, name: &[u8]) -> bool
-    requires { from + length name.now ≤ length bytes.now }
-    ensures { result ≡ true → piece bytes.now from (from + length name.now) ≡ name.now }
+fn differences(bytes: u8x16, others: u8x16) -> u64
+    ensures { result ≡ mask_l (map differ (zip bytes others)) }
 {
-    let mut count = 0;
-    while count < name.len() {
-        if bytes[from + count] != name[count] {
+    bytes.simd_ne(others).to_bitmask()
+}
+
+/// Does what `is_at` does, a byte at a time.
+#[inline(never)]
+fn is_at_slowly(bytes: &[u8], from: usize, front: &[u8; 16], count: usize) -> bool
+    requires within { from ≤ length bytes.now }
+    requires few { count ≤ 16 }
+    ensures same { result ≡ true → piece bytes.now from (from + count) ≡ take count front.now }
+    ensures bound { result ≡ true → from + count ≤ length bytes.now }
+{
+    if bytes.len() - from < count {
+        return false;
+    }
+    let mut at = 0;
+    while at < count {
+        if bytes[from + at] != front[at] {
             return false;
         }
-        count += 1;
+        at += 1;
     }
     true
+}
+
+/// Tests whether the bytes from a place on begin with the first `count` of these. Within a text all 16 are compared at
+/// once.
+#[inline(always)]
+pub(crate) fn is_at(bytes: &[u8], from: usize, front: &[u8; 16], count: usize) -> bool
+    requires within { from ≤ length bytes.now }
+    requires few { count ≤ 16 }
+    ensures same { result ≡ true → piece bytes.now from (from + count) ≡ take count front.now }
+    ensures bound { result ≡ true → from + count ≤ length bytes.now }
+{
+    if bytes.len() - from < 16 {
+        return is_at_slowly(bytes, from, front, count);
+    }
+    let others = differences(u8x16::from_slice(&bytes[from..]), u8x16::from_array(*front));
+    others.trailing_zeros() as usize >= count
 }
 
 #[inline(always)]

@@ -11,7 +11,7 @@ ghost use Rattle.json.specs.Token.{number};
 ghost use Rattle.json.specs.Word.{after_number, head, literal, number_before, word};
 ghost use Rattle.serde_json.specs.Find.{as_i64};
 ghost use Rattle.serde_json.specs.Read.{number_of};
-ghost use Rattle.json_values.specs.Lexing.{HasRoom, LiteralOf};
+ghost use Rattle.json_values.specs.Lexing.{HasRoom, IsWritten, LiteralOf};
 
 use crate::bytes::{byte_at, is_at, is_delimiter, plain_end, spaces_end};
 use crate::escapes::unescape;
@@ -88,27 +88,22 @@ impl<'a> Lexer<'a> {
         }
     }
 
-    /// Takes this string with a colon behind it, if they come next as they are.
+    /// Takes this string with a colon behind it, if they come next as they are: `written` begins with its quotes and the
+    /// colon.
     #[inline(always)]
-    pub(crate) fn key(&mut self, name: &str) -> bool
+    pub(crate) fn key(&mut self, name: &str, written: &[u8; 16]) -> bool
         requires plain { prefix_len is_plain name.now ≡ length name.now }
-        requires short { length name.now < 256 }
+        requires written { IsWritten name.now written.now }
         ensures { MatchBool result
             ((head self.old ≡ 34) × (content plain (drop 1 self.old) ≡ Some name.now) × (drop 1 (lex between self.old) ≡ colon ∷ lex between self.new))
             (self.new ≡ self.old) }
     {
         let bytes = self.text.as_bytes();
-        let start = self.at + 1;
-        let stop = start + name.len();
-        if stop + 1 >= bytes.len()
-            || bytes[stop + 1] != b':'
-            || bytes[stop] != b'"'
-            || bytes[start - 1] != b'"'
-            || !is_at(bytes, start, name.as_bytes())
-        {
+        let count = name.len() + 3;
+        if !is_at(bytes, self.at, written, count) {
             return false;
         }
-        self.at = spaces_end(bytes, stop + 2);
+        self.at = spaces_end(bytes, self.at + count);
         true
     }
 

@@ -9,7 +9,7 @@ ghost use Rattle.json.specs.Run.{is_plain};
 ghost use Rattle.json.specs.Token.{begin_object, end_object, number, string};
 ghost use Rattle.serde_json.specs.Find.{as_i64};
 ghost use Rattle.serde_json.specs.Read.{number_of};
-ghost use Rattle.json_values.specs.Lexing.{HasRoom};
+ghost use Rattle.json_values.specs.Lexing.{HasRoom, IsWritten};
 
 use crate::lexer::Lexer;
 use crate::punctuation::{Place, after_value, read};
@@ -111,15 +111,15 @@ impl<'a> Tokens<'a> {
         text
     }
 
-    /// Takes this key, if it comes next as it is, with no space before its colon and no escape. `false` leaves open what
-    /// comes next.
+    /// Takes this key, if it comes next as it is, with no space before its colon and no escape. `written` begins with the
+    /// key in quotes and its colon, and 16 bytes are compared at once. `false` leaves open what comes next.
     #[inline(always)]
-    pub fn take_key(&mut self, name: &str) -> bool
+    pub fn take_key(&mut self, name: &str, written: &[u8; 16]) -> bool
         requires plain { prefix_len is_plain name.now ≡ length name.now }
-        requires short { length name.now < 256 }
+        requires written { IsWritten name.now written.now }
         ensures { MatchBool result (read_key self.old ≡ Some (Some name.now, self.new)) (self.new ≡ self.old) }
     {
-        if !self.place.may_begin() || !self.lexer.key(name) {
+        if !self.place.may_begin() || !self.lexer.key(name, written) {
             return false;
         }
         self.place = Place::Fresh;

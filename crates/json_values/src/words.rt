@@ -1,7 +1,8 @@
 //! Numbers and literals at a place of a text (RFC 8259, sections 3 and 6).
-ghost use Rattle.std.specs.Prelude.{◌≡◌, ◌+◌, ◌≤◌, ◌&&◌, length, drop, nat_eq, IfSome};
+ghost use Rattle.std.specs.Prelude.{◌≡◌, ◌+◌, ◌<◌, ◌≤◌, ◌&&◌, length, drop, take, nat_eq, IfSome};
 ghost use Rattle.std.specs.List.{prefix_len, starts_with};
-ghost use Rattle.std.specs.Char.{is_ascii_digit};
+ghost use Rattle.std.specs.Char.{digit_value, is_ascii_digit};
+ghost use Rattle.std.specs.Str.Parse.{AllDigits, digits_value};
 ghost use Rattle.json.specs.Run.{EndsAt};
 ghost use Rattle.json.specs.Word.{ends_word, after_digits, after_exponent, after_fraction, after_minus, after_number, after_sign, after_whole};
 ghost use Rattle.json_values.specs.Lexing.{AreDigits, IsWholeAt};
@@ -110,23 +111,60 @@ pub(crate) fn is_literal(bytes: &[u8], from: usize, name: &[u8]) -> bool
 /// Numbers with so many digits, or more, are read elsewhere.
 const MANY_DIGITS: usize = 18;
 
+/// Returns the value of a digit, or a greater number for any other byte.
+#[inline(always)]
+fn digit(byte: u8) -> u64
+    ensures { result < 10 → digit_value byte ≡ result }
+{
+    u64::from(byte).wrapping_sub(u64::from(b'0'))
+}
+
+/// Returns the number that the digits at a place write, and how many of them there are, of at most `most`.
+#[inline(always)]
+fn digits(bytes: &[u8], from: usize, most: usize) -> (u64, usize)
+    requires within { from + most ≤ length bytes.now }
+    requires few { most ≤ 18 }
+    ensures { (result.1 ≤ most) × AllDigits 10 (take result.1 (drop from bytes.now)) × (digits_value 10 (take result.1 (drop from bytes.now)) ≡ result.0) }
+{
+    let mut value = 0u64;
+    let mut count = 0;
+    while count < most {
+        let digit = digit(bytes[from + count]);
+        if digit >= 10 {
+            break;
+        }
+        value = value * 10 + digit;
+        count += 1;
+    }
+    (value, count)
+}
+
+/// Returns what `digits` does, of at most `MANY_DIGITS`.
+#[inline(always)]
+fn first_digits(bytes: &[u8], from: usize) -> (u64, usize)
+    requires { from ≤ length bytes.now }
+    ensures few { (result.1 ≤ 18) × (from + result.1 ≤ length bytes.now) }
+    ensures value { AllDigits 10 (take result.1 (drop from bytes.now)) × (digits_value 10 (take result.1 (drop from bytes.now)) ≡ result.0) }
+{
+    let rest = bytes.len() - from;
+    if rest < MANY_DIGITS {
+        return digits(bytes, from, rest);
+    }
+    // a constant makes straight code of the loop
+    digits(bytes, from, MANY_DIGITS)
+}
+
 /// Returns the number that the digits at a place write, and their end. `None` leaves it open: there are none, or many.
 #[inline(always)]
 fn few_digits(bytes: &[u8], from: usize) -> Option<(u64, usize)>
     requires { from ≤ length bytes.now }
     ensures { IfSome result (λ n. AreDigits bytes.now from n.1 n.0) }
 {
-    let last = from + (bytes.len() - from).min(MANY_DIGITS);
-    let mut value = 0u64;
-    let mut end = from;
-    while end < last && bytes[end].is_ascii_digit() {
-        value = value * 10 + u64::from(bytes[end] - b'0');
-        end += 1;
-    }
-    if end == from || end - from == MANY_DIGITS {
+    let (value, count) = first_digits(bytes, from);
+    if count == 0 || count == MANY_DIGITS {
         return None;
     }
-    Some((value, end))
+    Some((value, from + count))
 }
 
 /// Returns the whole number at a place, which has no sign, and where it ends, if it has few digits, as nearly all numbers

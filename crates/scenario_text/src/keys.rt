@@ -1,7 +1,10 @@
 //! The keys of steps and of rules.
-ghost use Rattle.std.specs.Prelude.{◌≡◌, List, ℕ, Option, None, Some, MatchResult, option_map};
+ghost use Rattle.std.specs.Prelude.{◌≡◌, List, ℕ, Option, None, Some, MatchResult, length, option_map};
 ghost use Rattle.std.specs.Bool.{MatchBool};
+ghost use Rattle.std.specs.List.{prefix_len};
 ghost use Rattle.json.specs.Json.{read_key};
+ghost use Rattle.json.specs.Run.{is_plain};
+ghost use Rattle.json_values.specs.Lexing.{IsWritten};
 ghost use Rattle.scenario_text.specs.Keys.{key_named, key_set};
 
 use json::Invalid;
@@ -192,35 +195,46 @@ pub(crate) fn set_of(key: Key) -> Keys
     }
 }
 
+/// Returns the name of the key, and 16 bytes that begin with it as texts have it.
+#[inline(always)]
+fn written(key: Key) -> (&'static str, &'static [u8; 16])
+    ensures named { key_named result.0.now ≡ Some key }
+    ensures plain { prefix_len is_plain result.0.now ≡ length result.0.now }
+    ensures written { IsWritten result.0.now result.1.now }
+{
+    match key {
+        // tools/format written
+        Key::User => ("user", b"\"user\":         "),
+        Key::Op => ("op", b"\"op\":           "),
+        Key::Caller => ("caller", b"\"caller\":       "),
+        Key::Lwp => ("lwp", b"\"lwp\":          "),
+        Key::Act => ("act", b"\"act\":          "),
+        Key::Which => ("which", b"\"which\":        "),
+        Key::Request => ("request", b"\"request\":      "),
+        Key::Target => ("target", b"\"target\":       "),
+        Key::Data => ("data", b"\"data\":         "),
+        Key::Call => ("call", b"\"call\":         "),
+        Key::Code => ("code", b"\"code\":         "),
+        Key::Signal => ("signal", b"\"signal\":       "),
+        Key::Options => ("options", b"\"options\":      "),
+        Key::Action => ("action", b"\"action\":       "),
+        Key::Rules => ("rules", b"\"rules\":        "),
+        Key::Set => ("set", b"\"set\":          "),
+        Key::Mask => ("mask", b"\"mask\":         "),
+        Key::Flags => ("flags", b"\"flags\":        "),
+        Key::Decision => ("decision", b"\"decision\":     "),
+        Key::Pass => ("pass", b"\"pass\":         "),
+        // end
+    }
+}
+
 /// Takes the name of the key, if it comes next as it is. `false` leaves open what comes next.
 #[inline(always)]
 fn take(reader: &mut Tokens<'_>, key: Key) -> bool
     ensures { MatchBool result ((name : List ℕ) × (key_named name ≡ Some key) × (read_key reader.old ≡ Some (Some name, reader.new))) (reader.new ≡ reader.old) }
 {
-    match key {
-        // tools/format taken
-        Key::User => reader.take_key("user"),
-        Key::Op => reader.take_key("op"),
-        Key::Caller => reader.take_key("caller"),
-        Key::Lwp => reader.take_key("lwp"),
-        Key::Act => reader.take_key("act"),
-        Key::Which => reader.take_key("which"),
-        Key::Request => reader.take_key("request"),
-        Key::Target => reader.take_key("target"),
-        Key::Data => reader.take_key("data"),
-        Key::Call => reader.take_key("call"),
-        Key::Code => reader.take_key("code"),
-        Key::Signal => reader.take_key("signal"),
-        Key::Options => reader.take_key("options"),
-        Key::Action => reader.take_key("action"),
-        Key::Rules => reader.take_key("rules"),
-        Key::Set => reader.take_key("set"),
-        Key::Mask => reader.take_key("mask"),
-        Key::Flags => reader.take_key("flags"),
-        Key::Decision => reader.take_key("decision"),
-        Key::Pass => reader.take_key("pass"),
-        // end
-    }
+    let (name, written) = written(key);
+    reader.take_key(name, written)
 }
 
 /// Takes a name and returns its key, if steps or rules have it, or takes the brace that closes an object: then it
