@@ -14,9 +14,9 @@ pub use Rattle.std.proofs.lemmas.Option.{same_Some, some_pair_parts}
 pub use Rattle.slab.proofs.SlabLemmas.{Updates-with_value}
 pub use Rattle.slab.specs.Slab.{IsSlabClone, IsSlotClone, Slab, get, slab_len, with_value}
 pub use Rattle.lwp_table.specs.Chain.{IsChain, IsNearest, Node, above, anywhere, below, down, joined, leads_to, up}
-pub use Rattle.lwp_table.specs.Kept.{IsIndexed, IsWalk, LwpTableInvariant, user_node, born_row, closed_up, ends_at, is_at, is_of, linked, listing, marked, covering, empty_head}
+pub use Rattle.lwp_table.specs.Kept.{AreNamed, IsIndexed, IsKept, IsWaiter, IsWalk, LwpTableInvariant, user_node, born_row, closed_up, ends_at, is_at, is_of, linked, listing, awaited, marked, covering, empty_head}
 pub use Rattle.lwp_table.specs.Kept.{own_node, seen_by, place_of, rows_from, rows_of, node_named, extended, without_slot}
-pub use Rattle.lwp_table.specs.Lwps.{ComputesRows, Differ, Lacks, LacksLwp, Once, first_lwp, has_lwp, lwp_of, next_lwp, own_lwp, put_lwp, with_lwp, without_lwp}
+pub use Rattle.lwp_table.specs.Lwps.{ComputesRows, Differ, Lacks, LacksLwp, Once, SparesOthers, first_lwp, has_lwp, is_waiting, lwp_of, next_lwp, own_lwp, put_lwp, waits_for, with_lwp, without_lwp}
 pub use Rattle.lwp_table.specs.declared.LwpData.{LwpData}
 pub use Rattle.lwp_table.specs.declared.links.ListHead.{ListHead}
 pub use Rattle.lwp_table.specs.declared.links.RowNode.{RowNode}

@@ -2,12 +2,14 @@
 use Rattle.lwp_table.proofs.CommonNames.{◌≡◌, ◌≢◌, ℕ, ◌+◌, ◌<◌, ◌≤◌, Bool, true, false, not, List, [], ◌∷◌, ◌++◌, Option, Some, None, IsSome, IfSome, is_some, refl, sym, ap, subst}
 use Rattle.lwp_table.proofs.CommonNames.{◌∙◌, arith, inl, inr, cond, nat_eq, count_by, get_or, set, replicate, rules, lookup, option_map, IsSomeAnd, eqb_tells}
 use Rattle.lwp_table.proofs.CommonNames.{nat_tests, same_Some, get_or-replicate, LwpData, RowNode, ListHead, lwp_of, with_lwp, without_lwp, Differ, Node, IsNearest, IsChain}
-use Rattle.lwp_table.proofs.CommonNames.{up, anywhere, joined, own_node, seen_by, user_node, is_of, is_at, place_of, linked, closed_up, extended, without_slot, ends_at, covering, marked, empty_head}
+use Rattle.lwp_table.proofs.CommonNames.{up, anywhere, joined, own_node, seen_by, user_node, is_of, is_at, place_of, linked, closed_up, extended, without_slot, ends_at, covering, awaited, marked, empty_head}
 use Rattle.lwp_table.proofs.CommonNames.{Marks, traits_of, no_marks, is_bare, covers, gathered, noted, left, ◌&&◌, cases_Bool, cases_eq}
 use Rattle.lwp_table.proofs.MarkLemmas.{gathered_covers, gathered_own, covers_bare, noted_covers, noted_own, left_covers}
 use Rattle.lwp_table.proofs.CommonNames.{born_row, rows_of, IsIndexed, LwpTableInvariant}
 use Rattle.lwp_table.specs.declared.links.Link.TheVariants.{NextOwn, NextUser}
 use Rattle.std.proofs.lemmas.List.{length-set}
+use Rattle.lwp_table.proofs.CommonNames.{AreNamed, waits_for}
+use Rattle.lwp_table.proofs.NamedLemmas.{waiter-same, AreNamed-kept}
 use Rattle.lwp_table.proofs.WordLemmas.{test_same, test_apart}
 use Rattle.lwp_table.proofs.ChainLemmas.{AreApart, bridged, IsChain-left, IsChain-left_other}
 use Rattle.lwp_table.proofs.JoinLemmas.{IsChain-appended, IsChain-appended_other}
@@ -173,6 +175,13 @@ module _ {f : ℕ → Option RowNode} {es : List (ℕ × ℕ)} {hs : List (ℕ �
       pub LwpTableInvariant-added : (users' : List ListHead) → users' ≡ set users (place_of row.tid) (extended q no_marks user) → LwpTableInvariant g es' hs' (births + 1) users' (covering hs')
       LwpTableInvariant-added users' is = subst (λ us. LwpTableInvariant g es' hs' (births + 1) us (covering hs')) (sym is) added
 
+      -- the row doesn't wait, so all that wait are named as before
+      pub AreNamed-added : ((child : ℕ) → waits_for child row.mode ≡ false) → AreNamed f hs → AreNamed g hs'
+      AreNamed-added calm = AreNamed-kept f g hs hs' q faces (λ p. waiter-same (nat_eq row.pid p) _ (ends_at hs p) (extended q (gathered (ends_at hs p).marks row) (ends_at hs p)) refl (ends p)) (λ slot child there waits.
+          let is = same_Some new slot (sym has ∙ there) in
+          let off : waits_for child slot.row.mode ≡ false = rw (← is) (calm child) in
+          absurd (cc (off, waits)))
+
   -- the row of a number's slot is replaced by one of the same LWP
   module _ (row : LwpData) (q : ℕ) (old : RowNode) (g : ℕ → Option RowNode) (its : IsSomeAnd (lwp_of row.tid (rows_of f es births)) (λ was. was.pid ≡ row.pid)) (at : lookup (nat_eq row.tid) es ≡ Some q) (had : f q ≡ Some old)
       (has : g q ≡ Some (record old { row = row })) (same_g : (s : ℕ) → s ≢ q → g s ≡ f s) where
@@ -231,6 +240,19 @@ module _ {f : ℕ → Option RowNode} {es : List (ℕ × ℕ)} {hs : List (ℕ �
         | inr e ↦ rw (ends slot.row.pid, e) (there s slot had e)
       ];
     }
+
+  -- lists name an LWP that may wait for their processes
+  pub LwpTableInvariant-awaited : (tid : ℕ) (t : ℕ → Bool) (hs' : List (ℕ × ListHead)) → ((p : ℕ) → ends_at hs' p ≡ cond (t p) (awaited tid (ends_at hs p)) (ends_at hs p)) → ((p : ℕ) (l : LwpData) → may p l ≡ true → covering hs p l ≡ true)
+      → LwpTableInvariant f es hs' births users (covering hs')
+  LwpTableInvariant-awaited tid t hs' ends told = record {
+    indexed = kept.indexed;
+    own = λ p. grind (arith, nat_tests, ends p, kept.own p);
+    long = kept.long;
+    user = kept.user;
+    counted = λ p. grind (arith, nat_tests, ends p, kept.counted p);
+    homes = kept.homes;
+    covered = λ s slot had. let was = told slot.row.pid slot.row (kept.covered s slot had) in grind (arith, nat_tests, ends slot.row.pid, was);
+  }
 
   -- a row has replaced the one with its number, and its process's marks were noted
   module _ (before row : LwpData) (hs' : List (ℕ × ListHead))
@@ -369,6 +391,9 @@ module _ {f : ℕ → Option RowNode} {es : List (ℕ × ℕ)} {hs : List (ℕ �
 
       pub LwpTableInvariant-removed : (users' : List ListHead) → users' ≡ set users (place_of old.row.tid) user_left → LwpTableInvariant g es hs' births users' (covering hs')
       LwpTableInvariant-removed users' is = subst (λ us. LwpTableInvariant g es hs' births us (covering hs')) (sym is) removed
+
+      pub AreNamed-removed : AreNamed f hs → AreNamed g hs'
+      AreNamed-removed = AreNamed-kept f g hs hs' q left_faces (λ p. waiter-same (nat_eq old.row.pid p) _ (ends_at hs p) (without_slot old.own (left (ends_at hs p).marks old.row.tid) (ends_at hs p)) refl (ends p)) (λ slot child there waits. absurd (cc (there, gone_g)))
 
 -- an empty list, and an empty table
 IsChain-none : (f : ℕ → Option Node) (t : ℕ) → ((s : ℕ) → f s ≡ None) → IsChain f t None None

@@ -13,3 +13,4 @@ pub mod EditLemmas
 pub mod WalkLemmas
 pub mod CloneLemmas
 pub mod BirthLemmas
+pub mod NamedLemmas

@@ -1,5 +1,5 @@
 -- How a table stores its rows: in slots, each with a birth number, and with links in order of birth.
-use Rattle.std.specs.Prelude.{◌≡◌, ℕ, zero, suc, ◌+◌, ◌-◌, ◌<◌, Bool, true, ◌==◌, List, [], Option, Some, None, nat_eq, count_by, length, find, filter_map, get_or, is_none, is_some, if◌then◌else◌, unwrap_or, IfSome, IsSomeAnd}
+use Rattle.std.specs.Prelude.{◌≡◌, ℕ, zero, suc, ◌+◌, ◌-◌, ◌<◌, Bool, true, false, ◌==◌, List, [], Option, Some, None, nat_eq, count_by, length, find, filter_map, get_or, is_none, is_some, if◌then◌else◌, unwrap_or, IfSome, IsSomeAnd}
 use Rattle.std.specs.List.{cons_option}
 use Rattle.std.specs.Option.{option_and_then, option_map, option_map_or, option_or}
 use Rattle.std.specs.Map.{lookup}
@@ -13,6 +13,7 @@ use Rattle.lwp_table.specs.declared.links.Link.TheVariants.{NextOwn, PrevOwn, Ne
 use Rattle.lwp_table.specs.declared.marks.Marks.{Marks}
 use Rattle.lwp_table.specs.Chain.{Node, IsChain, IsNearest, up, above, leads_to}
 use Rattle.lwp_table.specs.Marks.{covers, no_marks}
+use Rattle.lwp_table.specs.Lwps.{waits_for}
 
 -- whether a row is an LWP of this process
 abbrev pub is_of : ℕ → LwpData → Bool
@@ -62,7 +63,7 @@ closed_up gone s slot = record slot { own = passed_by gone.own s slot.own; user 
 
 -- the ends of an empty list
 abbrev pub empty_head : ListHead
-empty_head = record { first = None; last = None; count = 0; marks = no_marks }
+empty_head = record { first = None; last = None; count = 0; marks = no_marks; waiter = None }
 
 -- the ends of the users' lists, and how many more users can get one without memory
 pub record Heads : Type 0 where
@@ -71,7 +72,7 @@ pub record Heads : Type 0 where
 
 -- the ends of a list, after this slot has joined it behind the last one, and the marks became these
 abbrev pub extended : ℕ → Marks → ListHead → ListHead
-extended q marks ends = record { first = option_or ends.first (Some q); last = Some q; count = ends.count + 1; marks = marks }
+extended q marks ends = record { first = option_or ends.first (Some q); last = Some q; count = ends.count + 1; marks = marks; waiter = ends.waiter }
 
 -- the first slot of a list, after a slot with these links has left it
 abbrev pub first_without : Links → ListHead → Option ℕ
@@ -84,6 +85,7 @@ without_slot gone marks ends = record {
   last = if is_none gone.next then gone.prev else ends.last;
   count = ends.count - 1;
   marks = if is_some (first_without gone ends) then marks else no_marks;
+  waiter = ends.waiter;
 }
 
 -- the ends of the list of a process
@@ -97,6 +99,10 @@ covering hs pid row = covers (ends_at hs pid).marks row
 -- the ends of a list, after its marks became these; the empty list has none
 abbrev pub marked : Marks → ListHead → ListHead
 marked marks ends = record ends { marks = if is_some ends.first then marks else ends.marks }
+
+-- the ends of a list, after this LWP became the one that may wait for the process
+abbrev pub awaited : ℕ → ListHead → ListHead
+awaited tid ends = record ends { waiter = Some tid }
 
 -- the row with this birth number
 abbrev pub born_row : (ℕ → Option RowNode) → List (ℕ × ℕ) → ℕ → Option LwpData
@@ -130,6 +136,20 @@ pub record LwpTableInvariant (f : ℕ → Option RowNode) (es : List (ℕ × ℕ
   pub counted : (pid : ℕ) → (ends_at hs pid).count ≡ count_by (is_of pid) (rows_of f es births)
   pub homes : (place : ℕ) → place < 64 → (get_or users place empty_head).count ≡ count_by (is_at place) (rows_of f es births)
   pub covered : (s : ℕ) (slot : RowNode) → f s ≡ Some slot → may slot.row.pid slot.row ≡ true
+
+-- the list of a process names this row, which waits for the process
+pub record IsWaiter (ends : ListHead) (child : ℕ) (row : LwpData) : Type 0 where
+  pub is : ends.waiter ≡ Some row.tid
+  pub waits : waits_for child row.mode ≡ true
+
+-- each LWP that waits for a process is the one that the process's list names
+abbrev pub AreNamed : (ℕ → Option RowNode) → List (ℕ × ListHead) → Type 0
+AreNamed f hs = (s : ℕ) (slot : RowNode) (child : ℕ) → f s ≡ Some slot → waits_for child slot.row.mode ≡ true → (ends_at hs child).waiter ≡ Some slot.row.tid
+
+-- the same of a table, which knows whether an LWP may wait that no list names
+pub record IsKept (f : ℕ → Option RowNode) (es : List (ℕ × ℕ)) (hs : List (ℕ × ListHead)) (births : ℕ) (users : List ListHead) (unnamed : Bool) : Type 0 where
+  pub kept : LwpTableInvariant f es hs births users (covering hs)
+  pub named : unnamed ≡ false → AreNamed f hs
 
 -- the rows from a link on
 abbrev pub rows_from : (ℕ → Option RowNode) → List (ℕ × ℕ) → ℕ → Option ℕ → List LwpData

@@ -1,19 +1,20 @@
 //! The slots that contain rows, and the lists that links form.
 
 ghost use Rattle.std.specs.Prelude.{◌≡◌, ℕ, ◌+◌, get_or, length, set, ◌<◌, ◌≤◌, ◌==◌, not, Some, None, ◌&&◌, ◌||◌, true, false, IsSome, IfSome, is_none, is_some, if◌then◌else◌, nat_eq};
-ghost use Rattle.std.specs.Option.{option_map, option_copied};
+ghost use Rattle.std.specs.Option.{option_map, option_map_or, option_copied};
 ghost use Rattle.slab.specs.Slab.{get, slab_len, ContainsKey};
 ghost use Rattle.std.specs.Map.{lookup};
 ghost use Rattle.indexmap.specs.IndexMap.{spare};
-ghost use Rattle.lwp_table.specs.Kept.{linked, closed_up, ends_at, marked, empty_head, place_of, seen_by, born_node, node_named, extended, without_slot};
+ghost use Rattle.lwp_table.specs.Kept.{linked, closed_up, ends_at, marked, awaited, IsWaiter, empty_head, place_of, seen_by, born_node, node_named, extended, without_slot};
 ghost use Rattle.lwp_table.specs.Chain.{IsNearest, up};
+ghost use Rattle.lwp_table.specs.Lwps.{waits_for};
 ghost use Rattle.lwp_table.specs.Marks.{no_marks, traits_of, is_bare, gathered, noted, left};
 
-use crate::LwpData;
 use crate::hasher::NumberIndex;
 use crate::hints::Hints;
 use crate::marks::{Marks, Traits};
 use crate::user_heads::UserHeads;
+use crate::{LwpData, Mode};
 use pid_blocks::{Pid, Tid, owner_of_tid};
 use slab::Slab;
 
@@ -32,6 +33,8 @@ pub struct ListHead {
     pub count: usize,
     /// What the rows of a process's list may have. A user's list doesn't use it.
     pub marks: Marks,
+    /// The LWP that may wait for the process, by its vfork. A user's list doesn't use it.
+    pub waiter: Option<Tid>,
 }
 
 impl ListHead {
@@ -44,6 +47,7 @@ impl ListHead {
             last: None,
             count: 0,
             marks: Marks::none(),
+            waiter: None,
         }
     }
 
@@ -57,6 +61,7 @@ impl ListHead {
             last: Some(slot),
             count: self.count + 1,
             marks,
+            waiter: self.waiter,
         }
     }
 
@@ -83,6 +88,7 @@ impl ListHead {
             } else {
                 Marks::none()
             },
+            waiter: self.waiter,
         }
     }
 }
@@ -273,6 +279,83 @@ pub fn note(heads: &mut NumberIndex<ListHead>, before: &LwpData, row: &LwpData)
         if ends.first.is_some() {
             ends.marks = ends.marks.noted(row);
         }
+    }
+}
+
+/// Names the LWP in the list of the process for which it waits, if it does. If it can't, the table has an LWP that isn't
+/// named.
+#[inline(always)]
+pub fn name_waiter(
+    heads: &mut NumberIndex<ListHead>,
+    unnamed: &mut bool,
+    rows: &Slab<RowNode>,
+    slots: &NumberIndex<usize>,
+    hints: &Hints,
+    row: &LwpData,
+)
+    requires { (s : ℕ) (slot : RowNode) → get rows.now s ≡ Some slot → lookup (nat_eq slot.row.tid) slots.now.entries ≡ Some s }
+    ensures ends { (q : ℕ) → ends_at heads.new.entries q ≡ (if not unnamed.new && waits_for q row.now.mode then awaited row.now.tid (ends_at heads.old.entries q) else ends_at heads.old.entries q) }
+    ensures before { unnamed.new ≡ false → unnamed.old ≡ false }
+    ensures alone { unnamed.new ≡ false → (s : ℕ) (slot : RowNode) (q : ℕ) → get rows.now s ≡ Some slot → waits_for q row.now.mode ≡ true → IsWaiter (ends_at heads.old.entries q) q slot.row → slot.row.tid ≡ row.now.tid }
+    ensures spare { spare heads.new ≡ spare heads.old }
+{
+    if let Mode::VforkWait(child) = row.mode {
+        *unnamed = *unnamed || !await_process(heads, rows, slots, hints, child, row.tid);
+    }
+}
+
+/// Names the LWP in the list of the process. Returns false, and changes nothing, if the list names another one that
+/// waits for the process, or the process has had no rows.
+#[inline(never)]
+fn await_process(
+    heads: &mut NumberIndex<ListHead>,
+    rows: &Slab<RowNode>,
+    slots: &NumberIndex<usize>,
+    hints: &Hints,
+    child: Pid,
+    tid: Tid,
+) -> bool
+    requires { (s : ℕ) (slot : RowNode) → get rows.now s ≡ Some slot → lookup (nat_eq slot.row.tid) slots.now.entries ≡ Some s }
+    ensures ends { (q : ℕ) → ends_at heads.new.entries q ≡ (if result && nat_eq child q then awaited tid (ends_at heads.old.entries q) else ends_at heads.old.entries q) }
+    ensures alone { result ≡ true → (s : ℕ) (slot : RowNode) → get rows.now s ≡ Some slot → IsWaiter (ends_at heads.old.entries child) child slot.row → slot.row.tid ≡ tid }
+    ensures spare { spare heads.new ≡ spare heads.old }
+{
+    let Some(ends) = heads.get_mut(&child.get()) else {
+        return false;
+    };
+    if let Some(other) = ends.waiter {
+        if other != tid && waits_for(rows, slots, hints, other, child) {
+            return false;
+        }
+    }
+    ends.waiter = Some(tid);
+    true
+}
+
+/// Tests whether this LWP waits for the process.
+fn waits_for(
+    rows: &Slab<RowNode>,
+    slots: &NumberIndex<usize>,
+    hints: &Hints,
+    tid: Tid,
+    child: Pid,
+) -> bool
+    requires { (s : ℕ) (slot : RowNode) → get rows.now s ≡ Some slot → lookup (nat_eq slot.row.tid) slots.now.entries ≡ Some s }
+    ensures { result ≡ option_map_or (λ slot. waits_for child slot.row.mode) (node_named (get rows.now) slots.now.entries tid) false }
+{
+    match node_of(rows, slots, hints, tid) {
+        Some(node) => node.row.mode.waits_for(child),
+        None => false,
+    }
+}
+
+/// Tests whether the row waits for a process for which the one before did not.
+pub fn waits_anew(before: &LwpData, row: &LwpData) -> bool
+    ensures { result ≡ false → (child : ℕ) → waits_for child row.now.mode ≡ true → waits_for child before.now.mode ≡ true }
+{
+    match row.mode {
+        Mode::VforkWait(child) => !before.mode.waits_for(child),
+        _ => false,
     }
 }
 

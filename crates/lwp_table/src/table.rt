@@ -9,22 +9,22 @@
 //! with another row or none, which a look-up sees, and `heads` to the ends of an empty list. So an index has at most an
 //! entry for each number that a row has had.
 
-ghost use Rattle.std.specs.Prelude.{◌≡◌, ◌==◌, ◌+◌, ◌<◌, ◌≤◌, ◌++◌, [], ◌∷◌, false, IsSome, IsSomeAnd, OnOk, IfOk, count_by, filter, map, option_map, slice_get, if◌then◌else◌};
+ghost use Rattle.std.specs.Prelude.{◌≡◌, ℕ, ◌==◌, ◌+◌, ◌<◌, ◌≤◌, ◌++◌, [], ◌∷◌, true, false, Some, IsSome, IsSomeAnd, OnOk, IfOk, count_by, filter, map, option_map, slice_get, if◌then◌else◌};
 ghost use Rattle.pid_blocks.specs.Blocks.{tid_owner};
 ghost use Rattle.std.specs.Fn.{FnReturnsAt};
-ghost use Rattle.lwp_table.specs.Lwps.{lwp_of, lwps_of, first_lwp, next_lwp, has_lwp, with_lwp, without_lwp, own_lwp, KeepsNumbers, ComputesRows, Differ};
+ghost use Rattle.lwp_table.specs.Lwps.{lwp_of, lwps_of, first_lwp, next_lwp, has_lwp, with_lwp, without_lwp, own_lwp, waits_for, KeepsNumbers, ComputesRows, SparesOthers, Differ};
 ghost use Rattle.lwp_table.specs.Marks.{Spares};
 
-use crate::LwpData;
 use crate::hasher::NumberIndex;
 use crate::hints::Hints;
 use crate::links::{
     Link, Links, ListHead, RowNode, close_up, ends_of, join, join_user, leave, leave_user, mark,
-    next_born, node_of, note, set_link, slot_of,
+    name_waiter, next_born, node_of, note, set_link, slot_of, waits_anew,
 };
 use crate::marks::{Marks, Traits};
 use crate::user_heads::UserHeads;
 use crate::walks::{OfProcess, OfUser};
+use crate::{LwpData, Mode};
 use pid_blocks::{Pid, Tid, Uid};
 use slab::Slab;
 use std::alloc::{AllocError, Global};
@@ -42,6 +42,8 @@ pub struct LwpTable {
     heads: NumberIndex<ListHead>,
     births: usize,
     users: UserHeads,
+    /// An LWP may wait for a process whose list doesn't name it. Hosts make no such LWP.
+    unnamed: bool,
 }
 
 impl Model for LwpTable {
@@ -49,7 +51,7 @@ impl Model for LwpTable {
     ghost use Rattle.slab.specs.Slab.{slab_len, get};
     ghost use Rattle.indexmap.specs.IndexMap.{spare};
     ghost use Rattle.lwp_table.specs.Lwps.{Lwps};
-    ghost use Rattle.lwp_table.specs.Kept.{rows_of, covering, LwpTableInvariant};
+    ghost use Rattle.lwp_table.specs.Kept.{rows_of, IsKept};
 
     ghost Value = { Lwps };
 
@@ -58,7 +60,7 @@ impl Model for LwpTable {
       spare = min (min (t.rows.capacity - slab_len t.rows) (spare t.slots)) (min (min (spare t.heads) t.users.spare) (18446744073709551615 - t.births));
     } };
 
-    ghost invariant = { λ t. LwpTableInvariant (get t.rows) t.slots.entries t.heads.entries t.births t.users.items (covering t.heads.entries) };
+    ghost invariant = { λ t. IsKept (get t.rows) t.slots.entries t.heads.entries t.births t.users.items t.unnamed };
 }
 
 impl Clone for LwpTable {
@@ -74,6 +76,7 @@ impl Clone for LwpTable {
             heads: self.heads.clone()?,
             births: self.births,
             users: self.users.clone()?,
+            unnamed: self.unnamed,
         })
     }
 }
@@ -91,6 +94,7 @@ impl LwpTable {
             heads: NumberIndex::with_hasher(alloc, BuildHasherDefault::new()),
             births: 0,
             users: UserHeads::new(alloc),
+            unnamed: false,
         })
     }
 
@@ -140,6 +144,7 @@ impl LwpTable {
         let there = hinted.map(|node| node.row.tid.get());
         self.hints.note_new(row.tid.get(), slot, there);
         self.births += 1;
+        self.unnamed |= row.mode.waits();
     }
 
     /// Tests whether a row has this number.
@@ -180,6 +185,14 @@ impl LwpTable {
         let before = place.row;
         place.row = row;
         note(&mut self.heads, &before, &row);
+        name_waiter(
+            &mut self.heads,
+            &mut self.unnamed,
+            &self.rows,
+            &self.slots,
+            &self.hints,
+            &row,
+        );
     }
 
     /// Changes each row of this process in its place. A row keeps its number and its process.
@@ -192,13 +205,17 @@ impl LwpTable {
         ensures spare { self.new.spare ≡ self.old.spare }
     {
         let mut marks = Marks::none();
+        let mut unnamed = self.unnamed;
         let mut link = ends_of(&self.heads, pid).first;
         while let Some(at) = link {
             let slot = &mut self.rows[at];
-            slot.row = edit(&slot.row);
-            marks = marks.gathered(&slot.row);
+            let row = edit(&slot.row);
+            unnamed |= waits_anew(&slot.row, &row);
+            slot.row = row;
+            marks = marks.gathered(&row);
             link = slot.own.next;
         }
+        self.unnamed = unnamed;
         mark(&mut self.heads, pid, marks);
     }
 
@@ -240,6 +257,23 @@ impl LwpTable {
             if let Some(tid) = marks.sole {
                 self.edit_one(pid, tid, &edit);
             }
+        }
+    }
+
+    /// Changes each row of this process in its place, by a change that leaves LWPs that don't wait for `child` as they
+    /// are. A row keeps its number and its process. Looks only at the LWP that may wait for it.
+    #[inline(always)]
+    pub fn edit_waiting_of<F: Fn(&LwpData) -> LwpData>(&mut self, pid: Pid, child: Pid, edit: F)
+        requires callable { F.IsAlwaysCallable edit }
+        requires keeps { KeepsNumbers (FnReturnsAt F.Fn edit) self.old.rows }
+        // the rows by the definition, for any such change that the closure computes on the rows
+        ensures rows { (change : LwpData → LwpData) → ComputesRows (FnReturnsAt F.Fn edit) self.old.rows change → SparesOthers child change → self.new.rows ≡ map (own_lwp pid change) self.old.rows }
+        ensures spare { self.new.spare ≡ self.old.spare }
+    {
+        if self.unnamed {
+            self.edit_of(pid, edit);
+        } else if let Some(tid) = ends_of(&self.heads, child).waiter {
+            self.edit_one(pid, tid, &edit);
         }
     }
 

@@ -36,4 +36,4 @@ of_others (Detach lost unwanted) = Detach lost unwanted
 abbrev pub touched : Edit → Traits
 touched (Post s to lost) = record no_traits { pending = bit_or (opposed s) lost }
 touched (Step stepping) = record no_traits { steps = true }
-touched (Detach lost unwanted) = record { pending = bit_or lost unwanted; steps = true; waits = false; held = true }
+touched (Detach lost unwanted) = record { pending = bit_or lost unwanted; steps = true; held = true }

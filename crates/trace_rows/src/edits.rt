@@ -83,7 +83,6 @@ impl Edit {
             Edit::Detach { lost, unwanted } => Traits {
                 pending: lost.union(unwanted),
                 steps: true,
-                waits: false,
                 held: true,
             },
         }

@@ -1,11 +1,9 @@
 -- A walk that takes out the LWPs of a process, and what the end of a vfork wait keeps of an LWP.
 use Rattle.trace_stop.proofs.CommonNames.{AllByRecursion, LwpData, Differ, lwp_of, first_lwp, ProcData, Rows, drop_lwp, released, not-false, ◌≡◌, ℕ, ◌<◌, Bool, true, false, List, [], ◌∷◌, length, filter, refl, ap, ◌∙◌}
-use Rattle.trace_stop.proofs.CommonNames.{arith, Some, None, subst, eq-eqb, eqb-true, not, ◌==◌, IfSome, every_untested, the_lwp, without_lwps, All-imply}
-use Rattle.std.proofs.lemmas.Bool.Decides.{nat_tests}
-use Rattle.lwp_table.specs.Marks.{is_waiting, meets, traits_of}
+use Rattle.trace_stop.proofs.CommonNames.{arith, sym, Some, None, subst, eq-eqb, eqb-true, not, ◌==◌, IfSome, every_untested, the_lwp, without_lwps, All-imply}
+use Rattle.lwp_table.specs.Lwps.{waits_for}
 use Rattle.lwp_table.specs.declared.Mode.{Mode}
 use Rattle.lwp_table.specs.declared.Mode.TheVariants.{User, InCall, VforkWait}
-use Rattle.lwp_table.specs.declared.marks.Traits.{Traits}
 use Rattle.trace_rows.specs.End.{waits_where}
 use Rattle.lwp_table.proofs.CountLemmas.{length-without}
 use Rattle.proc_table.proofs.LwpWalk.{IsLwp, first-found}
@@ -47,11 +45,12 @@ released-pid over r l = grind arith
 
 pub ruleset removing = (found, removed_same, removed_less, removed_all)
 
--- an LWP that waits for no process stays as it is
-no_wait : (over : ℕ → Bool) (mode : Mode) → is_waiting mode ≡ false → waits_where over mode ≡ false
-no_wait over User none = refl
-no_wait over (InCall call) none = refl
-no_wait over (VforkWait child) none = absurd (cc)
+-- to wait for one process
+pub waits_for_one : (child : ℕ) (mode : Mode) → waits_for child mode ≡ waits_where (λ n. n == child) mode
+waits_for_one child User = refl
+waits_for_one child (InCall call) = refl
+waits_for_one child (VforkWait n) = refl
 
-pub released-spares : (over : ℕ → Bool) (r : ProcData) (l : LwpData) (touched : Traits) → touched.waits ≡ true → meets (traits_of l) touched ≡ false → released over r l ≡ l
-released-spares over r l touched waits apart = let none : is_waiting l.mode ≡ false = grind (arith, nat_tests) in rw (no_wait over l.mode none) refl
+-- an LWP that doesn't wait for the process stays as it is
+pub released-others : (child : ℕ) (r : ProcData) (l : LwpData) → waits_for child l.mode ≡ false → released (λ n. n == child) r l ≡ l
+released-others child r l calm = rw (sym (waits_for_one child l.mode) ∙ calm) refl

@@ -8,14 +8,14 @@ ghost use Rattle.proc_table.specs.Edits.{map_lwps};
 ghost use Rattle.proc_table.specs.Kept.{TableInvariant};
 ghost use Rattle.proc_table.specs.Processes.{process_of, is_live, traces};
 ghost use Rattle.proc_table.specs.Walks.{next_tracee, next_child};
-ghost use Rattle.trace_rows.specs.End.{released, waits_where, collector, uncollected};
+ghost use Rattle.trace_rows.specs.End.{released, collector, uncollected};
 ghost use Rattle.trace_rows.specs.Facts.{IsSound};
 ghost use Rattle.trace_stop.specs.Laws.{traces_live, end_alone};
 ghost use Rattle.trace_rows.specs.Sound.{is_live_at};
 ghost use Rattle.trace_stop.specs.Leaving.{IsLeaving, without_lwps, lwps_ended};
 
 use event_masks::EventMask;
-use lwp_table::{Due, LwpData, Mode, Traits};
+use lwp_table::{Due, LwpData, Mode};
 use pid_blocks::Pid;
 use proc_table::{ProcData, State, Tables};
 use signals::SigSet;
@@ -31,21 +31,12 @@ fn remove_lwps(tables: &mut Tables, pid: Pid)
     }
 }
 
-/// Tests whether an LWP in this mode waits for the process.
-fn waits_for(mode: Mode, pid: Pid) -> bool
-    ensures { result ≡ waits_where (λ n. n == pid) mode }
-{
-    match mode {
-        Mode::VforkWait(child) => child == pid,
-        _ => false,
-    }
-}
-
 /// Returns an LWP of this process. If it waited for `child`, its wait is over.
+#[tactic(auto, using(crate::proofs::LwpEdits::waits_for_one))]
 fn released(lwp: &LwpData, process: &ProcData, child: Pid) -> LwpData
     ensures { result ≡ released (λ n. n == child) process.now lwp.now }
 {
-    if !waits_for(lwp.mode, child) {
+    if !lwp.mode.waits_for(child) {
         return LwpData { ..*lwp };
     }
     let due = if process.tracer.is_some() && process.mask.asks(EventMask::PTRACE_VFORK) {
@@ -61,16 +52,12 @@ fn released(lwp: &LwpData, process: &ProcData, child: Pid) -> LwpData
 }
 
 /// Ends the waits of a process's LWPs for its child, as when the child ends or makes an exec. Each of these LWPs is
-/// in user mode again, and stops at its next turn if its tracer asks for it. If only one LWP may wait for a child, it
-/// looks only at that one. Allocates nothing.
+/// in user mode again, and stops at its next turn if its tracer asks for it. Looks only at the LWP that may wait for
+/// the child. Allocates nothing.
 pub fn release(tables: &mut Tables, process: &ProcData, child: Pid)
     ensures { tables.new.rows ≡ map_lwps process.now.pid (released (λ n. n == child) process.now) tables.old.rows }
 {
-    let waiting = Traits {
-        waits: true,
-        ..Traits::none()
-    };
-    tables.edit_touched_lwps(process.pid, &waiting, |lwp| released(lwp, process, child));
+    tables.edit_waiting_lwps(process.pid, child, |lwp| released(lwp, process, child));
 }
 
 /// Returns the parent of a process, if the parent is a process. No process has the number 1.

@@ -2,7 +2,7 @@
 
 ghost use Rattle.std.specs.Prelude.{◌≡◌, ◌+◌, ◌<◌, ◌≤◌, true, false, None, IsSome, IsSomeAnd};
 ghost use Rattle.pid_blocks.specs.Blocks.{tid_block, InBlock};
-ghost use Rattle.lwp_table.specs.Lwps.{first_lwp, lwp_of, ComputesRows};
+ghost use Rattle.lwp_table.specs.Lwps.{first_lwp, lwp_of, ComputesRows, SparesOthers};
 ghost use Rattle.lwp_table.specs.Marks.{Spares};
 ghost use Rattle.proc_table.specs.Processes.{process_of};
 ghost use Rattle.proc_table.specs.Rows.{change_process};
@@ -108,6 +108,20 @@ impl Tables {
         ensures others { self.new.spare_processes ≡ self.old.spare_processes }
     {
         self.lwps.edit_touched_of(pid, touched, edit);
+    }
+
+    /// Changes each LWP of a process in its place, by a change that leaves LWPs that don't wait for `child` as they are.
+    /// An LWP keeps its number and its process. It looks only at the LWP that may wait for it.
+    #[inline(always)]
+    pub fn edit_waiting_lwps<F: Fn(&LwpData) -> LwpData>(&mut self, pid: Pid, child: Pid, edit: F)
+        requires callable { F.IsAlwaysCallable edit }
+        requires change { (change : LwpData → LwpData) × IsLwpChange (FnReturnsAt F.Fn edit) self.old.rows.lwps change × SparesOthers child change }
+        // the rows by the definition, for any such change that the closure computes on the rows
+        ensures rows { (change : LwpData → LwpData) → ComputesRows (FnReturnsAt F.Fn edit) self.old.rows.lwps change → SparesOthers child change → self.new.rows ≡ map_lwps pid change self.old.rows }
+        ensures spare { self.new.spare_lwps ≡ self.old.spare_lwps }
+        ensures others { self.new.spare_processes ≡ self.old.spare_processes }
+    {
+        self.lwps.edit_waiting_of(pid, child, edit);
     }
 
     /// Removes a process that no row names.

@@ -1,15 +1,16 @@
-use Rattle.lwp_table.proofs.CommonNames.{ap, sym, ◌∙◌, arith, has_lwp, ends_at, empty_head, get_or, place_of}
+use Rattle.lwp_table.proofs.CommonNames.{ap, sym, ◌∙◌, arith, has_lwp, is_waiting, ◌≡◌, false, rules, cases_Bool, ends_at, empty_head, get_or, place_of}
 use Rattle.slab.specs.Slab.{get as slot_get}
+use Rattle.lwp_table.proofs.NamedLemmas.{waits_for-none}
 use Rattle.lwp_table.proofs.WordLemmas.{lwp_of-fresh}
-use Rattle.lwp_table.proofs.KeptLemmas.{HasJoined, own_count, user_count, rows-added, LwpTableInvariant-added}
+use Rattle.lwp_table.proofs.KeptLemmas.{HasJoined, own_count, user_count, rows-added, LwpTableInvariant-added, AreNamed-added}
 use Rattle.lwp_table.proofs.table.LwpTable.add.Goals.{After-unwrap}
 use Rattle.lwp_table.proofs.table.LwpTable.add.Goals as goal
 
 pub join-requires-clause-count : goal.join-requires-clause-count
-join-requires-clause-count c = omega (arith, own_count c.self.invariant c.args.row.pid, c.requires.room, ap (λ v. v.spare) c.self.view_is)
+join-requires-clause-count c = omega (arith, own_count c.self.invariant.kept c.args.row.pid, c.requires.room, ap (λ v. v.spare) c.self.view_is)
 
 pub join_user-requires-clause-count : goal.join_user-requires-clause-count
-join_user-requires-clause-count c = λ below. omega (arith, user_count c.self.invariant (place_of c.args.row.tid) below, c.requires.room, ap (λ v. v.spare) c.self.view_is)
+join_user-requires-clause-count c = λ below. omega (arith, user_count c.self.invariant.kept (place_of c.args.row.tid) below, c.requires.room, ap (λ v. v.spare) c.self.view_is)
 
 -- what the steps up to the index establish
 joins : (c : After-unwrap) → HasJoined (slot_get c.self.inside.rows) c.self.inside.slots.entries (ends_at c.self.inside.heads.entries c.args.row.pid) (get_or c.self.inside.users.items (place_of c.args.row.tid) empty_head) c.self.inside.births c.args.row c.vacant_key-slot.result (slot_get c.set_link-2.new.slots) c.insert.new.self.entries
@@ -30,7 +31,13 @@ joins c =
 
 pub invariant_of-self : goal.invariant_of-self
 invariant_of-self c =
-    LwpTableInvariant-added c.self.invariant c.args.row c.vacant_key-slot.result _ _ (joins (goal.at.invariant_of-self c).After-unwrap) c.join.new.heads.entries c.join.ensures.ends (λ p l told. told) _ c.join_user.ensures.ends
+    record {
+      kept = LwpTableInvariant-added c.self.invariant.kept c.args.row c.vacant_key-slot.result _ _ (joins (goal.at.invariant_of-self c).After-unwrap) c.join.new.heads.entries c.join.ensures.ends (λ p l told. told) _ c.join_user.ensures.ends;
+      named = λ all.
+          let before : c.self.inside.unnamed ≡ false = search (rules, cases_Bool) in
+          let calm : is_waiting c.args.row.mode ≡ false = search (rules, cases_Bool, c.waits.ensures) in
+          AreNamed-added c.self.invariant.kept c.args.row c.vacant_key-slot.result _ _ (joins (goal.at.invariant_of-self c).After-unwrap) c.join.new.heads.entries c.join.ensures.ends (λ p l told. told) (λ child. waits_for-none child c.args.row.mode calm) (c.self.invariant.named before);
+    }
 
 pub returns-clause-rows : goal.returns-clause-rows
-returns-clause-rows c = rw (← c.self.view_is) (rows-added c.self.invariant c.args.row c.vacant_key-slot.result _ _ (joins (goal.at.returns-clause-rows c).After-unwrap))
+returns-clause-rows c = rw (← c.self.view_is) (rows-added c.self.invariant.kept c.args.row c.vacant_key-slot.result _ _ (joins (goal.at.returns-clause-rows c).After-unwrap))
