@@ -300,7 +300,7 @@ pub fn name_waiter(
     ensures spare { spare heads.new ≡ spare heads.old }
 {
     if let Mode::VforkWait(child) = row.mode {
-        *unnamed = *unnamed || !await_process(heads, rows, slots, hints, child, row.tid);
+        *unnamed = *unnamed || !await_process(heads, rows, slots, hints, child, row);
     }
 }
 
@@ -313,22 +313,22 @@ fn await_process(
     slots: &NumberIndex<usize>,
     hints: &Hints,
     child: Pid,
-    tid: Tid,
+    row: &LwpData,
 ) -> bool
     requires { (s : ℕ) (slot : RowNode) → get rows.now s ≡ Some slot → lookup (nat_eq slot.row.tid) slots.now.entries ≡ Some s }
-    ensures ends { (q : ℕ) → ends_at heads.new.entries q ≡ (if result && nat_eq child q then awaited tid (ends_at heads.old.entries q) else ends_at heads.old.entries q) }
-    ensures alone { result ≡ true → (s : ℕ) (slot : RowNode) → get rows.now s ≡ Some slot → IsWaiter (ends_at heads.old.entries child) child slot.row → slot.row.tid ≡ tid }
+    ensures ends { (q : ℕ) → ends_at heads.new.entries q ≡ (if result && nat_eq child q then awaited row.now.tid (ends_at heads.old.entries q) else ends_at heads.old.entries q) }
+    ensures alone { result ≡ true → (s : ℕ) (slot : RowNode) → get rows.now s ≡ Some slot → IsWaiter (ends_at heads.old.entries child) child slot.row → slot.row.tid ≡ row.now.tid }
     ensures spare { spare heads.new ≡ spare heads.old }
 {
     let Some(ends) = heads.get_mut(&child.get()) else {
         return false;
     };
     if let Some(other) = ends.waiter {
-        if other != tid && waits_for(rows, slots, hints, other, child) {
+        if other != row.tid && waits_for(rows, slots, hints, other, child) {
             return false;
         }
     }
-    ends.waiter = Some(tid);
+    ends.waiter = Some(row.tid);
     true
 }
 
