@@ -27,4 +27,5 @@ pub mod OwnRows
 pub mod LwpWalk
 pub mod Changes
 pub mod Stays
+pub mod EditedRows
 pub mod Bits

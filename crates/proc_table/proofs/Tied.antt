@@ -39,6 +39,13 @@ pub record IsRehung (f g : ℕ → Option RowNode) (es : List (ℕ × ℕ)) (at 
   pub here : (k : ListKind) → keys (nodes_of k g) at ≡ option_map (λ (was : RowNode). (was.row.pid, pick k tracer parent)) (f at)
   pub others : (k : ListKind) (s : ℕ) → s ≢ at → keys (nodes_of k g) s ≡ keys (nodes_of k f) s
 
+-- a row with the same number, user, tracer and parent as another
+pub record StaysInLists (p new : ProcData) : Type 0 where
+  pub number : new.pid ≡ p.pid
+  pub user : new.uid ≡ p.uid
+  pub tracer : new.tracer ≡ p.tracer
+  pub parent : new.parent ≡ p.parent
+
 -- what is kept once the row with the number, of this user, is gone
 pub record IsWithout (f : ℕ → Option RowNode) (es : List (ℕ × ℕ)) (counts : List ℕ) (pid uid : ℕ) (g : ℕ → Option RowNode) : Type 0 where
   pub user : IsUser uid
@@ -172,20 +179,22 @@ module _ {f : ℕ → Option RowNode} {es : List (ℕ × ℕ)} {counts : List �
           all.1,
         )
 
-  -- a row with other pending signals, which stays in its lists
-  module _ {g : ℕ → Option RowNode} {at : ℕ} {mid : RowNode} (pending : ℕ) (has : f at ≡ Some mid) (has' : g at ≡ Some (record mid { row = record mid.row { pending = pending } })) (others : (s : ℕ) → s ≢ at → g s ≡ f s) where
+  -- a row edited in its place: it keeps its number and its user, and stays in its lists
+  module _ {g : ℕ → Option RowNode} {at : ℕ} {mid : RowNode} (edit : ProcData → ProcData) (stays : (p : ProcData) → StaysInLists p (edit p)) (has : f at ≡ Some mid) (has' : g at ≡ Some (record mid { row = edit mid.row })) (others : (s : ℕ) → s ≢ at → g s ≡ f s) where
     in_place : IsRehung f f es at mid.row.tracer (parent_named mid.row.parent)
     in_place = grind (arith, nat_tests)
 
-    pub pending-written : IsTied g es counts × (all_rows (look (rows_of g) es) ≡ map (put_process (record mid.row { pending = pending })) (all_rows (look (rows_of f) es)))
-    pending-written = written in_place refl refl has has' others refl (rw (row-of at mid has) refl)
+    pub edited-written : IsTied g es counts × (all_rows (look (rows_of g) es) ≡ map (put_process (edit mid.row)) (all_rows (look (rows_of f) es)))
+    edited-written =
+        let its = stays mid.row in
+        written in_place (sym its.tracer) (ap parent_named (sym its.parent)) has has' others (sym its.number) (rw its.number (rw (row-of at mid has) (sym its.user)))
 
-    pub pending-listed : (pid : ℕ) (row : ProcData) → lookup (nat_eq pid) es ≡ Some at → process_of pid (all_rows (look (rows_of f) es)) ≡ Some row
-        → all_rows (look (rows_of g) es) ≡ map (put_process (record row { pending = pending })) (all_rows (look (rows_of f) es))
-    pending-listed pid row number there =
+    pub edited-listed : (pid : ℕ) (row : ProcData) → lookup (nat_eq pid) es ≡ Some at → process_of pid (all_rows (look (rows_of f) es)) ≡ Some row
+        → all_rows (look (rows_of g) es) ≡ map (put_process (edit row)) (all_rows (look (rows_of f) es))
+    edited-listed pid row number there =
         let its = row_there (rows_of f) es counts tied.slotted pid row there in
         let was : mid.row ≡ row = grind (arith, nat_tests, same_Some, its.1, its.2) in
-        rw was at pending-written.1
+        rw was at edited-written.1
 
   -- one row less, which was taken out of its lists and whose number no row names
   pub removed : {f1 g : ℕ → Option RowNode} {at : ℕ} {mid : RowNode} → IsRehung f f1 es at None None → f1 at ≡ Some mid → g at ≡ None → ((s : ℕ) → s ≢ at → g s ≡ f1 s)

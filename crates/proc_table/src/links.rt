@@ -70,6 +70,7 @@ impl ListLinks {
 }
 
 /// Returns the links of one kind.
+#[inline(always)]
 pub fn links_of(kin: ListKind, slot: &RowNode) -> ListLinks
     ensures { result ≡ links_in kin slot.now }
 {
@@ -80,6 +81,7 @@ pub fn links_of(kin: ListKind, slot: &RowNode) -> ListLinks
 }
 
 /// Writes the links of one kind.
+#[inline(always)]
 #[tactic(auto, using(crate::proofs::ListNodes::put_laws))]
 fn set_links(nodes: &mut Slab<RowNode>, kin: ListKind, at: usize, links: ListLinks)
     requires { ContainsKey nodes.old at }
@@ -169,6 +171,7 @@ pub fn place_of(
 }
 
 /// Writes the link from the row in the slot `at` to the next one, or the first link of the head.
+#[inline(always)]
 fn set_next(
     nodes: &mut Slab<RowNode>,
     kin: ListKind,
@@ -199,6 +202,7 @@ fn set_next(
 }
 
 /// Writes the link from the row in the slot `at` to the one before, or the last link of the head.
+#[inline(always)]
 fn set_prev(
     nodes: &mut Slab<RowNode>,
     kin: ListKind,
@@ -229,6 +233,7 @@ fn set_prev(
 }
 
 /// Writes whose list contains a row, and the row's links there.
+#[inline(always)]
 fn hang(
     nodes: &mut Slab<RowNode>,
     kin: ListKind,
@@ -252,6 +257,7 @@ fn hang(
 }
 
 /// Adds the row in `slot`, which is in no list, to the list of `list_owner`.
+#[inline(always)]
 fn link(
     nodes: &mut Slab<RowNode>,
     slots: &NumberIndex<usize>,
@@ -280,6 +286,7 @@ fn link(
 }
 
 /// Removes the row in `slot` from the list of `list_owner`.
+#[inline(always)]
 fn unlink(nodes: &mut Slab<RowNode>, kin: ListKind, head: usize, list_owner: u32, slot: usize)
     requires linked { IsLinked (nodes_of kin (get nodes.old)) }
     requires there { IsHead (get nodes.old) head list_owner }
@@ -299,6 +306,7 @@ fn unlink(nodes: &mut Slab<RowNode>, kin: ListKind, head: usize, list_owner: u32
 }
 
 /// Removes the row in `slot` from the list that contains it, if any.
+#[inline(always)]
 fn leave(
     nodes: &mut Slab<RowNode>,
     slots: &NumberIndex<usize>,
@@ -323,6 +331,7 @@ fn leave(
 }
 
 /// Adds the row in `slot`, which is in no list, to the list of `list_owner`, if any.
+#[inline(always)]
 fn join(
     nodes: &mut Slab<RowNode>,
     slots: &NumberIndex<usize>,
@@ -349,7 +358,7 @@ fn join(
 }
 
 /// Moves the row in `slot` from the list that contains it, if any, to the list of `list_owner`, or to none.
-#[inline(never)]
+#[inline(always)]
 fn move_to_list(
     nodes: &mut Slab<RowNode>,
     slots: &NumberIndex<usize>,

@@ -2,15 +2,15 @@
 
 ghost use Rattle.std.specs.Prelude.{◌≡◌, ℕ, ◌+◌, ◌<◌, ◌≤◌, ◌==◌, [], Bool, true, false, not, filter, map, count_by, option_map, option_copied, Some, None, IsSome, IsSomeAnd, IfOk, OnOk};
 ghost use Rattle.std.specs.List.{list_any};
-ghost use Rattle.proc_table.specs.Processes.{process_of, placed};
+ghost use Rattle.proc_table.specs.Processes.{has_news, process_of, placed};
 ghost use Rattle.std.specs.Fn.{FnReturnsAt};
 ghost use Rattle.proc_table.specs.ListNodes.{list_owner, parent_named, unlinked, next_named, find_named};
 ghost use Rattle.proc_table.specs.Walks.{next_tracee, next_child, find_tracee, find_child, DecidesRows};
 ghost use Rattle.proc_table.specs.Kept.{InOwnBlock, put_process};
 
-use crate::ProcData;
 use crate::links::{ListKind, ListLinks, RowNode, first_slot, next_slot, update_lists};
 use crate::lookups::{known_slot, node_named, noted_number, slot_of};
+use crate::{ProcData, State};
 use lwp_table::{Hints, NumberIndex};
 use pid_blocks::{Pid, Uid};
 use signals::SigSet;
@@ -218,17 +218,18 @@ impl Processes {
     }
 
     /// Adds a row. Allocates nothing.
-    pub fn add(&mut self, row: ProcData)
+    #[inline(never)]
+    pub fn add(&mut self, row: &ProcData)
         requires room { 0 < self.old.spare }
-        requires fresh { list_any (λ p. p.pid == row.pid) self.old.rows ≡ false }
-        requires home { InOwnBlock row }
-        requires named { (kin : ListKind) (t : ℕ) → list_owner kin row ≡ Some t → list_any (λ p. p.pid == t) self.old.rows ≡ true }
-        ensures rows { self.new.rows ≡ placed row self.old.rows }
+        requires fresh { list_any (λ p. p.pid == row.now.pid) self.old.rows ≡ false }
+        requires home { InOwnBlock row.now }
+        requires named { (kin : ListKind) (t : ℕ) → list_owner kin row.now ≡ Some t → list_any (λ p. p.pid == t) self.old.rows ≡ true }
+        ensures rows { self.new.rows ≡ placed row.now self.old.rows }
         ensures spare { self.old.spare ≤ self.new.spare + 1 }
     {
-        let tracer = tracer_of(&row);
-        let parent = parent_of(&row);
-        let slot = self.nodes.insert_reserved(unlinked(row));
+        let tracer = tracer_of(row);
+        let parent = parent_of(row);
+        let slot = self.nodes.insert_reserved(unlinked(*row));
         self.slots.insert(row.pid.get(), slot).unwrap();
         let there = noted_number(&self.nodes, &self.hints, row.pid.get());
         self.hints.note_new(row.pid.get(), slot, there);
@@ -245,10 +246,11 @@ impl Processes {
 
     /// Replaces the row with the same number, which is of the same user. The new row moves to the lists of its
     /// tracer and parent. Allocates nothing.
-    pub fn set(&mut self, row: ProcData)
-        requires there { IsSomeAnd (process_of row.pid self.old.rows) (λ was. was.uid ≡ row.uid) }
-        requires named { (kin : ListKind) (t : ℕ) → list_owner kin row ≡ Some t → list_any (λ p. p.pid == t) self.old.rows ≡ true }
-        ensures rows { self.new.rows ≡ map (put_process row) self.old.rows }
+    #[inline(never)]
+    pub fn set(&mut self, row: &ProcData)
+        requires there { IsSomeAnd (process_of row.now.pid self.old.rows) (λ was. was.uid ≡ row.now.uid) }
+        requires named { (kin : ListKind) (t : ℕ) → list_owner kin row.now ≡ Some t → list_any (λ p. p.pid == t) self.old.rows ≡ true }
+        ensures rows { self.new.rows ≡ map (put_process row.now) self.old.rows }
         ensures spare { self.new.spare ≡ self.old.spare }
     {
         let number = row.pid.get();
@@ -258,11 +260,11 @@ impl Processes {
             &self.slots,
             &self.hints,
             slot,
-            tracer_of(&row),
-            parent_of(&row),
+            tracer_of(row),
+            parent_of(row),
         );
         let node = &mut self.nodes[slot];
-        node.row = row;
+        node.row = *row;
     }
 
     /// Replaces the pending signals of the row with this number, in its place.
@@ -275,6 +277,20 @@ impl Processes {
         let at = known_slot(&self.nodes, &self.slots, &self.hints, pid.get());
         let slot = &mut self.nodes[at];
         slot.row.pending = pending;
+    }
+
+    /// Replaces the state of the row with this number, in its place. Returns whether a wait may report the row then.
+    #[inline(always)]
+    pub fn set_state(&mut self, pid: Pid, state: State) -> bool
+        requires there { list_any (λ p. p.pid == pid) self.old.rows ≡ true }
+        ensures rows { (row : ProcData) → process_of pid self.old.rows ≡ Some row → self.new.rows ≡ map (put_process (record row { state = state })) self.old.rows }
+        ensures news { (row : ProcData) → process_of pid self.old.rows ≡ Some row → result ≡ has_news (record row { state = state }) }
+        ensures spare { self.new.spare ≡ self.old.spare }
+    {
+        let at = known_slot(&self.nodes, &self.slots, &self.hints, pid.get());
+        let slot = &mut self.nodes[at];
+        slot.row.state = state;
+        slot.row.has_news()
     }
 
     /// Removes the row with this number, which no row names.

@@ -3,7 +3,7 @@
 ghost use Rattle.std.specs.Prelude.{◌≡◌, ℕ, ◌+◌, ◌*◌, ◌<◌, ◌≤◌, ◌^◌, Bool, true, false, IsSomeAnd, OnOk, IfOk, IfSome, IfNone, filter, get_or, map, option_map, slice_get};
 ghost use Rattle.pid_blocks.specs.Users.{IsUser};
 ghost use Rattle.pid_blocks.specs.Blocks.{slot, users, pid_block, tid_block, InBlock};
-ghost use Rattle.lwp_table.specs.Lwps.{first_lwp, lwp_of, next_lwp};
+ghost use Rattle.lwp_table.specs.Lwps.{first_lwp, lwp_of, lwps_of, next_lwp};
 ghost use Rattle.proc_table.specs.Processes.{process_of};
 ghost use Rattle.proc_table.specs.Seen.{visible_process, seen_lwp, find_seen, owns};
 ghost use Rattle.std.specs.Fn.{FnReturnsAt};
@@ -17,7 +17,7 @@ mod changes;
 use crate::ProcData;
 use crate::bit_sets::NumberSet;
 use crate::processes::Processes;
-use lwp_table::{LwpData, LwpTable, OfUser};
+use lwp_table::{LwpData, LwpTable, OfProcess, OfUser};
 use pid_blocks::{
     FIRST_PID, FIRST_TID, PIDS, Pid, TIDS, Tid, Uid, next_free, pid_block, tid_block,
 };
@@ -177,6 +177,14 @@ impl Tables {
         ensures kept { TableInvariant self.now.rows }
     {
         self.lwps.at(place)
+    }
+
+    /// Returns an iterator over the LWPs of a process, in order of birth. It looks at no other row.
+    pub fn lwps_of(&self, pid: Pid) -> OfProcess<'_>
+        ensures rows { result ≡ lwps_of pid self.now.rows.lwps }
+        ensures kept { TableInvariant self.now.rows }
+    {
+        self.lwps.of_process(pid)
     }
 
     /// Returns an iterator over the LWPs of the user's processes, in order of birth. It looks at no other row.

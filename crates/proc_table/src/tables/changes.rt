@@ -14,7 +14,7 @@ ghost use Rattle.proc_table.specs.Edits.{map_lwps, IsLwpChange};
 ghost use Rattle.proc_table.specs.Kept.{IsRow, InOwnBlock, Named, set_process, set_lwp, drop_process, drop_lwp};
 
 use super::Tables;
-use crate::ProcData;
+use crate::{ProcData, State};
 use lwp_table::{LwpData, Traits};
 use pid_blocks::{FIRST_PID, Pid, Tid, Uid, cursor_after, pid_block, tid_block};
 use signals::SigSet;
@@ -37,7 +37,7 @@ impl Tables {
         self.pids.put(place, true);
         self.news.begin_page(place);
         self.news.put(place, row.has_news());
-        self.processes.add(row);
+        self.processes.add(&row);
     }
 
     /// Adds an LWP of a process of the user. Allocates nothing.
@@ -65,7 +65,7 @@ impl Tables {
         ensures others { self.new.spare_lwps ≡ self.old.spare_lwps }
     {
         self.news.put(row.pid.get() - FIRST_PID, row.has_news());
-        self.processes.set(row);
+        self.processes.set(&row);
     }
 
     /// Replaces the pending signals of a process, in its place.
@@ -77,6 +77,18 @@ impl Tables {
         ensures others { self.new.spare_lwps ≡ self.old.spare_lwps }
     {
         self.processes.set_pending(pid, pending);
+    }
+
+    /// Replaces the state of a process, in its place.
+    #[inline(always)]
+    pub fn set_state(&mut self, pid: Pid, state: State)
+        requires there { IsRow self.old.rows pid }
+        ensures rows { self.new.rows ≡ change_process pid (λ p. record p { state = state }) self.old.rows }
+        ensures spare { self.new.spare_processes ≡ self.old.spare_processes }
+        ensures others { self.new.spare_lwps ≡ self.old.spare_lwps }
+    {
+        let has_news = self.processes.set_state(pid, state);
+        self.news.put(pid.get() - FIRST_PID, has_news);
     }
 
     /// Replaces the row with the same number, which is of the same process.

@@ -6,30 +6,30 @@ use Rattle.proc_table.proofs.processes.Processes.set.Goals.{After-index_mut-node
 use Rattle.proc_table.proofs.processes.Processes.set.Goals as goal
 
 pub known_slot-slot-requires-clause-there : goal.known_slot-slot-requires-clause-there
-known_slot-slot-requires-clause-there c = grind (arith, nat_tests, some_and, slot_there (rows_of (get c.self.inside.nodes)) c.self.inside.slots.entries c.self.inside.counts c.self.invariant.slotted c.args.row.pid)
+known_slot-slot-requires-clause-there c = grind (arith, nat_tests, some_and, slot_there (rows_of (get c.self.inside.nodes)) c.self.inside.slots.entries c.self.inside.counts c.self.invariant.slotted c.args.row.now.pid)
 
 pub update_lists-requires-clause-list_owners : goal.update_lists-requires-clause-list_owners
 update_lists-requires-clause-list_owners c = λ k t is.
-    let named = c.requires.named k t (rw (picked c.args.row _ _ c.tracer_of.ensures c.parent_of.ensures k) at is) in
+    let named = c.requires.named k t (rw (picked c.args.row.now _ _ c.tracer_of.ensures c.parent_of.ensures k) at is) in
     head-row c.self.invariant t (rw (← c.self.view_is) at named)
 
 pub update_lists-requires-clause-there : goal.update_lists-requires-clause-there
 update_lists-requires-clause-there c =
     let before = some_and _ _ (rw (← c.self.view_is) at c.requires.there) in
-    taken c.self.invariant _ c.args.row.pid c.known_slot-slot.result (λ s. refl) (ap is_some before.1) (rw c.get-number.ensures.number at c.known_slot-slot.ensures)
+    taken c.self.invariant _ c.args.row.now.pid c.known_slot-slot.result (λ s. refl) (ap is_some before.1) (rw c.get-number.ensures.number at c.known_slot-slot.ensures)
 
 pub index_mut-node-requires : goal.index_mut-node-requires
 index_mut-node-requires c =
     let before = some_and _ _ (rw (← c.self.view_is) at c.requires.there) in
-    taken c.self.invariant _ c.args.row.pid c.known_slot-slot.result c.update_lists.ensures.rows (ap is_some before.1) (rw c.get-number.ensures.number at c.known_slot-slot.ensures)
+    taken c.self.invariant _ c.args.row.now.pid c.known_slot-slot.result c.update_lists.ensures.rows (ap is_some before.1) (rw c.get-number.ensures.number at c.known_slot-slot.ensures)
 
 rehung : (c : After-index_mut-node) → IsRehung (get c.self.inside.nodes) (get c.update_lists.new.nodes) c.self.inside.slots.entries c.known_slot-slot.result c.tracer_of.result c.parent_of.result
 rehung c = record { are_linked = c.update_lists.ensures.are_linked; rows = c.update_lists.ensures.rows; here = c.update_lists.ensures.here; others = c.update_lists.ensures.others }
 
-number : (c : After-index_mut-node) → c.index_mut-node.result.now.row.pid ≡ c.args.row.pid
+number : (c : After-index_mut-node) → c.index_mut-node.result.now.row.pid ≡ c.args.row.now.pid
 number c =
     let before = some_and _ _ (rw (← c.self.view_is) at c.requires.there) in
-    let own = own-row c.self.invariant _ c.args.row.pid before.0 c.update_lists.ensures.rows c.index_mut-node.ensures.value (rw c.get-number.ensures.number at c.known_slot-slot.ensures) before.1 in
+    let own = own-row c.self.invariant _ c.args.row.now.pid before.0 c.update_lists.ensures.rows c.index_mut-node.ensures.value (rw c.get-number.ensures.number at c.known_slot-slot.ensures) before.1 in
     ap (λ p. p.pid) own.0 ∙ own.1
 
 pub invariant_of-self : goal.invariant_of-self
