@@ -125,14 +125,12 @@ pub fn stop(tables: &mut Tables, pid: Pid, tid: Tid, shown: &StopInfo)
 {
     let p = tables.process(pid).unwrap();
     let l = tables.lwp(tid).unwrap();
-    tables.set_process(ProcData {
-        state: State::Trace {
-            tid,
-            sig: shown.sig,
-            seen: false,
-        },
-        ..p
-    });
+    let state = State::Trace {
+        tid,
+        sig: shown.sig,
+        seen: false,
+    };
+    tables.set_state(pid, state);
     tables.set_lwp(LwpData {
         flags: shown.flags,
         child: shown.child,
