@@ -1,6 +1,9 @@
 -- The rows after one process is collected, as an edit of its row.
-use Rattle.wait4.proofs.CommonNames.{arith, ◌≡◌, ℕ, List, [], ◌∷◌, filter, filter_map, map, true, false, cond, ◌==◌, not, Option, Some, None, refl, ap, ◌∙◌, nat_eq, if◌then◌else◌, rules, nat_tests}
+use Rattle.wait4.proofs.CommonNames.{arith, ◌≡◌, ℕ, List, [], ◌∷◌, filter, filter_map, map, true, false, cond, ◌==◌, not, Option, Some, None, refl, sym, ap, ◌∙◌, nat_eq, if◌then◌else◌, rules, nat_tests}
 use Rattle.wait4.proofs.CommonNames.{AllByRecursion, ProcData, is_live, process_of, Rows, each, Rise, put_process, set_process, drop_process, notified, equal_or_not, lwps_left, the_row, notified-none}
+use Rattle.proc_table.specs.declared.State.{State}
+use Rattle.proc_table.specs.Rows.{change_process}
+use Rattle.proc_table.proofs.Changes.{change_process-at}
 use Rattle.wait4.proofs.CommonNames.{told, stays, collected, collect_one}
 
 -- an edit of the row with one number
@@ -32,6 +35,10 @@ module _ (caller : ℕ) (p : ProcData) (rows : Rows) (up : Rise rows.processes) 
   -- no process is notified of a stop, or of a process that continues
   pub collected-seen : (new : ProcData) → new.pid ≡ p.pid → collected caller p ≡ Some new → is_live p ≡ true → collect_one caller p rows ≡ set_process new rows
   collected-seen new its to live = let none : told caller p ≡ [] = grind (arith, live) in ap (λ ns. notified ns made) none ∙ notified-none made ∙ put new its to
+
+  -- nor where only the state becomes another
+  pub collected-state : (state : State) → collected caller p ≡ Some (record p { state = state }) → is_live p ≡ true → change_process p.pid (λ q. record q { state = state }) rows ≡ collect_one caller p rows
+  collected-state state to live = change_process-at p.pid (λ q. record q { state = state }) rows p up at refl ∙ sym (collected-seen (record p { state = state }) refl to live)
 
   -- the parent is notified of a zombie that stays
   pub collected-passed : (new : ProcData) → new.pid ≡ p.pid → collected caller p ≡ Some new → is_live p ≡ false → stays caller p ≡ true → collect_one caller p rows ≡ notified (p.parent ∷ []) (set_process new rows)

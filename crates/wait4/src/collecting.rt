@@ -202,18 +202,11 @@ fn collect_one(tables: &mut Tables, caller: Pid, p: &ProcData)
             continued: false,
             ..*p
         }),
-        State::Trace { tid, sig, .. } => tables.set_process(ProcData {
-            state: State::Trace {
-                tid,
-                sig,
-                seen: true,
-            },
-            ..*p
-        }),
-        State::Job { sig, .. } => tables.set_process(ProcData {
-            state: State::Job { sig, seen: true },
-            ..*p
-        }),
+        State::Trace { tid, sig, .. } => {
+            let seen = true;
+            tables.set_state(p.pid, State::Trace { tid, sig, seen });
+        }
+        State::Job { sig, .. } => tables.set_state(p.pid, State::Job { sig, seen: true }),
         State::Zombie { .. } if stays(caller, p) => {
             tables.set_process(ProcData { tracer: None, ..*p });
             post_sigchld(tables, p.parent);
