@@ -1,2 +1,1 @@
 mod Owned
-mod WalkLemmas

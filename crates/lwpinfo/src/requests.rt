@@ -64,14 +64,12 @@ pub fn lwp_count(tables: &Tables, pid: Pid) -> usize
 pub fn lwp_list(alloc: Global, tables: &Tables, pid: Pid, count: u32) -> Result<NumList, AllocError>
     ensures { IfOk result (λ list. list ≡ lwp_list pid count tables.now.rows) }
 {
-    let mut numbers = Vec::new(alloc);
-    let mut next = tables.first_lwp(pid);
-    for place in 0..count {
-        let Some(lwp) = next else {
+    let mut numbers = Vec::with_capacity(alloc, tables.lwp_count(pid).min(count as usize))?;
+    for lwp in tables.lwps_of(pid) {
+        if numbers.len() == count as usize {
             break;
-        };
+        }
         numbers.push(lwp.tid.get())?;
-        next = tables.next_lwp(pid, lwp.tid);
     }
     Ok(NumList::of(numbers))
 }
