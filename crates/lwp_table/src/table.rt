@@ -181,10 +181,8 @@ impl LwpTable {
         ensures spare { self.new.spare ≡ self.old.spare }
     {
         let slot = slot_of(&self.rows, &self.slots, &self.hints, row.tid);
-        let place = &mut self.rows[slot];
-        let before = place.row;
-        place.row = row;
-        note(&mut self.heads, &before, &row);
+        note(&mut self.heads, &self.rows[slot].row, &row);
+        self.rows[slot].row = row;
         name_waiter(
             &mut self.heads,
             &mut self.unnamed,
