@@ -144,7 +144,14 @@ impl LwpTable {
         let there = hinted.map(|node| node.row.tid.get());
         self.hints.note_new(row.tid.get(), slot, there);
         self.births += 1;
-        self.unnamed |= row.mode.waits();
+        name_waiter(
+            &mut self.heads,
+            &mut self.unnamed,
+            &self.rows,
+            &self.slots,
+            &self.hints,
+            &row,
+        );
     }
 
     /// Tests whether a row has this number.

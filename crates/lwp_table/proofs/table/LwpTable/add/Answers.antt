@@ -1,8 +1,7 @@
-use Rattle.lwp_table.proofs.CommonNames.{ap, sym, ◌∙◌, arith, has_lwp, is_waiting, ◌≡◌, false, rules, cases_Bool, ends_at, empty_head, get_or, place_of}
+use Rattle.lwp_table.proofs.CommonNames.{not, ◌&&◌, refl, waits_for, ap, sym, ◌∙◌, arith, has_lwp, ends_at, empty_head, get_or, place_of}
 use Rattle.slab.specs.Slab.{get as slot_get}
-use Rattle.lwp_table.proofs.NamedLemmas.{waits_for-none}
 use Rattle.lwp_table.proofs.WordLemmas.{lwp_of-fresh}
-use Rattle.lwp_table.proofs.KeptLemmas.{HasJoined, own_count, user_count, rows-added, LwpTableInvariant-added, AreNamed-added}
+use Rattle.lwp_table.proofs.KeptLemmas.{HasJoined, own_count, user_count, rows-added, LwpTableInvariant-added, LwpTableInvariant-awaited, AreNamed-added}
 use Rattle.lwp_table.proofs.table.LwpTable.add.Goals.{After-unwrap}
 use Rattle.lwp_table.proofs.table.LwpTable.add.Goals as goal
 
@@ -29,14 +28,18 @@ joins c =
       fresh = lwp_of-fresh c.args.row.tid _ (ap (λ v. has_lwp c.args.row.tid v.rows) c.self.view_is ∙ c.requires.fresh);
     }
 
+pub name_waiter-requires : goal.name_waiter-requires
+name_waiter-requires c = (LwpTableInvariant-added c.self.invariant.kept c.args.row c.vacant_key-slot.result _ _ (joins (goal.at.name_waiter-requires c).After-unwrap) c.join.new.heads.entries c.join.ensures.ends (λ p l told. told) _ c.join_user.ensures.ends).indexed.listed
+
 pub invariant_of-self : goal.invariant_of-self
 invariant_of-self c =
+    let row = c.args.row in
+    let added = LwpTableInvariant-added c.self.invariant.kept row c.vacant_key-slot.result _ _ (joins (goal.at.invariant_of-self c).After-unwrap) c.join.new.heads.entries c.join.ensures.ends (λ p l told. told) _ c.join_user.ensures.ends in
     record {
-      kept = LwpTableInvariant-added c.self.invariant.kept c.args.row c.vacant_key-slot.result _ _ (joins (goal.at.invariant_of-self c).After-unwrap) c.join.new.heads.entries c.join.ensures.ends (λ p l told. told) _ c.join_user.ensures.ends;
+      kept = LwpTableInvariant-awaited added row.tid (λ p. not c.name_waiter.new.unnamed && waits_for p row.mode) c.name_waiter.new.heads.entries c.name_waiter.ensures.ends (λ p l told. told);
       named = λ all.
-          let before : c.self.inside.unnamed ≡ false = search (rules, cases_Bool) in
-          let calm : is_waiting c.args.row.mode ≡ false = search (rules, cases_Bool, c.waits.ensures) in
-          AreNamed-added c.self.invariant.kept c.args.row c.vacant_key-slot.result _ _ (joins (goal.at.invariant_of-self c).After-unwrap) c.join.new.heads.entries c.join.ensures.ends (λ p l told. told) (λ child. waits_for-none child c.args.row.mode calm) (c.self.invariant.named before);
+          AreNamed-added c.self.invariant.kept row c.vacant_key-slot.result _ _ (joins (goal.at.invariant_of-self c).After-unwrap) c.join.new.heads.entries c.join.ensures.ends (λ p l told. told) c.name_waiter.new.heads.entries
+          (λ child waits. rw (c.name_waiter.ensures.ends child, all, waits) refl) (λ child waits. rw (c.name_waiter.ensures.ends child, all, waits) refl) (c.name_waiter.ensures.alone all) (c.self.invariant.named (c.name_waiter.ensures.before all));
     }
 
 pub returns-clause-rows : goal.returns-clause-rows

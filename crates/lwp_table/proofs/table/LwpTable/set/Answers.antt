@@ -1,8 +1,8 @@
-use Rattle.lwp_table.proofs.CommonNames.{is_bare, traits_of, marked, noted, nat_eq, not, ◌≡◌, ℕ, ◌&&◌, ◌∙◌, ap, ends_at, is_some, true, refl, waits_for, Updates-with_value}
+use Rattle.lwp_table.proofs.CommonNames.{option_map, is_bare, traits_of, marked, noted, nat_eq, not, ◌≡◌, ℕ, ◌&&◌, ◌∙◌, ap, ends_at, is_some, true, refl, waits_for, Updates-with_value}
 use Rattle.slab.specs.Slab.{get as slot_get}
-use Rattle.lwp_table.proofs.IndexLemmas.{some_and, leads, slot_has, row_there, other_there}
+use Rattle.lwp_table.proofs.IndexLemmas.{face, some_and, leads, slot_has, row_there, other_there}
 use Rattle.lwp_table.proofs.KeptLemmas.{LwpTableInvariant-awaited, LwpTableInvariant-noted, LwpTableInvariant-set, rows-set}
-use Rattle.lwp_table.proofs.NamedLemmas.{waiter-same, AreNamed-set}
+use Rattle.lwp_table.proofs.NamedLemmas.{waiter-same, AreNamed-put}
 use Rattle.lwp_table.proofs.table.LwpTable.set.Goals as goal
 
 pub slot_of-slot-requires-clause-there : goal.slot_of-slot-requires-clause-there
@@ -32,12 +32,11 @@ invariant_of-self c =
     record {
       kept = LwpTableInvariant-awaited kept row.tid (λ p. not c.name_waiter.new.unnamed && waits_for p row.mode) c.name_waiter.new.heads.entries c.name_waiter.ensures.ends (λ p l told. told);
       named = λ all.
-          AreNamed-set (slot_get c.self.inside.rows) _ c.self.inside.heads.entries c.name_waiter.new.heads.entries row
+          AreNamed-put (slot_get c.self.inside.rows) _ c.self.inside.slots.entries c.self.inside.heads.entries c.name_waiter.new.heads.entries q (record old { row = row }) updates.changed put.indexed.listed
+          (λ s off. ap (option_map face) (updates.others s off))
           (λ child waits. rw (c.name_waiter.ensures.ends child, all, waits) refl)
           (λ child waits. rw (c.name_waiter.ensures.ends child, all, waits) (waiters child))
           (λ s slot child there waits its. c.name_waiter.ensures.alone all s slot child there waits (record { is = waiters child ∙ its.is; waits = its.waits }))
-          (λ s slot there same. row_there (slot_get c.self.inside.rows) _ q old row updates.changed updates.others _ _ indexed at s slot there same)
-          (λ s slot there off. other_there (slot_get c.self.inside.rows) _ q old row updates.changed updates.others s slot there off)
           (c.self.invariant.named (c.name_waiter.ensures.before all));
     }
 
