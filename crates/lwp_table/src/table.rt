@@ -9,12 +9,13 @@
 //! with another row or none, which a look-up sees, and `heads` to the ends of an empty list. So an index has at most an
 //! entry for each number that a row has had.
 
-ghost use Rattle.std.specs.Prelude.{◌≡◌, ℕ, ◌==◌, ◌+◌, ◌<◌, ◌≤◌, ◌++◌, [], ◌∷◌, true, false, Some, IsSome, IsSomeAnd, OnOk, IfOk, count_by, filter, map, option_map, slice_get, if◌then◌else◌};
+ghost use Rattle.std.specs.Prelude.{◌≡◌, ◌==◌, ◌+◌, ◌<◌, ◌≤◌, ◌++◌, [], ◌∷◌, false, IsSome, IsSomeAnd, OnOk, IfOk, count_by, filter, map, option_map, slice_get, if◌then◌else◌};
 ghost use Rattle.pid_blocks.specs.Blocks.{tid_owner};
 ghost use Rattle.std.specs.Fn.{FnReturnsAt};
-ghost use Rattle.lwp_table.specs.Lwps.{lwp_of, lwps_of, first_lwp, next_lwp, has_lwp, with_lwp, without_lwp, own_lwp, waits_for, KeepsNumbers, ComputesRows, SparesOthers, Differ};
+ghost use Rattle.lwp_table.specs.Lwps.{lwp_of, lwps_of, first_lwp, next_lwp, has_lwp, with_lwp, without_lwp, own_lwp, KeepsNumbers, ComputesRows, SparesOthers, Differ};
 ghost use Rattle.lwp_table.specs.Marks.{Spares};
 
+use crate::LwpData;
 use crate::hasher::NumberIndex;
 use crate::hints::Hints;
 use crate::links::{
@@ -24,7 +25,6 @@ use crate::links::{
 use crate::marks::{Marks, Traits};
 use crate::user_heads::UserHeads;
 use crate::walks::{OfProcess, OfUser};
-use crate::{LwpData, Mode};
 use pid_blocks::{Pid, Tid, Uid};
 use slab::Slab;
 use std::alloc::{AllocError, Global};
@@ -188,6 +188,7 @@ impl LwpTable {
         ensures spare { self.new.spare ≡ self.old.spare }
     {
         let slot = slot_of(&self.rows, &self.slots, &self.hints, row.tid);
+        // before the row is replaced, so that neither row is copied for it
         note(&mut self.heads, &self.rows[slot].row, &row);
         self.rows[slot].row = row;
         name_waiter(
