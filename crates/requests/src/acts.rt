@@ -11,7 +11,7 @@ ghost use Rattle.requests.specs.Outcome.{Gives};
 ghost use Rattle.requests.specs.Actors.{IsActing};
 ghost use Rattle.requests.specs.Turn.{computes, raises, enters, acts};
 
-use crate::stopping::{plain, set_mode, stop_with, trap};
+use crate::stopping::{plain, stop_with, trap};
 use crate::{Act, Reply};
 use event_masks::{Call, entry_flags};
 use lwp_table::{LwpData, Mode};
@@ -76,12 +76,24 @@ fn block(tables: &mut Tables, set: SigSet, l: &LwpData)
     });
 }
 
+/// Sets the LWP's mode to that of the call.
+fn enter_call(tables: &mut Tables, call: Call, l: &LwpData)
+    requires { lwp_of l.now.tid tables.old.rows.lwps ≡ Some l.now }
+    ensures rows { tables.new.rows ≡ change_lwp l.now.tid (λ k. record k { mode = mode.InCall call }) tables.old.rows }
+{
+    tables.assert_invariant();
+    tables.set_lwp(LwpData {
+        mode: Mode::InCall(call),
+        ..*l
+    });
+}
+
 /// Enter: the LWP enters a call, and stops if its tracer asks for entries.
 fn enter(tables: &mut Tables, call: Call, p: &ProcData, l: &LwpData) -> Reply
     requires { IsActing p.now l.now tables.old.rows }
     ensures { Gives (enters call p.now l.now tables.old.rows) tables.new.rows result }
 {
-    set_mode(tables, l.tid, Mode::InCall(call));
+    enter_call(tables, call, l);
     match entry_flags(p.mask) {
         Some(flags) => stop_with(tables, p, l, &trap(flags, 0, call)),
         None => Reply::Done,

@@ -1,6 +1,7 @@
 //! The installed handlers of each user's debuggers.
 
 ghost use Rattle.std.specs.Prelude.{◌≡◌, ℕ, ◌≤◌, ◌<◌, ◌++◌, ◌∷◌, [], Some, None, map, filter, length, set, get_or, option_map, slice_get, OnOk, OnErr, IfOk};
+ghost use Rattle.std.specs.List.{list_all};
 ghost use Rattle.pid_blocks.specs.Blocks.{slot, users};
 ghost use Rattle.trace_rows.specs.Sound.{is_live_at};
 ghost use Rattle.requests.specs.Machine.{Installed, lists_of};
@@ -142,12 +143,30 @@ impl<F: Decider + Send + Drop> HandlerList<F> {
         Ok(HandlerList { installed: copies })
     }
 
+    /// Tests whether all debuggers are live. It looks once at the debugger of handlers that follow each other.
+    fn all_live(&self, tables: &Tables) -> bool
+        ensures { result ≡ list_all (λ i. is_live_at i.debugger tables.now.rows) self.now }
+    {
+        let mut seen = None;
+        for installed in &self.installed {
+            if seen != Some(installed.debugger) {
+                if !is_live(tables, installed.debugger) {
+                    return false;
+                }
+                seen = Some(installed.debugger);
+            }
+        }
+        true
+    }
+
     /// Drops the handlers of processes that have ended.
     fn drop_ended(&mut self, tables: &Tables)
         ensures { self.new ≡ filter (λ i. is_live_at i.debugger tables.now.rows) self.old }
     {
-        self.installed
-            .retain(|installed| is_live(tables, installed.debugger));
+        if !self.all_live(tables) {
+            self.installed
+                .retain(|installed| is_live(tables, installed.debugger));
+        }
     }
 }
 

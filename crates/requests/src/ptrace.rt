@@ -113,6 +113,7 @@ fn named_lwp(target: u32, reporting: Tid) -> Tid
 
 /// Makes a request of the tracer about an LWP of its stopped tracee. Refused with EINVAL if `arg` is wrong. An
 /// error means out of memory for a list of LWPs.
+#[inline(always)]
 #[tactic(auto, using(std::proofs::lemmas::Bool::Decides::nat_tests, crate::proofs::StoppedTracee::few_own, crate::proofs::StoppedTracee::given, crate::proofs::StoppedTracee::gives_as))]
 fn command(
     tables: &mut Tables,
