@@ -1,8 +1,10 @@
-//! What was asked and answered before. A question, an answer and what they are of are kept as numbers, so that many fit.
+//! What was asked and answered before. Views, questions and answers are kept as numbers, so that many fit.
 
 use crate::hash::{Hasher, Key};
+use crate::set::Part;
 use std::collections::HashMap;
 use std::hash::{BuildHasherDefault, Hash};
+use std::hint::black_box;
 use std::num::NonZeroU32;
 
 /// Different values, numbered from 1 in the order in which they came.
@@ -30,43 +32,71 @@ impl<T: Clone + Eq + Hash> Numbered<T> {
         self.numbers.insert(value.clone(), number);
         number
     }
+
+    fn value(&self, number: NonZeroU32) -> &T {
+        &self.values[number.get() as usize - 1]
+    }
+}
+
+/// What the users see, and its number until all is forgotten.
+#[derive(Clone, Copy, Debug, PartialEq, Eq)]
+pub struct Seen {
+    pub key: Key,
+    pub number: u32,
 }
 
 /// An answer by its number, and what the users see after it.
 #[derive(Clone, Copy, Debug, PartialEq, Eq)]
 pub struct Known {
     answer: NonZeroU32,
-    pub after: Key,
+    pub after: Seen,
 }
 
-/// Where it was asked, and what.
+/// A question, its answer, and the number of the view after it.
 #[derive(Clone, Copy, Debug)]
-struct Slot {
-    view: Key,
+struct Entry {
     question: NonZeroU32,
-    known: Known,
+    answer: NonZeroU32,
+    after: u32,
 }
 
-/// The answers of a view are side by side: in its set, or if that is full, in the ones after it, so many at most.
-const WAYS: usize = 8;
-const PROBED: usize = 4;
-type Set = [Option<Slot>; WAYS];
+/// No block, or no view.
+const NONE: u32 = u32::MAX;
+
+/// Some answers of a view, in one line of the processor's cache, and the block with those that came before them.
+#[derive(Debug)]
+#[repr(align(64))]
+struct Block {
+    entries: [Option<Entry>; 5],
+    before: u32,
+}
+
+/// The last block of a view's answers; and from which view, and by which question, it was reached first.
+#[derive(Clone, Copy, Debug)]
+struct Row {
+    block: u32,
+    from: u32,
+    by: Option<NonZeroU32>,
+}
 
 /// Answers `A` to questions `Q`.
 #[derive(Debug)]
 pub struct Answers<Q, A> {
     questions: Numbered<Q>,
     answers: Numbered<A>,
-    sets: Vec<Set>,
-    /// How many ways are in use, and the most sets.
-    used: usize,
+    views: Part,
+    rows: Vec<Row>,
+    blocks: Vec<Block>,
+    /// The most bytes of views and blocks.
     most: usize,
-    turn: usize,
 }
 
 /// There are few different ones; if there are more, all is forgotten.
 const MOST_VALUES: usize = 1 << 16;
-const FEW_SETS: usize = 64;
+/// What an answer takes with its share of its view, if a view has few.
+const ANSWER: usize = 50;
+/// What a view takes without its answers.
+const VIEW: usize = std::mem::size_of::<Key>() + std::mem::size_of::<Row>() + 8;
 
 impl<Q: Clone + Eq + Hash, A: Clone + Eq + Hash> Answers<Q, A> {
     /// At most about so many answers.
@@ -74,75 +104,124 @@ impl<Q: Clone + Eq + Hash, A: Clone + Eq + Hash> Answers<Q, A> {
         Answers {
             questions: Numbered::new(),
             answers: Numbered::new(),
-            sets: vec![Set::default(); FEW_SETS],
-            used: 0,
-            most: (most / WAYS).next_power_of_two(),
-            turn: 0,
+            views: Part::new(),
+            rows: Vec::new(),
+            blocks: Vec::new(),
+            most: most.saturating_mul(ANSWER),
         }
     }
 
-    /// The sets for a view's answers.
-    fn probed(&self, view: Key) -> impl Iterator<Item = usize> {
-        let last = self.sets.len() - 1;
-        (0..PROBED).map(move |n| (view.0 as usize).wrapping_add(n) & last)
+    /// Whether it is time to forget all.
+    pub fn is_full(&self) -> bool {
+        let bytes = self.rows.len() * VIEW + self.blocks.len() * std::mem::size_of::<Block>();
+        let values = self.questions.values.len().max(self.answers.values.len());
+        bytes > self.most || values >= MOST_VALUES
     }
 
-    pub fn get(&mut self, view: Key, question: &Q) -> Option<Known> {
+    /// Forgets all: numbers of views mean nothing any more.
+    pub fn forget(&mut self) {
+        let most = self.most;
+        *self = Answers {
+            most,
+            ..Answers::new(0)
+        };
+    }
+
+    /// The number of a view.
+    pub fn view(&mut self, key: Key) -> Seen {
+        let (number, is_new) = self.views.insert(key);
+        if is_new {
+            self.rows.push(Row {
+                block: NONE,
+                from: NONE,
+                by: None,
+            });
+        }
+        Seen { key, number }
+    }
+
+    /// The numbers of views. Their answers are looked at once, so that the processor waits for the memory of many at a time.
+    pub fn views(&mut self, keys: impl Iterator<Item = Key>) -> Vec<Seen> {
+        let hints: Vec<(Key, u32)> = keys.map(|key| (key, self.views.hint(key))).collect();
+        let seen = hints
+            .into_iter()
+            .map(|(key, hint)| match self.views.at_hint(key, hint) {
+                Some(number) => Seen { key, number },
+                None => self.view(key),
+            });
+        let seen: Vec<Seen> = seen.collect();
+        let last = seen.iter().map(|seen| self.rows[seen.number as usize].block);
+        let before = |at: u32| self.blocks.get(at as usize).map_or(NONE, |block| block.before);
+        let blocks: Vec<u32> = last.map(before).collect();
+        black_box(blocks.into_iter().map(before).fold(0, |all, at| all ^ at));
+        seen
+    }
+
+    fn seen(&self, number: u32) -> Seen {
+        Seen {
+            key: self.views.keys()[number as usize],
+            number,
+        }
+    }
+
+    pub fn get(&mut self, view: Seen, question: &Q) -> Option<Known> {
         let question = self.questions.number(question);
-        for set in self.probed(view) {
-            for slot in &self.sets[set] {
-                match slot {
-                    Some(slot) if slot.question == question && slot.view == view => return Some(slot.known),
-                    Some(_) => (),
-                    None => return None, // the ways are filled in order
-                }
+        let mut at = self.rows[view.number as usize].block;
+        while let Some(block) = self.blocks.get(at as usize) {
+            let mut entries = block.entries.iter().flatten();
+            if let Some(entry) = entries.find(|entry| entry.question == question) {
+                return Some(Known {
+                    answer: entry.answer,
+                    after: self.seen(entry.after),
+                });
             }
+            at = block.before;
         }
         None
     }
 
-    /// Keeps an answer, perhaps in the place of another.
-    pub fn put(&mut self, view: Key, question: &Q, answer: &A, after: Key) -> Known {
-        if self.questions.values.len().max(self.answers.values.len()) >= MOST_VALUES {
-            *self = Answers {
-                most: self.most,
-                ..Answers::new(0)
-            };
-        }
+    /// Keeps an answer that isn't known yet.
+    pub fn put(&mut self, view: Seen, question: &Q, answer: &A, after: Key) -> Known {
         let question = self.questions.number(question);
-        let known = Known {
-            answer: self.answers.number(answer),
-            after,
+        let answer = self.answers.number(answer);
+        let count = self.rows.len();
+        let after = self.view(after);
+        if self.rows.len() > count {
+            let row = &mut self.rows[after.number as usize];
+            (row.from, row.by) = (view.number, Some(question));
+        }
+        let entry = Entry {
+            question,
+            answer,
+            after: after.number,
         };
-        self.fill(Slot { view, question, known });
-        known
+        self.add(view.number as usize, entry);
+        Known { answer, after }
     }
 
-    fn fill(&mut self, slot: Slot) {
-        loop {
-            let mut ways = self
-                .probed(slot.view)
-                .flat_map(|set| (0..WAYS).map(move |way| (set, way)));
-            if let Some((set, way)) = ways.find(|(set, way)| self.sets[*set][*way].is_none()) {
-                self.sets[set][way] = Some(slot);
-                self.used += 1;
-                return;
-            }
-            if self.sets.len() >= self.most || self.used < self.sets.len() {
-                self.turn = (self.turn + 1) % WAYS;
-                let set = self.probed(slot.view).next().expect("a set");
-                self.sets[set][self.turn] = Some(slot);
-                return;
-            }
-            let room = vec![Set::default(); self.sets.len() * 4];
-            let known = std::mem::replace(&mut self.sets, room);
-            self.used = 0;
-            known.iter().flatten().flatten().for_each(|slot| self.fill(*slot));
+    fn add(&mut self, view: usize, entry: Entry) {
+        let before = self.rows[view].block;
+        let block = self.blocks.get_mut(before as usize);
+        let free = block.and_then(|block| block.entries.iter_mut().find(|entry| entry.is_none()));
+        if let Some(free) = free {
+            *free = Some(entry);
+            return;
         }
+        self.rows[view].block = u32::try_from(self.blocks.len()).expect("less than 2^32 blocks");
+        let mut entries = [None; 5];
+        entries[0] = Some(entry);
+        self.blocks.push(Block { entries, before });
     }
 
     pub fn answer(&self, known: Known) -> &A {
-        &self.answers.values[known.answer.get() as usize - 1]
+        self.answers.value(known.answer)
+    }
+
+    /// From which view this one was reached first, and by which question.
+    pub fn way(&self, view: Seen) -> Option<(Seen, &Q)> {
+        let row = self.rows[view.number as usize];
+        row.by
+            .map(|question| (self.seen(row.from), self.questions.value(question)))
     }
 }
 
@@ -151,41 +230,47 @@ mod tests {
     use super::*;
     use crate::hash::mixed;
 
-    fn view(number: u64) -> Key {
+    fn key(number: u64) -> Key {
         Key(mixed(number), mixed(number + 1))
     }
 
-    /// Of more questions than have room, those that are known are answered as they were.
+    /// All that was asked is answered as it was, and a view is reached as it was first.
     #[test]
     fn an_answer_is_the_one_that_was_kept() {
-        for most in [0, 100, 1 << 20] {
-            let mut answers: Answers<u64, u64> = Answers::new(most);
-            for n in 0..5000 {
-                assert_eq!(answers.get(view(n / 5), &(n % 5)), None);
-                let known = answers.put(view(n / 5), &(n % 5), &(n % 7), view(n));
-                assert_eq!(answers.get(view(n / 5), &(n % 5)), Some(known));
-            }
-            let mut count = 0;
-            for n in 0..5000 {
-                if let Some(known) = answers.get(view(n / 5), &(n % 5)) {
-                    assert_eq!((answers.answer(known), known.after), (&(n % 7), view(n)));
-                    count += 1;
-                }
-            }
-            let range = if most > 5000 { 4900..=5000 } else { 1..=4999 };
-            assert!(range.contains(&count), "{count} of {most}");
+        let mut answers: Answers<u64, u64> = Answers::new(1 << 20);
+        for n in 0..5000 {
+            let view = answers.view(key(n / 17));
+            assert_eq!(answers.get(view, &(n % 17)), None);
+            let known = answers.put(view, &(n % 17), &(n % 7), key(n));
+            assert_eq!(answers.get(view, &(n % 17)), Some(known));
+        }
+        for n in 0..5000 {
+            let view = answers.view(key(n / 17));
+            let known = answers.get(view, &(n % 17)).expect("an answer");
+            assert_eq!((answers.answer(known), known.after.key), (&(n % 7), key(n)));
+            let way = answers.way(known.after).map(|(from, question)| (from.key, *question));
+            assert_eq!(way, (n > 0).then_some((key(n / 17), n % 17)), "{n}");
         }
     }
 
-    /// Different answers without end take no memory without end.
+    /// Different answers, or views, without end take no memory without end.
     #[test]
-    fn many_answers_are_forgotten() {
-        let mut answers: Answers<u64, u64> = Answers::new(1 << 20);
-        for n in 0..3 * MOST_VALUES as u64 {
-            let known = answers.put(view(n), &(n % 3), &n, view(n));
-            assert_eq!(answers.answer(known), &n);
-            assert!(answers.answers.values.len() <= MOST_VALUES);
+    fn what_is_too_much_is_forgotten() {
+        for (most, values) in [(1 << 20, 3 * MOST_VALUES as u64), (1000, 7)] {
+            let mut answers: Answers<u64, u64> = Answers::new(most);
+            let mut times = 0;
+            for n in 0..3 * MOST_VALUES as u64 {
+                if answers.is_full() {
+                    answers.forget();
+                    times += 1;
+                    assert!(!answers.is_full());
+                }
+                let view = answers.view(key(n));
+                let known = answers.put(view, &(n % 3), &(n % values), key(n));
+                assert_eq!(answers.answer(known), &(n % values));
+                assert!(answers.answers.values.len() <= MOST_VALUES && answers.rows.len() * VIEW <= most * ANSWER);
+            }
+            assert!(times > 1);
         }
-        assert_eq!(answers.get(view(0), &0), None);
     }
 }

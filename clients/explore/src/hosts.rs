@@ -1,6 +1,6 @@
 //! What the model answers, asked of the library once: a step from a state is answered as it was before, which is proved.
 
-use crate::answers::{Answers, Known};
+use crate::answers::{Answers, Known, Seen};
 use crate::hash::{Hasher, Key};
 use crate::model::{killed, Kind, Property};
 use crate::process::Answer;
@@ -12,7 +12,9 @@ use tracehost::{Caller, Errno, Error, Reply, Session, SignalSet, State, WaitOpti
 #[derive(Clone, Copy, Debug, PartialEq, Eq, Hash)]
 enum Ask {
     Step(Step),
-    /// Which processes a wait for any may report.
+    /// Which processes a wait for any is for.
+    Children(Caller),
+    /// Which of them it may report.
     News(Caller, WaitOptions),
     /// Whether an LWP of the user has a pending signal that it doesn't block.
     Signal(u32, u32),
@@ -48,7 +50,7 @@ pub enum Met {
 
 /// Where a question is asked: what the users see there, and how a session at the start comes there.
 pub struct At<'a> {
-    pub view: Key,
+    pub view: Seen,
     pub replay: &'a dyn Fn(&mut Session) -> Result<(), Error>,
 }
 
@@ -118,6 +120,19 @@ impl Sessions {
     }
 }
 
+/// What the hosts of a thread keep.
+pub struct Room<'a> {
+    pub answers: usize,
+    pub sessions: usize,
+    /// Which states the thread owns, by what the users see.
+    pub owns: Box<dyn Fn(Key) -> bool + Send + 'a>,
+    /// Whether steps are made ahead of the search. Else a session is kept at each state that a step comes to.
+    pub goes_ahead: bool,
+}
+
+/// A session that has made so many steps again is kept.
+const LONG_WAY: usize = 32;
+
 /// The sessions and answers of one thread.
 pub struct Hosts<'a> {
     users: &'a [u32],
@@ -131,8 +146,11 @@ pub struct Hosts<'a> {
     sessions: Sessions,
     answers: Answers<Ask, Told>,
     numbers: Vec<u32>,
+    /// The steps from a session that is kept, the last one first.
+    steps: Vec<Step>,
     /// Sessions whose states another thread owns are for that thread.
     owns: Box<dyn Fn(Key) -> bool + Send + 'a>,
+    pub goes_ahead: bool,
     outgoing: Option<(Key, Session)>,
     pub calls: Calls,
 }
@@ -161,8 +179,7 @@ impl<'a> Hosts<'a> {
         start: &Session,
         users: &'a [u32],
         properties: &'a [Property],
-        (answers, sessions): (usize, usize),
-        owns: Box<dyn Fn(Key) -> bool + Send + 'a>,
+        room: Room<'a>,
     ) -> Result<Hosts<'a>, Error> {
         Ok(Hosts {
             users,
@@ -172,13 +189,23 @@ impl<'a> Hosts<'a> {
             scratch: None,
             scratch_view: None,
             spare: Vec::new(),
-            sessions: Sessions::new(sessions),
-            answers: Answers::new(answers),
+            sessions: Sessions::new(room.sessions),
+            answers: Answers::new(room.answers),
             numbers: Vec::with_capacity(256),
-            owns,
+            steps: Vec::new(),
+            owns: room.owns,
+            goes_ahead: room.goes_ahead,
             outgoing: None,
             calls: Calls::default(),
         })
+    }
+
+    /// What the users see in some states, before questions about them. What was seen before may be forgotten.
+    pub fn seen(&mut self, views: impl Iterator<Item = Key>) -> Vec<Seen> {
+        if self.answers.is_full() {
+            self.answers.forget();
+        }
+        self.answers.views(views)
     }
 
     /// A session that another thread has brought to a state of this one.
@@ -196,7 +223,7 @@ impl<'a> Hosts<'a> {
     }
 
     /// The answer to a step, and what the users see after it.
-    pub fn step(&mut self, at: &At, step: Step) -> Result<(&Answer, Key), Error> {
+    pub fn step(&mut self, at: &At, step: Step) -> Result<(&Answer, Seen), Error> {
         let known = self.known(at, Ask::Step(step))?;
         match self.answers.answer(known) {
             Told::Step(answer) => Ok((answer, known.after)),
@@ -204,7 +231,17 @@ impl<'a> Hosts<'a> {
         }
     }
 
-    /// The processes that a wait for any may report.
+    /// Whether the answer to a step is known.
+    pub fn is_known(&mut self, at: &At, step: Step) -> bool {
+        self.answers.get(at.view, &Ask::Step(step)).is_some()
+    }
+
+    /// The processes that a wait for any is for.
+    pub fn children(&mut self, at: &At, caller: Caller) -> Result<Arc<[u32]>, Error> {
+        self.listed(at, Ask::Children(caller))
+    }
+
+    /// Those that it may report.
     pub fn news(&mut self, at: &At, caller: Caller, options: WaitOptions) -> Result<Arc<[u32]>, Error> {
         self.listed(at, Ask::News(caller, options))
     }
@@ -267,6 +304,13 @@ impl<'a> Hosts<'a> {
                 let (answer, after) = self.make(at, step)?;
                 return Ok((Told::Step(answer), after));
             }
+            Ask::Children(caller) => {
+                let rows = self.session_at(at)?.view(caller.user)?.processes;
+                let own = rows
+                    .iter()
+                    .filter(|row| row.parent == caller.pid || row.tracer == Some(caller.pid));
+                Told::Numbers(own.map(|row| row.pid).collect())
+            }
             Ask::News(caller, options) => Told::Numbers(self.find_news(at, caller, options)?.into()),
             Ask::Signal(user, lwp) => Told::Met(self.find_signal(at, user, lwp)?),
             Ask::Live(user) => {
@@ -285,7 +329,7 @@ impl<'a> Hosts<'a> {
             }
             Ask::Broken(user, at_end) => Told::Broken(self.find_broken(at, user, at_end)?),
         };
-        Ok((told, at.view))
+        Ok((told, at.view.key))
     }
 
     /// Makes a step on the scratch session.
@@ -294,10 +338,10 @@ impl<'a> Hosts<'a> {
         self.calls.steps += 1;
         let answer = checked(step.make(&mut scratch))?;
         let after = match answer {
-            Err(_) | Ok(Reply::Nothing) => at.view, // nothing has changed
+            Err(_) | Ok(Reply::Nothing) => at.view.key, // nothing has changed
             _ => view_of(&scratch, self.users, &mut self.numbers)?,
         };
-        if after != at.view && self.is_wanted(after) {
+        if after != at.view.key && self.is_wanted(after) {
             self.keep(after, scratch);
         } else {
             self.scratch = Some(scratch);
@@ -306,9 +350,14 @@ impl<'a> Hosts<'a> {
         Ok((answer, after))
     }
 
-    /// Whether a session at this state isn't kept yet.
+    /// Whether the scratch session is at this state.
+    pub fn is_at(&self, view: Key) -> bool {
+        self.scratch_view == Some(view)
+    }
+
+    /// Whether a session at this state is to be kept, and isn't yet.
     fn is_wanted(&self, view: Key) -> bool {
-        !(self.owns)(view) || self.sessions.get(view).is_none()
+        !self.goes_ahead && (!(self.owns)(view) || self.sessions.get(view).is_none())
     }
 
     /// Keeps a session for the steps that come later, or for the thread that owns its state.
@@ -324,54 +373,83 @@ impl<'a> Hosts<'a> {
     /// Takes the scratch session, and brings it to a state.
     fn come_to(&mut self, at: &At) -> Result<Session, Error> {
         let unused = self.scratch.take();
-        if self.scratch_view.take() == Some(at.view) {
+        if self.scratch_view.take() == Some(at.view.key) {
             if let Some(scratch) = unused {
                 return Ok(scratch);
             }
         } else {
             self.spare.extend(unused);
         }
-        if self.sessions.get(at.view).is_none() && at.view != self.start_view {
-            self.calls.replays += 1;
-            let mut session = self.copy_of(self.start_view)?;
-            (at.replay)(&mut session)?;
-            let left = self.sessions.put(at.view, session);
-            self.spare.extend(left);
+        self.brought(at)
+    }
+
+    /// The session that is kept at a state.
+    fn kept(&self, view: Key) -> Option<&Session> {
+        let session = self.sessions.get(view);
+        session.or_else(|| (view == self.start_view).then_some(&self.start))
+    }
+
+    /// A new session at a state: a copy of the last one on the way there that is kept, which makes the steps from there again.
+    fn brought(&mut self, at: &At) -> Result<Session, Error> {
+        let mut view = at.view;
+        self.steps.clear();
+        while self.kept(view.key).is_none() {
+            let Some((from, Ask::Step(step))) = self.answers.way(view) else {
+                return self.replayed(at);
+            };
+            self.steps.push(*step);
+            view = from;
         }
-        self.copy_of(at.view)
+        let mut session = self.copy_of(view.key)?;
+        for step in self.steps.iter().rev() {
+            let _ = checked(step.make(&mut session))?; // any answer of the model
+        }
+        if self.steps.len() >= LONG_WAY {
+            self.keep_copy(at.view.key, &session)?;
+        }
+        Ok(session)
+    }
+
+    /// The same from the start, if the way was forgotten.
+    fn replayed(&mut self, at: &At) -> Result<Session, Error> {
+        self.calls.replays += 1;
+        let mut session = self.copy_of(self.start_view)?;
+        (at.replay)(&mut session)?;
+        self.keep_copy(at.view.key, &session)?;
+        Ok(session)
+    }
+
+    fn keep_copy(&mut self, view: Key, session: &Session) -> Result<(), Error> {
+        let copy = copied(session, &mut self.spare)?;
+        self.calls.copies += 1;
+        self.spare.extend(self.sessions.put(view, copy));
+        Ok(())
     }
 
     /// A copy of a session that is kept, or of that at the start.
     fn copy_of(&mut self, view: Key) -> Result<Session, Error> {
         self.calls.copies += 1;
-        let source = self.sessions.get(view).unwrap_or(&self.start);
-        match self.spare.pop() {
-            Some(mut session) => source.copy_over(&mut session).map(|()| session),
-            None => source.try_clone(),
-        }
+        copied(self.sessions.get(view).unwrap_or(&self.start), &mut self.spare)
     }
 
     /// A session at a state, to look at.
     fn session_at(&mut self, at: &At) -> Result<&Session, Error> {
-        if self.scratch_view != Some(at.view) {
-            if self.sessions.get(at.view).is_some() {
-                return Ok(self.sessions.get(at.view).expect("it is there"));
+        if !self.is_at(at.view.key) {
+            if self.kept(at.view.key).is_some() {
+                return Ok(self.kept(at.view.key).expect("it is there"));
             }
             self.scratch = Some(self.come_to(at)?);
-            self.scratch_view = Some(at.view);
+            self.scratch_view = Some(at.view.key);
         }
         Ok(self.scratch.as_ref().expect("it has a view"))
     }
 
     fn find_news(&mut self, at: &At, caller: Caller, options: WaitOptions) -> Result<Vec<u32>, Error> {
-        let rows = self.session_at(at)?.view(caller.user)?.processes;
         let mut news = Vec::new();
-        for row in rows {
-            if row.parent == caller.pid || row.tracer == Some(caller.pid) {
-                let wait = Step::Wait4(caller, Which::Process(row.pid), options);
-                if let (Ok(Reply::Status { .. }), _) = self.step(at, wait)? {
-                    news.push(row.pid);
-                }
+        for pid in self.children(at, caller)?.iter() {
+            let wait = Step::Wait4(caller, Which::Process(*pid), options);
+            if let (Ok(Reply::Status { .. }), _) = self.step(at, wait)? {
+                news.push(*pid);
             }
         }
         Ok(news)
@@ -406,6 +484,14 @@ impl<'a> Hosts<'a> {
             checked.err().map(|wrong| (place, wrong))
         });
         Ok(broken)
+    }
+}
+
+/// A copy of a session, over a spare one if there is any.
+fn copied(session: &Session, spare: &mut Vec<Session>) -> Result<Session, Error> {
+    match spare.pop() {
+        Some(mut copy) => session.copy_over(&mut copy).map(|()| copy),
+        None => session.try_clone(),
     }
 }
 

@@ -78,6 +78,17 @@ impl Part {
         self.keys.capacity() * std::mem::size_of::<Key>() + self.index.capacity() * 4
     }
 
+    /// Where a key is, if it is there and at its first slot. With [`Part::is_at`], first for many keys and then for each, the
+    /// memory that they need comes at once.
+    pub fn hint(&self, key: Key) -> u32 {
+        self.index[self.slot(key)]
+    }
+
+    /// The place of a key, if its hint was right.
+    pub fn at_hint(&self, key: Key, hint: u32) -> Option<u32> {
+        hint.checked_sub(1).filter(|place| self.keys[*place as usize] == key)
+    }
+
     /// The place of a key, and whether it is new.
     pub fn insert(&mut self, key: Key) -> (u32, bool) {
         let mut slot = self.slot(key);

@@ -78,6 +78,11 @@ impl Store {
         &mut self.levels[part / self.threads]
     }
 
+    /// The set of such a part.
+    pub fn set(&self, part: usize) -> &Part {
+        &self.levels[part / self.threads].set
+    }
+
     /// The part of each level.
     pub fn parts(&self) -> impl Iterator<Item = usize> {
         (self.thread..PARTS).step_by(self.threads)
@@ -95,7 +100,17 @@ impl Store {
                 level.starts.push(level.spots.len());
             }
             pack(spot, &mut level.spots);
-        } else if let Some(place) = (place as usize).checked_sub(level.first) {
+        } else {
+            self.meet(part, place, spot, (link, order));
+        }
+        is_new
+    }
+
+    /// Adds another way to a state.
+    pub fn meet(&mut self, part: usize, place: u32, spot: &[u64], (link, order): (u64, u64)) {
+        let symmetric = self.symmetric;
+        let level = self.level(part);
+        if let Some(place) = (place as usize).checked_sub(level.first) {
             if order < level.orders[place] {
                 level.orders[place] = order;
                 level.links[place] = link;
@@ -105,7 +120,6 @@ impl Store {
                 }
             }
         }
-        is_new
     }
 
     /// Ends the level: its links are told, and its states are to be expanded.
