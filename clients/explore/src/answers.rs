@@ -38,12 +38,9 @@ impl<T: Clone + Eq + Hash> Numbered<T> {
     }
 }
 
-/// What the users see, and its number until all is forgotten.
+/// What the users see, by its number until all is forgotten.
 #[derive(Clone, Copy, Debug, PartialEq, Eq)]
-pub struct Seen {
-    pub key: Key,
-    pub number: u32,
-}
+pub struct Seen(pub u32);
 
 /// An answer by its number, and what the users see after it.
 #[derive(Clone, Copy, Debug, PartialEq, Eq)]
@@ -52,15 +49,14 @@ pub struct Known {
     pub after: Seen,
 }
 
-/// A question, its answer, and the number of the view after it.
+/// A question, and its answer.
 #[derive(Clone, Copy, Debug)]
 struct Entry {
     question: NonZeroU32,
-    answer: NonZeroU32,
-    after: u32,
+    known: Known,
 }
 
-/// No block, or no view.
+/// No block.
 const NONE: u32 = u32::MAX;
 
 /// Some answers of a view, in one line of the processor's cache, and the block with those that came before them.
@@ -75,8 +71,7 @@ struct Block {
 #[derive(Clone, Copy, Debug)]
 struct Row {
     block: u32,
-    from: u32,
-    by: Option<NonZeroU32>,
+    way: Option<(NonZeroU32, Seen)>,
 }
 
 /// Answers `A` to questions `Q`.
@@ -128,52 +123,47 @@ impl<Q: Clone + Eq + Hash, A: Clone + Eq + Hash> Answers<Q, A> {
     }
 
     /// The number of a view.
-    pub fn view(&mut self, key: Key) -> Seen {
+    fn view(&mut self, key: Key) -> (Seen, bool) {
         let (number, is_new) = self.views.insert(key);
         if is_new {
-            self.rows.push(Row {
-                block: NONE,
-                from: NONE,
-                by: None,
-            });
+            self.rows.push(Row { block: NONE, way: None });
         }
-        Seen { key, number }
+        (Seen(number), is_new)
     }
 
-    /// The numbers of views. Their answers are looked at once, so that the processor waits for the memory of many at a time.
-    pub fn views(&mut self, keys: impl Iterator<Item = Key>) -> Vec<Seen> {
-        let hints: Vec<(Key, u32)> = keys.map(|key| (key, self.views.hint(key))).collect();
-        let seen = hints
-            .into_iter()
-            .map(|(key, hint)| match self.views.at_hint(key, hint) {
-                Some(number) => Seen { key, number },
-                None => self.view(key),
-            });
+    /// The numbers of views, whose answers are asked for next. What that needs is read for all of them first: so a processor
+    /// waits for all as long as for one.
+    pub fn views(&mut self, keys: impl Iterator<Item = Key> + Clone) -> Vec<Seen> {
+        black_box(keys.clone().fold(0, |all, key| all ^ self.views.near(key)));
+        let places = keys.clone().map(|key| self.views.candidate(key));
+        let places: Vec<Option<u32>> = places.collect();
+        let seen = keys.zip(places).map(|(key, place)| match place {
+            Some(place) if self.views.is_at(key, place) => Seen(place),
+            _ => self.view(key).0,
+        });
         let seen: Vec<Seen> = seen.collect();
-        let last = seen.iter().map(|seen| self.rows[seen.number as usize].block);
+        let last = seen.iter().map(|view| self.row(*view).block);
         let before = |at: u32| self.blocks.get(at as usize).map_or(NONE, |block| block.before);
         let blocks: Vec<u32> = last.map(before).collect();
         black_box(blocks.into_iter().map(before).fold(0, |all, at| all ^ at));
         seen
     }
 
-    fn seen(&self, number: u32) -> Seen {
-        Seen {
-            key: self.views.keys()[number as usize],
-            number,
-        }
+    pub fn key(&self, view: Seen) -> Key {
+        self.views.keys()[view.0 as usize]
+    }
+
+    fn row(&self, view: Seen) -> &Row {
+        &self.rows[view.0 as usize]
     }
 
     pub fn get(&mut self, view: Seen, question: &Q) -> Option<Known> {
         let question = self.questions.number(question);
-        let mut at = self.rows[view.number as usize].block;
+        let mut at = self.row(view).block;
         while let Some(block) = self.blocks.get(at as usize) {
             let mut entries = block.entries.iter().flatten();
             if let Some(entry) = entries.find(|entry| entry.question == question) {
-                return Some(Known {
-                    answer: entry.answer,
-                    after: self.seen(entry.after),
-                });
+                return Some(entry.known);
             }
             at = block.before;
         }
@@ -184,30 +174,25 @@ impl<Q: Clone + Eq + Hash, A: Clone + Eq + Hash> Answers<Q, A> {
     pub fn put(&mut self, view: Seen, question: &Q, answer: &A, after: Key) -> Known {
         let question = self.questions.number(question);
         let answer = self.answers.number(answer);
-        let count = self.rows.len();
-        let after = self.view(after);
-        if self.rows.len() > count {
-            let row = &mut self.rows[after.number as usize];
-            (row.from, row.by) = (view.number, Some(question));
+        let (after, is_new) = self.view(after);
+        if is_new {
+            self.rows[after.0 as usize].way = Some((question, view));
         }
-        let entry = Entry {
-            question,
-            answer,
-            after: after.number,
-        };
-        self.add(view.number as usize, entry);
-        Known { answer, after }
+        let known = Known { answer, after };
+        self.add(view, Entry { question, known });
+        known
     }
 
-    fn add(&mut self, view: usize, entry: Entry) {
-        let before = self.rows[view].block;
+    fn add(&mut self, view: Seen, entry: Entry) {
+        let before = self.row(view).block;
         let block = self.blocks.get_mut(before as usize);
         let free = block.and_then(|block| block.entries.iter_mut().find(|entry| entry.is_none()));
         if let Some(free) = free {
             *free = Some(entry);
             return;
         }
-        self.rows[view].block = u32::try_from(self.blocks.len()).expect("less than 2^32 blocks");
+        let block = u32::try_from(self.blocks.len()).expect("less than 2^32 blocks");
+        self.rows[view.0 as usize].block = block;
         let mut entries = [None; 5];
         entries[0] = Some(entry);
         self.blocks.push(Block { entries, before });
@@ -219,9 +204,8 @@ impl<Q: Clone + Eq + Hash, A: Clone + Eq + Hash> Answers<Q, A> {
 
     /// From which view this one was reached first, and by which question.
     pub fn way(&self, view: Seen) -> Option<(Seen, &Q)> {
-        let row = self.rows[view.number as usize];
-        row.by
-            .map(|question| (self.seen(row.from), self.questions.value(question)))
+        let way = self.row(view).way;
+        way.map(|(question, from)| (from, self.questions.value(question)))
     }
 }
 
@@ -239,16 +223,17 @@ mod tests {
     fn an_answer_is_the_one_that_was_kept() {
         let mut answers: Answers<u64, u64> = Answers::new(1 << 20);
         for n in 0..5000 {
-            let view = answers.view(key(n / 17));
+            let view = answers.view(key(n / 17)).0;
             assert_eq!(answers.get(view, &(n % 17)), None);
             let known = answers.put(view, &(n % 17), &(n % 7), key(n));
             assert_eq!(answers.get(view, &(n % 17)), Some(known));
         }
-        for n in 0..5000 {
-            let view = answers.view(key(n / 17));
+        let views = answers.views((0..5000).map(|n| key(n / 17)));
+        for (n, view) in (0..5000).zip(views) {
             let known = answers.get(view, &(n % 17)).expect("an answer");
-            assert_eq!((answers.answer(known), known.after.key), (&(n % 7), key(n)));
-            let way = answers.way(known.after).map(|(from, question)| (from.key, *question));
+            assert_eq!((answers.answer(known), answers.key(known.after)), (&(n % 7), key(n)));
+            let way = answers.way(known.after);
+            let way = way.map(|(from, question)| (answers.key(from), *question));
             assert_eq!(way, (n > 0).then_some((key(n / 17), n % 17)), "{n}");
         }
     }
@@ -265,7 +250,7 @@ mod tests {
                     times += 1;
                     assert!(!answers.is_full());
                 }
-                let view = answers.view(key(n));
+                let view = answers.view(key(n)).0;
                 let known = answers.put(view, &(n % 3), &(n % values), key(n));
                 assert_eq!(answers.answer(known), &(n % values));
                 assert!(answers.answers.values.len() <= MOST_VALUES && answers.rows.len() * VIEW <= most * ANSWER);

@@ -201,11 +201,15 @@ impl<'a> Hosts<'a> {
     }
 
     /// What the users see in some states, before questions about them. What was seen before may be forgotten.
-    pub fn seen(&mut self, views: impl Iterator<Item = Key>) -> Vec<Seen> {
+    pub fn seen(&mut self, views: impl Iterator<Item = Key> + Clone) -> Vec<Seen> {
         if self.answers.is_full() {
             self.answers.forget();
         }
         self.answers.views(views)
+    }
+
+    pub fn key(&self, view: Seen) -> Key {
+        self.answers.key(view)
     }
 
     /// A session that another thread has brought to a state of this one.
@@ -329,7 +333,7 @@ impl<'a> Hosts<'a> {
             }
             Ask::Broken(user, at_end) => Told::Broken(self.find_broken(at, user, at_end)?),
         };
-        Ok((told, at.view.key))
+        Ok((told, self.answers.key(at.view)))
     }
 
     /// Makes a step on the scratch session.
@@ -337,11 +341,12 @@ impl<'a> Hosts<'a> {
         let mut scratch = self.come_to(at)?;
         self.calls.steps += 1;
         let answer = checked(step.make(&mut scratch))?;
+        let before = self.answers.key(at.view);
         let after = match answer {
-            Err(_) | Ok(Reply::Nothing) => at.view.key, // nothing has changed
+            Err(_) | Ok(Reply::Nothing) => before, // nothing has changed
             _ => view_of(&scratch, self.users, &mut self.numbers)?,
         };
-        if after != at.view.key && self.is_wanted(after) {
+        if after != before && self.is_wanted(after) {
             self.keep(after, scratch);
         } else {
             self.scratch = Some(scratch);
@@ -351,8 +356,8 @@ impl<'a> Hosts<'a> {
     }
 
     /// Whether the scratch session is at this state.
-    pub fn is_at(&self, view: Key) -> bool {
-        self.scratch_view == Some(view)
+    pub fn is_at(&self, view: Seen) -> bool {
+        self.scratch_view == Some(self.answers.key(view))
     }
 
     /// Whether a session at this state is to be kept, and isn't yet.
@@ -372,15 +377,15 @@ impl<'a> Hosts<'a> {
 
     /// Takes the scratch session, and brings it to a state.
     fn come_to(&mut self, at: &At) -> Result<Session, Error> {
-        let unused = self.scratch.take();
-        if self.scratch_view.take() == Some(at.view.key) {
-            if let Some(scratch) = unused {
-                return Ok(scratch);
+        let is_there = self.is_at(at.view);
+        self.scratch_view = None;
+        match self.scratch.take() {
+            Some(scratch) if is_there => Ok(scratch),
+            unused => {
+                self.spare.extend(unused);
+                self.brought(at)
             }
-        } else {
-            self.spare.extend(unused);
         }
-        self.brought(at)
     }
 
     /// The session that is kept at a state.
@@ -393,19 +398,19 @@ impl<'a> Hosts<'a> {
     fn brought(&mut self, at: &At) -> Result<Session, Error> {
         let mut view = at.view;
         self.steps.clear();
-        while self.kept(view.key).is_none() {
+        while self.kept(self.answers.key(view)).is_none() {
             let Some((from, Ask::Step(step))) = self.answers.way(view) else {
                 return self.replayed(at);
             };
             self.steps.push(*step);
             view = from;
         }
-        let mut session = self.copy_of(view.key)?;
+        let mut session = self.copy_of(self.answers.key(view))?;
         for step in self.steps.iter().rev() {
             let _ = checked(step.make(&mut session))?; // any answer of the model
         }
         if self.steps.len() >= LONG_WAY {
-            self.keep_copy(at.view.key, &session)?;
+            self.keep_copy(self.answers.key(at.view), &session)?;
         }
         Ok(session)
     }
@@ -415,7 +420,7 @@ impl<'a> Hosts<'a> {
         self.calls.replays += 1;
         let mut session = self.copy_of(self.start_view)?;
         (at.replay)(&mut session)?;
-        self.keep_copy(at.view.key, &session)?;
+        self.keep_copy(self.answers.key(at.view), &session)?;
         Ok(session)
     }
 
@@ -434,12 +439,13 @@ impl<'a> Hosts<'a> {
 
     /// A session at a state, to look at.
     fn session_at(&mut self, at: &At) -> Result<&Session, Error> {
-        if !self.is_at(at.view.key) {
-            if self.kept(at.view.key).is_some() {
-                return Ok(self.kept(at.view.key).expect("it is there"));
+        if !self.is_at(at.view) {
+            let view = self.answers.key(at.view);
+            if self.kept(view).is_some() {
+                return Ok(self.kept(view).expect("it is there"));
             }
             self.scratch = Some(self.come_to(at)?);
-            self.scratch_view = Some(at.view.key);
+            self.scratch_view = Some(view);
         }
         Ok(self.scratch.as_ref().expect("it has a view"))
     }

@@ -45,7 +45,7 @@ impl Link {
 #[derive(Debug)]
 pub struct Part {
     keys: Vec<Key>,
-    /// A place + 1; 0 is free.
+    /// A place + 1 in as few bits as an index of this size needs, and above them some of its key's; 0 is free.
     index: Vec<u32>,
 }
 
@@ -78,31 +78,33 @@ impl Part {
         self.keys.capacity() * std::mem::size_of::<Key>() + self.index.capacity() * 4
     }
 
-    /// Where a key is, if it is there and at its first slot. With [`Part::is_at`], first for many keys and then for each, the
-    /// memory that they need comes at once.
-    pub fn hint(&self, key: Key) -> u32 {
+    /// A word that a look at this key needs: those of many keys are read first, since a processor waits for all of them as long
+    /// as for one.
+    pub fn near(&self, key: Key) -> u32 {
         self.index[self.slot(key)]
     }
 
-    /// The place of a key, if its hint was right.
-    pub fn at_hint(&self, key: Key, hint: u32) -> Option<u32> {
-        hint.checked_sub(1).filter(|place| self.keys[*place as usize] == key)
+    /// The first place that may be that of a key.
+    pub fn candidate(&self, key: Key) -> Option<u32> {
+        self.candidates(key).next()
+    }
+
+    /// The place of a key, if it is its candidate.
+    pub fn is_at(&self, key: Key, place: u32) -> bool {
+        self.keys[place as usize] == key
     }
 
     /// The place of a key, and whether it is new.
     pub fn insert(&mut self, key: Key) -> (u32, bool) {
-        let mut slot = self.slot(key);
-        while let Some(place) = self.index[slot].checked_sub(1) {
-            if self.keys[place as usize] == key {
-                return (place, false);
-            }
-            slot = self.next(slot);
+        if let Some(place) = self.candidates(key).find(|place| self.is_at(key, *place)) {
+            return (place, false);
         }
         let place = u32::try_from(self.keys.len()).expect("a part has less than 2^32 states");
         self.keys.push(key);
-        self.index[slot] = place + 1;
         if self.keys.len() * 4 >= self.index.len() * 3 {
             self.index_anew();
+        } else {
+            self.add(key, place);
         }
         (place, true)
     }
@@ -111,8 +113,35 @@ impl Part {
         key.1 as usize & (self.index.len() - 1)
     }
 
-    fn next(&self, slot: usize) -> usize {
-        (slot + 1) & (self.index.len() - 1)
+    /// What is around the first slot of a key, up to a free one.
+    fn slots(&self, key: Key) -> impl Iterator<Item = usize> {
+        let (first, last) = (self.slot(key), self.index.len() - 1);
+        (0..).map(move |n| first.wrapping_add(n) & last)
+    }
+
+    /// The bits of a key that are in the index.
+    fn tag(&self, key: Key) -> u32 {
+        let places = self.index.len() as u64 - 1;
+        key.0 as u32 & !(places as u32)
+    }
+
+    /// The places whose keys have the same bits in the index.
+    fn candidates(&self, key: Key) -> impl Iterator<Item = u32> + '_ {
+        let tag = self.tag(key);
+        let known = self
+            .slots(key)
+            .map(|slot| self.index[slot])
+            .take_while(|entry| *entry != 0);
+        known
+            .map(move |entry| entry ^ tag)
+            .filter(|place| (*place as usize) < self.index.len())
+            .map(|place| place - 1)
+    }
+
+    fn add(&mut self, key: Key, place: u32) {
+        let free = self.slots(key).find(|slot| self.index[*slot] == 0);
+        let entry = self.tag(key) | (place + 1);
+        self.index[free.expect("a quarter is free")] = entry;
     }
 
     fn index_anew(&mut self) {
@@ -120,11 +149,7 @@ impl Part {
         self.index.clear();
         self.index.resize(size, 0);
         for place in 0..self.keys.len() {
-            let mut slot = self.slot(self.keys[place]);
-            while self.index[slot] != 0 {
-                slot = self.next(slot);
-            }
-            self.index[slot] = place as u32 + 1;
+            self.add(self.keys[place], place as u32);
         }
     }
 }
@@ -137,12 +162,16 @@ mod tests {
     #[test]
     fn a_key_is_new_once() {
         let mut part = Part::new();
-        let key = |n: u64| Key(n, mixed(n % 1000)); // many with the same slot
+        let key = |n: u64| Key(mixed(n), mixed(n % 1000)); // many with the same slot
         for n in 0..5000 {
             assert_eq!(part.insert(key(n)), (n as u32, true));
         }
         for n in 0..5000 {
             assert_eq!(part.insert(key(n)), (n as u32, false));
+        }
+        for n in 0..6000 {
+            let place = part.candidate(key(n)).filter(|place| part.is_at(key(n), *place));
+            assert_eq!(place, (n < 5000).then_some(n as u32));
         }
         let mut again = Part::of_keys(part.keys().to_vec());
         assert_eq!(again.insert(key(4999)), (4999, false));

@@ -14,18 +14,13 @@ pub struct Spot {
 
 impl Spot {
     pub fn key(&self) -> Key {
-        let mut hasher = Hasher::new();
-        hasher.words(&[self.view.0, self.view.1]);
-        self.memories
-            .iter()
-            .for_each(|memory| hasher.word(u64::from_le_bytes(*memory)));
-        self.places.iter().for_each(|place| hasher.words(&place.words()));
-        hasher.key()
+        let mut words = vec![self.view.0, self.view.1];
+        self.write_processes(&mut words);
+        key_of(&words)
     }
 
-    /// Becomes another spot of the same processes, but with this view. It takes no memory.
-    pub fn set(&mut self, other: &Spot, view: Key) {
-        self.view = view;
+    /// Becomes another spot of the same processes, but for the view. It takes no memory.
+    pub fn set(&mut self, other: &Spot) {
         self.memories.copy_from_slice(&other.memories);
         self.places.copy_from_slice(&other.places);
     }
@@ -35,8 +30,8 @@ impl Spot {
         2 + self.memories.len() + 2 * self.places.len()
     }
 
-    pub fn write(&self, words: &mut Vec<u64>) {
-        words.extend([self.view.0, self.view.1]);
+    /// Adds all words but those of the view, which come first.
+    pub fn write_processes(&self, words: &mut Vec<u64>) {
         words.extend(self.memories.iter().map(|memory| u64::from_le_bytes(*memory)));
         words.extend(self.places.iter().flat_map(|place| place.words()));
     }
@@ -51,4 +46,11 @@ impl Spot {
             *place = Place::of_words([pair[0], pair[1]]);
         }
     }
+}
+
+/// The key of a spot with these words.
+pub fn key_of(words: &[u64]) -> Key {
+    let mut hasher = Hasher::new();
+    hasher.words(words);
+    hasher.key()
 }
