@@ -42,6 +42,10 @@ impl<T: Clone + Eq + Hash> Numbered<T> {
 #[derive(Clone, Copy, Debug, PartialEq, Eq)]
 pub struct Seen(pub u32);
 
+/// A question by its number until all is forgotten.
+#[derive(Clone, Copy, Debug, PartialEq, Eq)]
+pub struct Question(NonZeroU32);
+
 /// An answer by its number, and what the users see after it.
 #[derive(Clone, Copy, Debug, PartialEq, Eq)]
 pub struct Known {
@@ -52,7 +56,7 @@ pub struct Known {
 /// A question, and its answer.
 #[derive(Clone, Copy, Debug)]
 struct Entry {
-    question: NonZeroU32,
+    question: Question,
     known: Known,
 }
 
@@ -71,7 +75,7 @@ struct Block {
 #[derive(Clone, Copy, Debug)]
 struct Row {
     block: u32,
-    way: Option<(NonZeroU32, Seen)>,
+    way: Option<(Question, Seen)>,
 }
 
 /// Answers `A` to questions `Q`.
@@ -157,8 +161,11 @@ impl<Q: Clone + Eq + Hash, A: Clone + Eq + Hash> Answers<Q, A> {
         &self.rows[view.0 as usize]
     }
 
-    pub fn get(&mut self, view: Seen, question: &Q) -> Option<Known> {
-        let question = self.questions.number(question);
+    pub fn question(&mut self, question: &Q) -> Question {
+        Question(self.questions.number(question))
+    }
+
+    pub fn get(&self, view: Seen, question: Question) -> Option<Known> {
         let mut at = self.row(view).block;
         while let Some(block) = self.blocks.get(at as usize) {
             let mut entries = block.entries.iter().flatten();
@@ -171,8 +178,7 @@ impl<Q: Clone + Eq + Hash, A: Clone + Eq + Hash> Answers<Q, A> {
     }
 
     /// Keeps an answer that isn't known yet.
-    pub fn put(&mut self, view: Seen, question: &Q, answer: &A, after: Key) -> Known {
-        let question = self.questions.number(question);
+    pub fn put(&mut self, view: Seen, question: Question, answer: &A, after: Key) -> Known {
         let answer = self.answers.number(answer);
         let (after, is_new) = self.view(after);
         if is_new {
@@ -205,7 +211,7 @@ impl<Q: Clone + Eq + Hash, A: Clone + Eq + Hash> Answers<Q, A> {
     /// From which view this one was reached first, and by which question.
     pub fn way(&self, view: Seen) -> Option<(Seen, &Q)> {
         let way = self.row(view).way;
-        way.map(|(question, from)| (from, self.questions.value(question)))
+        way.map(|(Question(number), from)| (from, self.questions.value(number)))
     }
 }
 
@@ -223,14 +229,16 @@ mod tests {
     fn an_answer_is_the_one_that_was_kept() {
         let mut answers: Answers<u64, u64> = Answers::new(1 << 20);
         for n in 0..5000 {
-            let view = answers.view(key(n / 17)).0;
-            assert_eq!(answers.get(view, &(n % 17)), None);
-            let known = answers.put(view, &(n % 17), &(n % 7), key(n));
-            assert_eq!(answers.get(view, &(n % 17)), Some(known));
+            let (view, _) = answers.view(key(n / 17));
+            let question = answers.question(&(n % 17));
+            assert_eq!(answers.get(view, question), None);
+            let known = answers.put(view, question, &(n % 7), key(n));
+            assert_eq!(answers.get(view, question), Some(known));
         }
         let views = answers.views((0..5000).map(|n| key(n / 17)));
         for (n, view) in (0..5000).zip(views) {
-            let known = answers.get(view, &(n % 17)).expect("an answer");
+            let question = answers.question(&(n % 17));
+            let known = answers.get(view, question).expect("an answer");
             assert_eq!((answers.answer(known), answers.key(known.after)), (&(n % 7), key(n)));
             let way = answers.way(known.after);
             let way = way.map(|(from, question)| (answers.key(from), *question));
@@ -250,8 +258,9 @@ mod tests {
                     times += 1;
                     assert!(!answers.is_full());
                 }
-                let view = answers.view(key(n)).0;
-                let known = answers.put(view, &(n % 3), &(n % values), key(n));
+                let (view, _) = answers.view(key(n));
+                let question = answers.question(&(n % 3));
+                let known = answers.put(view, question, &(n % values), key(n));
                 assert_eq!(answers.answer(known), &(n % values));
                 assert!(answers.answers.values.len() <= MOST_VALUES && answers.rows.len() * VIEW <= most * ANSWER);
             }

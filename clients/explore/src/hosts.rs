@@ -1,6 +1,6 @@
 //! What the model answers, asked of the library once: a step from a state is answered as it was before, which is proved.
 
-use crate::answers::{Answers, Known, Seen};
+use crate::answers::{Answers, Known, Question, Seen};
 use crate::hash::{Hasher, Key};
 use crate::model::{killed, Kind, Property};
 use crate::process::Answer;
@@ -26,6 +26,19 @@ enum Ask {
     Live(u32),
     /// The first property that the user's rows break; at an end, or always.
     Broken(u32, bool),
+}
+
+impl Ask {
+    /// The number of whom it is about.
+    fn number(self) -> usize {
+        let number = match self {
+            Ask::Step(step) => step.user(),
+            Ask::Children(caller) | Ask::News(caller, _) => caller.pid,
+            Ask::Signal(_, lwp) => lwp,
+            Ask::State(user) | Ask::There(user) | Ask::Live(user) | Ask::Broken(user, _) => user,
+        };
+        number as usize
+    }
 }
 
 /// A property by its place, and what is wrong.
@@ -132,6 +145,8 @@ pub struct Room<'a> {
 
 /// A session that has made so many steps again is kept.
 const LONG_WAY: usize = 32;
+/// How many questions are found by who asks, which is faster than by all of the question.
+const RECENT: usize = 1 << 10;
 
 /// The sessions and answers of one thread.
 pub struct Hosts<'a> {
@@ -145,6 +160,8 @@ pub struct Hosts<'a> {
     spare: Vec<Session>,
     sessions: Sessions,
     answers: Answers<Ask, Told>,
+    /// Questions that were asked last, by who asks.
+    recent: Vec<Option<(Ask, Question)>>,
     numbers: Vec<u32>,
     /// The steps from a session that is kept, the last one first.
     steps: Vec<Step>,
@@ -191,6 +208,7 @@ impl<'a> Hosts<'a> {
             spare: Vec::new(),
             sessions: Sessions::new(room.sessions),
             answers: Answers::new(room.answers),
+            recent: vec![None; RECENT],
             numbers: Vec::with_capacity(256),
             steps: Vec::new(),
             owns: room.owns,
@@ -204,6 +222,7 @@ impl<'a> Hosts<'a> {
     pub fn seen(&mut self, views: impl Iterator<Item = Key> + Clone) -> Vec<Seen> {
         if self.answers.is_full() {
             self.answers.forget();
+            self.recent.fill(None);
         }
         self.answers.views(views)
     }
@@ -226,9 +245,9 @@ impl<'a> Hosts<'a> {
         self.outgoing.take()
     }
 
-    /// The answer to a step, and what the users see after it.
-    pub fn step(&mut self, at: &At, step: Step) -> Result<(&Answer, Seen), Error> {
-        let known = self.known(at, Ask::Step(step))?;
+    /// The answer to a step, and what the users see after it. Who asks is a number, which for one step is mostly the same.
+    pub fn step(&mut self, at: &At, step: Step, who: usize) -> Result<(&Answer, Seen), Error> {
+        let known = self.known(at, Ask::Step(step), who)?;
         match self.answers.answer(known) {
             Told::Step(answer) => Ok((answer, known.after)),
             told => unreachable!("{told:?}"),
@@ -236,8 +255,21 @@ impl<'a> Hosts<'a> {
     }
 
     /// Whether the answer to a step is known.
-    pub fn is_known(&mut self, at: &At, step: Step) -> bool {
-        self.answers.get(at.view, &Ask::Step(step)).is_some()
+    pub fn is_known(&mut self, at: &At, step: Step, who: usize) -> bool {
+        let question = self.question(&Ask::Step(step), who);
+        self.answers.get(at.view, question).is_some()
+    }
+
+    fn question(&mut self, ask: &Ask, who: usize) -> Question {
+        let recent = &mut self.recent[who % RECENT];
+        match recent {
+            Some((known, question)) if known == ask => *question,
+            _ => {
+                let question = self.answers.question(ask);
+                *recent = Some((*ask, question));
+                question
+            }
+        }
     }
 
     /// The processes that a wait for any is for.
@@ -289,16 +321,17 @@ impl<'a> Hosts<'a> {
     }
 
     fn told(&mut self, at: &At, ask: Ask) -> Result<&Told, Error> {
-        let known = self.known(at, ask)?;
+        let known = self.known(at, ask, ask.number())?;
         Ok(self.answers.answer(known))
     }
 
-    fn known(&mut self, at: &At, ask: Ask) -> Result<Known, Error> {
-        if let Some(known) = self.answers.get(at.view, &ask) {
+    fn known(&mut self, at: &At, ask: Ask, who: usize) -> Result<Known, Error> {
+        let question = self.question(&ask, who);
+        if let Some(known) = self.answers.get(at.view, question) {
             return Ok(known);
         }
         let (told, after) = self.find_out(at, ask)?;
-        Ok(self.answers.put(at.view, &ask, &told, after))
+        Ok(self.answers.put(at.view, question, &told, after))
     }
 
     /// The answer, and what the users see after it.
@@ -454,7 +487,7 @@ impl<'a> Hosts<'a> {
         let mut news = Vec::new();
         for pid in self.children(at, caller)?.iter() {
             let wait = Step::Wait4(caller, Which::Process(*pid), options);
-            if let (Ok(Reply::Status { .. }), _) = self.step(at, wait)? {
+            if let (Ok(Reply::Status { .. }), _) = self.step(at, wait, *pid as usize)? {
                 news.push(*pid);
             }
         }
