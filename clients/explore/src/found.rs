@@ -3,8 +3,8 @@
 use crate::hosts::{checked, Calls};
 use crate::model::Model;
 use crate::process::{Memory, Next, Place};
-use crate::search::{with_news, Failure};
-use crate::step::{answer_text, Step};
+use crate::search::Failure;
+use crate::step::{answer_text, with_news, Step};
 use std::collections::HashMap;
 use std::fmt;
 use std::fs;

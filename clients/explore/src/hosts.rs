@@ -4,6 +4,7 @@ use crate::answers::{Answers, Known, Question, Seen};
 use crate::hash::{Hasher, Key};
 use crate::model::{killed, Kind, Property};
 use crate::process::Answer;
+use crate::sessions::{copied, Sessions};
 use crate::step::Step;
 use std::sync::Arc;
 use tracehost::{Caller, Errno, Error, Reply, Session, SignalSet, State, WaitOptions, Which};
@@ -87,49 +88,6 @@ impl std::ops::Add for Calls {
             copies: self.copies + other.copies,
             replays: self.replays + other.replays,
         }
-    }
-}
-
-/// Sessions by what the users see in them, in sets of four.
-struct Sessions {
-    sets: Vec<Ways>,
-}
-
-/// The one at `oldest` is replaced next.
-#[derive(Default)]
-struct Ways {
-    ways: [Option<(Key, Session)>; 4],
-    oldest: usize,
-}
-
-impl Sessions {
-    fn new(count: usize) -> Sessions {
-        let sets = (count / 4).next_power_of_two();
-        Sessions {
-            sets: (0..sets).map(|_| Ways::default()).collect(),
-        }
-    }
-
-    fn set(&self, view: Key) -> usize {
-        view.0 as usize & (self.sets.len() - 1)
-    }
-
-    fn get(&self, view: Key) -> Option<&Session> {
-        let set = &self.sets[self.set(view)];
-        set.ways
-            .iter()
-            .flatten()
-            .find(|(key, _)| *key == view)
-            .map(|(_, session)| session)
-    }
-
-    /// Keeps a session, and returns the one that had its place.
-    fn put(&mut self, view: Key, session: Session) -> Option<Session> {
-        let set = self.set(view);
-        let set = &mut self.sets[set];
-        let place = set.oldest;
-        set.oldest = (place + 1) % set.ways.len();
-        set.ways[place].replace((view, session)).map(|(_, session)| session)
     }
 }
 
@@ -523,14 +481,6 @@ impl<'a> Hosts<'a> {
             checked.err().map(|wrong| (place, wrong))
         });
         Ok(broken)
-    }
-}
-
-/// A copy of a session, over a spare one if there is any.
-fn copied(session: &Session, spare: &mut Vec<Session>) -> Result<Session, Error> {
-    match spare.pop() {
-        Some(mut copy) => session.copy_over(&mut copy).map(|()| copy),
-        None => session.try_clone(),
     }
 }
 

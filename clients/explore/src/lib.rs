@@ -14,7 +14,9 @@
 //! - Trusted: that the search tries every step; the set of states, whose keys are 128 bits of a hash
 //!   ([`Found::collision`]); that scripts return the same for the same place and memory, and share nothing else.
 
+mod ahead;
 mod answers;
+mod batch;
 mod checkpoint;
 mod explore;
 mod found;
@@ -27,6 +29,7 @@ mod packed;
 mod process;
 mod script;
 mod search;
+mod sessions;
 mod set;
 mod spot;
 mod step;

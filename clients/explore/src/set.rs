@@ -5,6 +5,11 @@ use crate::hash::Key;
 /// How many parts a set has, whatever the number of threads. A key's part is given by what the users see.
 pub const PARTS: usize = 64;
 
+/// Which part of the set has the states with this view.
+pub fn part_of(view: Key) -> usize {
+    (view.1 >> 32) as usize % PARTS
+}
+
 /// A state by its part, and its place among those of the part.
 #[derive(Clone, Copy, Debug, PartialEq, Eq)]
 pub struct Number {

@@ -101,6 +101,14 @@ impl fmt::Display for Step {
     }
 }
 
+/// A wait for any child is one for the process whose news it reports.
+pub(crate) fn with_news(step: Step, news: Option<u32>) -> Step {
+    match (step, news) {
+        (Step::Wait4(caller, Which::Any, options), Some(pid)) => Step::Wait4(caller, Which::Process(pid), options),
+        (step, _) => step,
+    }
+}
+
 /// What a step was answered, as a trace shows it.
 pub(crate) fn answer_text(answer: &Result<Reply, Error>) -> String {
     match answer {

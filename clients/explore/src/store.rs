@@ -2,8 +2,15 @@
 
 use crate::hash::Key;
 use crate::packed::{pack, unpack};
-use crate::search::Links;
 use crate::set::{Part, PARTS};
+use std::sync::RwLock;
+
+/// The links of all states, but those of the level that is being made.
+pub type Links = Vec<RwLock<Vec<u64>>>;
+
+pub fn no_links() -> Links {
+    (0..PARTS).map(|_| RwLock::default()).collect()
+}
 
 /// A part of the set, and those of its states whose next ones aren't known yet.
 pub struct Level {

@@ -84,7 +84,14 @@ fn the_same_is_found_by_any_number_of_threads() {
     ] {
         let model = Race::named(name).expect("a race").model(right, 1, size);
         let first = explore(&model, &options(1)).expect("a search");
-        for (threads, answers, sessions) in [(2, 1 << 16, 1 << 12), (3, 64, 4), (5, 1, 1), (64, 1 << 10, 64)] {
+        for (threads, answers, sessions) in [
+            (2, 1 << 16, 1 << 12),
+            (3, 64, 4),
+            (5, 1, 1),
+            (64, 1 << 10, 64),
+            (1, 1 << 10, 16),
+            (1, 1, 1),
+        ] {
             let options = Options {
                 answers,
                 sessions,

@@ -1,0 +1,55 @@
+//! Sessions that are kept, so that steps go on from there.
+
+use crate::hash::Key;
+use tracehost::{Error, Session};
+
+/// Sessions by what the users see in them, in sets of four.
+pub struct Sessions {
+    sets: Vec<Ways>,
+}
+
+/// The one at `oldest` is replaced next.
+#[derive(Default)]
+struct Ways {
+    ways: [Option<(Key, Session)>; 4],
+    oldest: usize,
+}
+
+impl Sessions {
+    pub fn new(count: usize) -> Sessions {
+        let sets = (count / 4).next_power_of_two();
+        Sessions {
+            sets: (0..sets).map(|_| Ways::default()).collect(),
+        }
+    }
+
+    fn set(&self, view: Key) -> usize {
+        view.0 as usize & (self.sets.len() - 1)
+    }
+
+    pub fn get(&self, view: Key) -> Option<&Session> {
+        let set = &self.sets[self.set(view)];
+        set.ways
+            .iter()
+            .flatten()
+            .find(|(key, _)| *key == view)
+            .map(|(_, session)| session)
+    }
+
+    /// Keeps a session, and returns the one that had its place.
+    pub fn put(&mut self, view: Key, session: Session) -> Option<Session> {
+        let set = self.set(view);
+        let set = &mut self.sets[set];
+        let place = set.oldest;
+        set.oldest = (place + 1) % set.ways.len();
+        set.ways[place].replace((view, session)).map(|(_, session)| session)
+    }
+}
+
+/// A copy of a session, over a spare one if there is any.
+pub fn copied(session: &Session, spare: &mut Vec<Session>) -> Result<Session, Error> {
+    match spare.pop() {
+        Some(mut copy) => session.copy_over(&mut copy).map(|()| copy),
+        None => session.try_clone(),
+    }
+}
