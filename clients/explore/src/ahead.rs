@@ -8,15 +8,12 @@ use crate::spot::Spot;
 use crate::step::{with_news, Step};
 use tracehost::{Error, Reply, Session, Which};
 
-/// How many steps are made ahead of the search.
-const FAR: usize = 64;
-
 impl Search<'_> {
     /// Goes on from a state that the scratch session has come to, by steps whose answers aren't known. The search asks for them
     /// later, and would need a copy of a session for each.
     pub fn go_ahead(&self, hosts: &mut Hosts, from: &At, spot: &mut Spot, next: &mut Spot) -> Result<(), Error> {
         let (mut steps, mut view) = (Vec::new(), from.view);
-        while steps.len() < FAR {
+        while steps.len() < hosts.ahead {
             let replay = |session: &mut Session| make_again(from, &steps, session);
             match self.take_unknown(hosts, &At { view, replay: &replay }, spot, next)? {
                 Some((step, after)) if hosts.is_at(after) => {

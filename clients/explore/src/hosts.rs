@@ -125,7 +125,9 @@ pub struct Hosts<'a> {
     steps: Vec<Step>,
     /// Sessions whose states another thread owns are for that thread.
     owns: Box<dyn Fn(Key) -> bool + Send + 'a>,
-    pub goes_ahead: bool,
+    goes_ahead: bool,
+    /// How many steps are made ahead now.
+    pub ahead: usize,
     outgoing: Option<(Key, Session)>,
     pub calls: Calls,
 }
@@ -171,9 +173,17 @@ impl<'a> Hosts<'a> {
             steps: Vec::new(),
             owns: room.owns,
             goes_ahead: room.goes_ahead,
+            ahead: 0,
             outgoing: None,
             calls: Calls::default(),
         })
+    }
+
+    /// The search has come so deep. What is further ahead may never be asked for, since a failure ends it.
+    pub fn come_deep(&mut self, depth: usize) {
+        if self.goes_ahead {
+            self.ahead = depth / 4;
+        }
     }
 
     /// What the users see in some states, before questions about them. What was seen before may be forgotten.
