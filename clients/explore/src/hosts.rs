@@ -31,14 +31,13 @@ enum Ask {
 
 impl Ask {
     /// The number of whom it is about.
-    fn number(self) -> usize {
-        let number = match self {
+    fn number(self) -> u32 {
+        match self {
             Ask::Step(step) => step.user(),
             Ask::Children(caller) | Ask::News(caller, _) => caller.pid,
             Ask::Signal(_, lwp) => lwp,
             Ask::State(user) | Ask::There(user) | Ask::Live(user) | Ask::Broken(user, _) => user,
-        };
-        number as usize
+        }
     }
 }
 
@@ -289,7 +288,7 @@ impl<'a> Hosts<'a> {
     }
 
     fn told(&mut self, at: &At, ask: Ask) -> Result<&Told, Error> {
-        let known = self.known(at, ask, ask.number())?;
+        let known = self.known(at, ask, ask.number() as usize)?;
         Ok(self.answers.answer(known))
     }
 
