@@ -195,6 +195,12 @@ impl ObjectWriter {
         }
     }
 
+    /// Creates a writer with room for objects of so many bytes. An error means out of memory.
+    pub fn with_capacity(alloc: Global, bytes: usize) -> Result<ObjectWriter, AllocError> {
+        let bytes = Vec::with_capacity(alloc, bytes)?;
+        Ok(ObjectWriter { bytes })
+    }
+
     /// Adds the reply to a user's step with this number to the text, as one JSON object, without a space or a line
     /// feed. An error means out of memory.
     pub fn push_reply(

@@ -1,6 +1,6 @@
 -- The names that proofs speak by: those of the libraries, and of this crate's definitions.
 pub use Rattle.std.proofs.Common.{Bool, List, None, Option, Result, Some, [], ap, append-nil, ap₂, arith, cond, count_by, drop, false, get_or, if◌then◌else◌, length, map, refl, replicate, rules}
-pub use Rattle.std.proofs.Common.{string_bytes, subst, sym, take, ℕ, ◌++◌, ◌+◌, ◌-◌, ◌<◌, ◌==◌, ◌∙◌, ◌∷◌, ◌≡◌, ◌≤◌}
+pub use Rattle.std.proofs.Common.{string_bytes, subst, sym, take, ℕ, ◌++◌, ◌+◌, ◌-◌, ◌*◌, ◌<◌, ◌==◌, ◌∙◌, ◌∷◌, ◌≡◌, ◌≤◌}
 pub use Rattle.std.proofs.lemmas.List.{append_assoc, at_drop_all, at_drop_more, get_or-replicate, get_or-set_other, get_or-set_same, get_or_past, length-append, length-drop, length-set}
 pub use Rattle.std.proofs.lemmas.List.{take-append-drop}
 pub use Rattle.std.proofs.{Math.ListN.set, Math.Seq.take-append_seam, Math.Seq.take-length, lemmas.Bool.Decides.nat_tests, lemmas.List.Sums.count_by-le-length, lemmas.List.Sums.sum_by-cons}

@@ -16,7 +16,7 @@ pub front_more : (a b c : Option (List ℕ)) (rest all : List ℕ) (n : ℕ) →
 front_more a b c rest all n f q =
     (f.0 ++ take n rest, append_assoc f.0 (take n rest) (drop n rest) ∙ ap (λ xs. f.0 ++ xs) (take-append-drop n rest) ∙ f.1, appends_more a b c f.0 (take n rest) f.2 q)
 
-front_is : (a b : Option (List ℕ)) (rest all : List ℕ) → Front a b rest all → (n : ℕ) × Appends a b (take n all)
+pub front_is : (a b : Option (List ℕ)) (rest all : List ℕ) → Front a b rest all → (n : ℕ) × Appends a b (take n all)
 front_is a b rest all f = (length f.0, rw (← f.1, take-append_seam) f.2)
 
 pub front_taken : (a b c : Option (List ℕ)) (rest all : List ℕ) → Front a b rest all → Keeps b c → (n : ℕ) × Appends a c (take n all)

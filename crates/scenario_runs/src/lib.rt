@@ -11,6 +11,7 @@
 
 mod binding;
 mod lines;
+mod number_lists;
 mod retrying;
 mod running;
 mod short_lines;

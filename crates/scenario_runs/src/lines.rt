@@ -1,10 +1,13 @@
 //! The lines of replies.
-ghost use Rattle.std.specs.Prelude.{◌≡◌, ◌+◌, ◌-◌, ◌^◌, ◌<◌, ◌≤◌, ◌++◌, ◌==◌, ℕ, codes, decimal, length, map, Option, IfOk, OnOk, string_bytes, slice_index, slice_set};
+ghost use Rattle.std.specs.Prelude.{◌≡◌, ◌∷◌, [], ◌+◌, ◌-◌, ◌^◌, ◌<◌, ◌≤◌, ◌++◌, ◌==◌, ℕ, codes, decimal, length, map, Option, IfOk, OnOk, string_bytes, slice_index, slice_set};
+ghost use Rattle.std.specs.List.{join_with_byte};
 ghost use Rattle.pid_blocks.specs.Blocks.{slot};
+ghost use Rattle.step_types.specs.Words.{reply_words};
 ghost use Rattle.scenario_runs.specs.Lines.{line, shown_line};
 ghost use Rattle.scenario_runs.specs.declared.style.Style.TheVariants as style;
 ghost use Rattle.scenario_runs.specs.Runs.{answered, shown};
 
+use crate::number_lists::push_list;
 use crate::running::{LineOptions, RunOptions};
 use crate::short_lines::{ROOM, push_short};
 use crate::style::Style;
@@ -68,6 +71,20 @@ impl Words {
     }
 }
 
+/// Adds the words of a reply that isn't one of the most frequent, and ends the line.
+fn push_long(text: &mut String, reply: &Reply) -> Result<(), AllocError>
+    ensures { OnOk result (string_bytes text.new ≡ string_bytes text.old ++ (32 ∷ join_with_byte 32 (reply_words reply.now)) ++ (10 ∷ [])) }
+{
+    match reply {
+        Reply::Lwps(tids) => push_list(text, "lwps", tids.as_slice()),
+        Reply::Pids(pids) => push_list(text, "pids", pids.as_slice()),
+        _ => {
+            writeln!(text, " {reply}")?;
+            Ok(())
+        }
+    }
+}
+
 /// Adds the line of a reply as text. It is put together in `words`.
 fn push_text(
     words: &mut Words,
@@ -86,8 +103,7 @@ fn push_text(
         return text.push_str(words.line.as_str());
     }
     text.push_str(words.line.as_str())?;
-    writeln!(text, " {reply}")?;
-    Ok(())
+    push_long(text, reply)
 }
 
 /// Adds the line of a reply as a JSON object.

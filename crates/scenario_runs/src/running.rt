@@ -1,13 +1,13 @@
 //! Runs a scenario and writes its lines.
-ghost use Rattle.std.specs.Prelude.{◌≡◌, ◌≢◌, ◌↔◌, IsErrOf, string_bytes, IfOk, IfErr};
+ghost use Rattle.std.specs.Prelude.{◌≡◌, ◌≢◌, ◌↔◌, ◌⊎◌, IsErrOf, string_bytes, map, if◌then◌else◌, IfOk, IfErr};
 ghost use Rattle.std.specs.Vec.Iter.{into_iter_items};
 ghost use Rattle.scenario_text.specs.Plan.{policies_in};
-ghost use Rattle.scenario_runs.specs.Runs.{answers_of, shown, Writes, IsAnswered, run_fault_status};
+ghost use Rattle.scenario_runs.specs.Runs.{answered, answers_of, shown, Writes, IsAnswered, run_fault_status};
 ghost use Rattle.scenario_runs.specs.declared.running.RunFault.TheVariants.{Mismatch, Memory, Start, Write as WriteFault};
 ghost use Rattle.scenario_runs.specs.declared.style.Style.TheVariants as style;
 
 use crate::binding::{obey, step_with_handler};
-use crate::lines::{Words, count_reply, push_shown_by};
+use crate::lines::{Words, count_reply, push_shown, push_shown_by};
 use crate::retrying::write_some;
 use crate::style::Style;
 use pid_blocks::Uid;
@@ -97,8 +97,9 @@ fn reply_of<F: Decider + Send + Drop>(
     reply_with_handler(alloc, host, user, bare_step, handlers)
 }
 
-/// The bytes of a line, if it is one of the usual ones. The text of a run begins with room for such lines.
-const TYPICAL_LINE: usize = 24;
+/// More bytes than most lines in words have. The text of a run begins with room for such lines: what isn't used is no
+/// memory, and a text that grows may leave a hole.
+const WORDS_ROOM: usize = 128;
 
 /// Makes the scenario's steps in order on a new host, and returns the lines of the replies that the options show. A
 /// reply ENOMEM ends the run.
@@ -115,7 +116,7 @@ fn text_of<F: Decider + Send + Drop>(
     let bare_steps = scenario.bare_steps();
     let mut host = Host::new(alloc, scenario.settings)?;
     let mut rest = handlers.into_iter();
-    let mut text = String::with_capacity(alloc, bare_steps.len() * TYPICAL_LINE)?;
+    let mut text = String::with_capacity(alloc, bare_steps.len() * WORDS_ROOM)?;
     let mut objects = ObjectWriter::new(alloc);
     let mut words = Words::new();
     let mut made = [0u64; USERS];
@@ -141,6 +142,33 @@ fn text_of<F: Decider + Send + Drop>(
     Ok(text)
 }
 
+/// Makes the scenario's steps in order on a new host, and returns the replies with their users. A reply ENOMEM ends the
+/// run.
+fn replies_of<F: Decider + Send + Drop>(
+    alloc: Global,
+    scenario: &Scenario,
+    handlers: Vec<Handler<F>>,
+) -> Result<Vec<(Uid, Reply)>, RunFault>
+    requires { handlers.items ≡ policies_in scenario.now.steps }
+    ensures ok { IfOk result (λ replies. map answered replies.items ≡ answers_of scenario.now) }
+    ensures err { IfErr result (λ e. e ≡ Memory) }
+{
+    let bare_steps = scenario.bare_steps();
+    let mut host = Host::new(alloc, scenario.settings)?;
+    let mut rest = handlers.into_iter();
+    let mut replies = Vec::with_capacity(alloc, bare_steps.len())?;
+    for bare_step in bare_steps {
+        let Some(reply) = reply_of(alloc, &mut host, bare_step.0, &bare_step.1, &mut rest) else {
+            unreachable!()
+        };
+        if reply.is_memory() {
+            return Err(RunFault::Memory);
+        }
+        replies.push((bare_step.0, reply))?;
+    }
+    Ok(replies)
+}
+
 /// Writes all the bytes, or the beginning of them if the writer fails.
 pub fn write_whole<W: Write>(writer: &mut W, bytes: &[u8]) -> Result<(), RunFault>
     ensures writes { Writes result (W.contents writer.old) (W.contents writer.new) bytes.now }
@@ -155,6 +183,58 @@ pub fn write_whole<W: Write>(writer: &mut W, bytes: &[u8]) -> Result<(), RunFaul
         }
     }
     Ok(())
+}
+
+/// The bytes of lines that are written together, if no line is longer.
+const PART: usize = 32768;
+
+/// Returns the fault of a line without memory: if lines before it are written, the writer has only the beginning.
+fn line_fault(is_begun: bool) -> RunFault
+    ensures { result ≡ (if is_begun then WriteFault else Memory) }
+{
+    if is_begun {
+        RunFault::Write
+    } else {
+        RunFault::Memory
+    }
+}
+
+/// Writes the lines of the replies that the options show, some at a time. Both kinds of lines are shorter than a part,
+/// so no memory is taken once the first part is written.
+fn write_lines<W: Write>(
+    alloc: Global,
+    replies: &[(Uid, Reply)],
+    options: &LineOptions,
+    writer: &mut W,
+) -> Result<(), RunFault>
+    ensures writes { Writes result (W.contents writer.old) (W.contents writer.new)
+        (shown options.now.style options.now.user (map answered replies.now)) }
+    ensures kind { IfErr result (λ e. (e ≡ Memory) ⊎ (e ≡ WriteFault)) }
+{
+    let mut text = String::with_capacity(alloc, 2 * PART)?;
+    let mut objects = ObjectWriter::with_capacity(alloc, PART)?;
+    let mut made = [0u64; USERS];
+    let mut is_begun = false;
+    for reply in replies {
+        let number = count_reply(&mut made, reply.0);
+        let Ok(()) = push_shown(
+            alloc,
+            options,
+            &mut objects,
+            &mut text,
+            reply.0,
+            number,
+            &reply.1,
+        ) else {
+            return Err(line_fault(is_begun));
+        };
+        if text.len() >= PART {
+            write_whole(writer, text.as_bytes())?;
+            text.clear();
+            is_begun = true;
+        }
+    }
+    write_whole(writer, text.as_bytes())
 }
 
 /// Which lines of a run are shown, in words.
@@ -206,8 +286,16 @@ pub fn run_with<F: Decider + Send + Drop, W: Write>(
     if !obey(handlers.as_slice(), scenario.policies()) {
         return Err(RunFault::Mismatch);
     }
-    let lines = text_of(alloc, scenario, handlers, &options)?;
-    write_whole(writer, lines.as_bytes())
+    match options.style {
+        Style::Text => {
+            let lines = text_of(alloc, scenario, handlers, &options)?;
+            write_whole(writer, lines.as_bytes())
+        }
+        Style::Json => {
+            let replies = replies_of(alloc, scenario, handlers)?;
+            write_lines(alloc, replies.as_slice(), &options, writer)
+        }
+    }
 }
 
 /// Makes the steps of the scenario in order on a new host, with a handler for each installed policy. Then it writes the

@@ -13,11 +13,6 @@ invariant_of-words-in_err-push_str c =
     let a = c.words.inside in
     begun_still a.user a.kept a.line.bytes _ c.push_short.new.line.bytes c.words.invariant (c.if-push_short.ensures ∙ c.push_str.ensures.bytes)
 
-pub invariant_of-words-in_err-writeln : goal.invariant_of-words-in_err-writeln
-invariant_of-words-in_err-writeln c =
-    let a = c.words.inside in
-    begun_still a.user a.kept a.line.bytes _ c.push_short.new.line.bytes c.words.invariant (c.if-push_short.ensures ∙ c.push_str.ensures.bytes)
-
 pub invariant_of-words-2 : goal.invariant_of-words-2
 invariant_of-words-2 c =
     let a = c.words.inside in
