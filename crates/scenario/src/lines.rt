@@ -16,7 +16,7 @@ use std::marker::Model;
 use std::snapshot::Snapshot;
 
 /// The bytes of a usual line.
-const USUAL_LINE: usize = 24;
+const USUAL_LINE: usize = 128;
 
 /// Reports the lines of the replies that the options show.
 #[derive(Drop)]
