@@ -8,6 +8,7 @@ use byte_lines::{Difference, first_difference};
 use json_trace::{ScenarioSteps, write_fault};
 use scenario_runs::{Fault, RunFault, Scenario};
 use std::alloc::{AllocError, Global};
+use std::fs::OpenFile;
 use std::io::{BufWriter, Read, Write};
 use std::rt::Files;
 use std::{fmt, fs, io};
@@ -20,6 +21,69 @@ pub(crate) struct Expected<'a> {
     pub(crate) bytes: Option<Vec<u8>>,
     /// The file gets the run's lines.
     pub(crate) blesses: bool,
+}
+
+/// A writer of a run's lines. It keeps them only if they aren't as expected.
+#[derive(Drop)]
+pub(crate) struct ComparingWriter<'a> {
+    alloc: Global,
+    expected: &'a [u8],
+    /// How many bytes there are, all as expected.
+    same: usize,
+    /// All lines, from the first write on that is different.
+    text: Option<Vec<u8>>,
+}
+
+impl<'a> ComparingWriter<'a> {
+    /// A writer that compares with these bytes. Without them it keeps all lines.
+    pub(crate) fn new(alloc: Global, expected: Option<&'a [u8]>) -> ComparingWriter<'a> {
+        let text = match expected {
+            Some(_) => None,
+            None => Some(Vec::new(alloc)),
+        };
+        ComparingWriter {
+            alloc,
+            expected: expected.unwrap_or(&[]),
+            same: 0,
+            text,
+        }
+    }
+
+    /// Returns a copy of the bytes that were as expected.
+    fn same_bytes(&self) -> Result<Vec<u8>, AllocError> {
+        let same = self.expected.get(..self.same).unwrap_or(&[]);
+        Vec::from_slice(self.alloc, same)
+    }
+
+    /// Returns the run's lines; none if they are the expected ones. An error means out of memory.
+    pub(crate) fn into_different(mut self) -> Result<Option<Vec<u8>>, AllocError> {
+        match self.text.take() {
+            Some(text) => Ok(Some(text)),
+            None if self.same == self.expected.len() => Ok(None),
+            None => Ok(Some(self.same_bytes()?)),
+        }
+    }
+}
+
+impl Write for ComparingWriter<'_> {
+    fn write(&mut self, bytes: &[u8]) -> io::Result<usize> {
+        if self.text.is_none() {
+            let rest = self.expected.get(self.same..).unwrap_or(&[]);
+            if rest.starts_with(bytes) {
+                self.same = self.same.saturating_add(bytes.len());
+                return Ok(bytes.len());
+            }
+            self.text = Some(self.same_bytes()?);
+        }
+        if let Some(text) = &mut self.text {
+            text.extend_from_slice(bytes)?;
+        }
+        Ok(bytes.len())
+    }
+
+    fn flush(&mut self) -> io::Result<()> {
+        Ok(())
+    }
 }
 
 /// A run, and its lines.
@@ -41,12 +105,19 @@ fn is_no_file<R: Files>(rt: &R, path: &str) -> bool {
 /// How many bytes a file to compare with may have.
 const MAX_EXPECTED: usize = 1 << 30;
 
+/// How many bytes a file has, as far as they may be read; 0 if that isn't known.
+fn room_for<F: OpenFile>(file: &F) -> usize {
+    match file.metadata() {
+        Ok(found) => usize::try_from(found.len()).unwrap_or(0).min(MAX_EXPECTED),
+        Err(_) => 0,
+    }
+}
+
 /// Reads a file of lines, or of names. It may be a device without an end.
 pub(crate) fn bytes_of<R: Files + AllocGlobal>(rt: &R, path: &str) -> io::Result<Vec<u8>> {
-    let mut bytes = Vec::new(rt.alloc());
-    fs::open(rt, path)?
-        .take(MAX_EXPECTED as u64 + 1)
-        .read_to_end(&mut bytes)?;
+    let file = fs::open(rt, path)?;
+    let mut bytes = Vec::with_capacity(rt.alloc(), room_for(&file))?;
+    file.take(MAX_EXPECTED as u64 + 1).read_to_end(&mut bytes)?;
     if bytes.len() > MAX_EXPECTED {
         return Err(io::Error::from(io::ErrorKind::FileTooLarge));
     }

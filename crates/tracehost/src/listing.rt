@@ -2,7 +2,7 @@
 use crate::asking::Selection;
 use crate::expecting::{bytes_of, first_line};
 use crate::explaining::{FileName, unread};
-use crate::{CommandError, scenario_of, text_of_run};
+use crate::{CommandError, different_run, scenario_of};
 use byte_lines::first_difference;
 use scenario_runs::{Fault, RunFault, policy_handlers};
 use std::rt::Files;
@@ -62,8 +62,11 @@ fn compare_files<R: Files + Input + Print + AllocGlobal + Threads + Wait + Sync>
         return said_of_fault(rt, expected, Fault::Read);
     };
     let handlers = policy_handlers(rt.alloc(), scenario.policies())?;
-    let text = text_of_run(rt, &scenario, handlers, shown)?;
-    match first_difference(wanted.as_slice(), text.as_slice()) {
+    let wanted = wanted.as_slice();
+    let Some(text) = different_run(rt, &scenario, handlers, shown, Some(wanted))? else {
+        return Ok(Said::Nothing);
+    };
+    match first_difference(wanted, text.as_slice()) {
         None => Ok(Said::Nothing),
         Some(difference) => {
             let mut line = first_line(rt.alloc(), expected, &difference)?;

@@ -24,7 +24,7 @@ mod listing;
 
 use crate::asking::{Expectation, Mode, RunRequest, Selection, Terminals};
 use crate::command_line::{Message, Refusal, asked_of};
-use crate::expecting::{RunLines, compare, read_expected};
+use crate::expecting::{ComparingWriter, RunLines, compare, read_expected};
 use crate::explaining::{Explained, explain_empty_run, explained_scenario, prompt, unread};
 use crate::listing::compare_list;
 use json_trace::{TraceWriter, write_states};
@@ -162,8 +162,14 @@ pub(crate) fn scenario_of<R: Files + Input + AllocGlobal>(
             Ok(mut file) => read(rt.alloc(), &mut file),
             Err(_) => Err(Fault::Read),
         },
-        None => read(rt.alloc(), &mut rt.reader()),
+        None => scenario_of_input(rt),
     }
+}
+
+/// The scenario of standard input. It is apart, so that a file needs no room for what is read ahead of it.
+#[inline(never)]
+fn scenario_of_input<R: Input + AllocGlobal>(rt: &R) -> Result<Scenario, Fault> {
+    read(rt.alloc(), &mut rt.reader())
 }
 
 /// Answers the lines of the reader.
@@ -268,16 +274,17 @@ fn write_run<R: AllocGlobal + Threads + Wait + Sync, F: Decider + Send + Drop, W
     }
 }
 
-/// Makes the steps of the scenario, and returns the lines that are asked for.
-pub(crate) fn text_of_run<R: AllocGlobal + Threads + Wait + Sync, F: Decider + Send + Drop>(
+/// Makes the steps of the scenario, and returns the lines that are asked for; none if they are the expected ones.
+pub(crate) fn different_run<R: AllocGlobal + Threads + Wait + Sync, F: Decider + Send + Drop>(
     rt: &R,
     scenario: &Scenario,
     handlers: Vec<Handler<F>>,
     shown: &Selection,
-) -> Result<Vec<u8>, RunFault> {
-    let mut text = Vec::new(rt.alloc());
-    match write_run(rt, scenario, handlers, shown, &mut text) {
-        Ok(()) => Ok(text),
+    expected: Option<&[u8]>,
+) -> Result<Option<Vec<u8>>, RunFault> {
+    let mut lines = ComparingWriter::new(rt.alloc(), expected);
+    match write_run(rt, scenario, handlers, shown, &mut lines) {
+        Ok(()) => Ok(lines.into_different()?),
         // a write into memory fails only if none is left
         Err(RunFault::Write) => Err(RunFault::Memory),
         Err(fault) => Err(fault),
@@ -296,7 +303,10 @@ fn run_scenario<R: Files + Print + AllocGlobal + Threads + Wait + Sync>(
     match expected {
         Some(Expectation { path, blesses }) => {
             let wanted = read_expected(rt, path, blesses, explains)?;
-            let text = text_of_run(rt, scenario, handlers, shown)?;
+            let bytes = wanted.bytes.as_ref().map(|bytes| bytes.as_slice());
+            let Some(text) = different_run(rt, scenario, handlers, shown, bytes)? else {
+                return Ok(());
+            };
             let run = RunLines {
                 scenario,
                 shown,
