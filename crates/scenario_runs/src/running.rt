@@ -29,7 +29,8 @@ pub enum RunFault {
     /// A thread could not be started. Nothing was written.
     #[error("tracehost: cannot start a worker")]
     Start,
-    /// The writer failed, or took no byte. Before that it took the beginning of the text.
+    /// The writer failed or took no byte, or memory ran out once lines were written. Before that the writer took the
+    /// beginning of the text.
     #[error("tracehost: cannot write")]
     Write,
     /// The handlers are not those of the scenario's policies, one for each in order. Nothing was written.
@@ -199,8 +200,8 @@ fn line_fault(is_begun: bool) -> RunFault
     }
 }
 
-/// Writes the lines of the replies that the options show, some at a time. Both kinds of lines are shorter than a part,
-/// so no memory is taken once the first part is written.
+/// Writes the lines of the replies that the options show, some at a time. Lines are shorter than a part, so no
+/// memory is taken once the first part is written.
 fn write_lines<W: Write>(
     alloc: Global,
     replies: &[(Uid, Reply)],

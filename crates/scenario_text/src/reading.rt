@@ -17,7 +17,7 @@ fn front_of<R: Read>(alloc: Global, reader: &mut R) -> Result<Vec<u8>, Fault>
     ensures err { IfErr result (λ e. (e ≡ Memory) ⊎ (e ≡ ReadFault)) }
 {
     let mut bytes = Vec::new(alloc);
-    let mut chunk = [0u8; 4096];
+    let mut chunk = [0u8; 2048];
     'chunks: while bytes.len() <= MAX_BYTES {
         let room = chunk.len().min(MAX_BYTES + 1 - bytes.len());
         let part = &mut chunk[..room];
