@@ -18,7 +18,7 @@ sys.path.insert(0, str(TOP / "bench"))
 from in_process import bytes_of_copy, compile_copies, instructions_of_copies  # noqa: E402
 
 MOST_BYTES_OF_TWO_ROWS = 8_192
-MOST_OF_COPY_AND_CLOSE = 9_000  # of three processes
+MOST_OF_COPY_AND_CLOSE = 9_100  # of three processes
 MOST_OF_OPEN_AND_CLOSE = 10_000
 
 pytestmark = pytest.mark.skipif(not shutil.which("cc"), reason="needs cc")
