@@ -14,3 +14,4 @@ pub mod WalkLemmas
 pub mod CloneLemmas
 pub mod BirthLemmas
 pub mod NamedLemmas
+pub mod HeadLemmas

@@ -6,7 +6,7 @@ use std::alloc::{AllocError, Global};
 /// The least number of hints, once there is a row.
 const LEAST: usize = 128;
 
-/// The greatest number of hints. With so many, each process number of all users has its own.
+/// The greatest number of hints. With so many, each process number of all users has its own in a table of processes.
 const MOST: usize = 65536;
 
 /// How many hints there are for each row.
@@ -51,7 +51,7 @@ impl Hints {
 
     /// Notes the slot of a row with the number.
     #[inline(always)]
-    fn note(&mut self, number: u32, slot: usize) {
+    pub(crate) fn note(&mut self, number: u32, slot: usize) {
         let last = self.slots.len().wrapping_sub(1);
         if let Some(place) = self.slots.get_mut(number as usize & last) {
             *place = u16::try_from(slot).unwrap_or(0);
@@ -61,20 +61,31 @@ impl Hints {
     /// Makes hints for this many rows, whose numbers are in the index. Fails when out of memory.
     #[inline(always)]
     pub fn reserve(&mut self, index: &NumberIndex<usize>, rows: usize) -> Result<(), AllocError> {
-        if self.slots.len() < MOST && self.slots.len() / SHARE < rows {
-            self.grow(index, rows)?;
+        if self.are_few(rows) {
+            self.grow_with(index, rows)?;
         }
         Ok(())
     }
 
+    /// Tests whether there should be more hints for this many rows.
+    #[inline(always)]
+    pub(crate) fn are_few(&self, rows: usize) -> bool {
+        self.slots.len() < MOST && self.slots.len() / SHARE < rows
+    }
+
     /// Makes hints for this many rows, and notes those of the index anew.
     #[inline(never)]
-    fn grow(&mut self, index: &NumberIndex<usize>, rows: usize) -> Result<(), AllocError> {
-        let wanted = rows.min(MOST / SHARE) * SHARE;
-        self.slots.resize(wanted.max(LEAST).next_power_of_two(), 0)?;
+    fn grow_with(&mut self, index: &NumberIndex<usize>, rows: usize) -> Result<(), AllocError> {
+        self.grow(rows)?;
         for (number, slot) in index.iter() {
             self.note(*number, *slot);
         }
         Ok(())
+    }
+
+    /// Makes hints for this many rows. All rows have to be noted anew.
+    pub(crate) fn grow(&mut self, rows: usize) -> Result<(), AllocError> {
+        let wanted = rows.min(MOST / SHARE) * SHARE;
+        self.slots.resize(wanted.max(LEAST).next_power_of_two(), 0)
     }
 }

@@ -1,6 +1,6 @@
 //! The slots that contain rows, and the lists that links form.
 
-ghost use Rattle.std.specs.Prelude.{◌≡◌, ℕ, ◌+◌, get_or, length, set, ◌<◌, ◌≤◌, ◌==◌, not, Some, None, ◌&&◌, ◌||◌, true, false, IsSome, IfSome, is_none, is_some, if◌then◌else◌, nat_eq};
+ghost use Rattle.std.specs.Prelude.{◌≡◌, ℕ, ◌+◌, get_or, length, set, slice_get, ◌<◌, ◌≤◌, ◌==◌, not, Some, None, ◌&&◌, ◌||◌, true, false, IsSome, IfSome, is_none, is_some, if◌then◌else◌, nat_eq};
 ghost use Rattle.std.specs.Option.{option_map, option_map_or, option_copied};
 ghost use Rattle.slab.specs.Slab.{get, slab_len, ContainsKey};
 ghost use Rattle.std.specs.Map.{lookup};
@@ -11,7 +11,7 @@ ghost use Rattle.lwp_table.specs.Lwps.{waits_for};
 ghost use Rattle.lwp_table.specs.Marks.{no_marks, traits_of, is_bare, gathered, noted, left};
 
 use crate::hasher::NumberIndex;
-use crate::hints::Hints;
+use crate::lwp_hints::LwpHints;
 use crate::marks::{Marks, Traits};
 use crate::user_heads::UserHeads;
 use crate::{LwpData, Mode};
@@ -151,13 +151,13 @@ pub fn close_up(slots: &mut Slab<RowNode>, gone: &RowNode)
 pub fn node_of<'a>(
     rows: &'a Slab<RowNode>,
     slots: &NumberIndex<usize>,
-    hints: &Hints,
+    hints: &LwpHints,
     tid: Tid,
 ) -> Option<&'a RowNode>
     requires { (s : ℕ) (slot : RowNode) → get rows.now s ≡ Some slot → lookup (nat_eq slot.row.tid) slots.now.entries ≡ Some s }
     ensures { option_copied result ≡ node_named (get rows.now) slots.now.entries tid }
 {
-    match rows.get(hints.slot(tid.get())) {
+    match rows.get(hints.slot(tid)) {
         Some(node) if node.row.tid == tid => Some(node),
         _ => indexed_node(rows, slots, tid),
     }
@@ -183,12 +183,17 @@ fn indexed_node<'a>(
 
 /// Returns the slot to which this number leads, which is one.
 #[inline(always)]
-pub fn slot_of(rows: &Slab<RowNode>, slots: &NumberIndex<usize>, hints: &Hints, tid: Tid) -> usize
+pub fn slot_of(
+    rows: &Slab<RowNode>,
+    slots: &NumberIndex<usize>,
+    hints: &LwpHints,
+    tid: Tid,
+) -> usize
     requires listed { (s : ℕ) (slot : RowNode) → get rows.now s ≡ Some slot → lookup (nat_eq slot.row.tid) slots.now.entries ≡ Some s }
     requires there { IsSome (lookup (nat_eq tid) slots.now.entries) }
     ensures { lookup (nat_eq tid) slots.now.entries ≡ Some result }
 {
-    let hint = hints.slot(tid.get());
+    let hint = hints.slot(tid);
     match rows.get(hint) {
         Some(node) if node.row.tid == tid => hint,
         _ => *slots.get(&tid.get()).unwrap(),
@@ -214,25 +219,72 @@ pub fn next_born(slots: &Slab<RowNode>, least: usize, births: usize) -> Option<u
     next
 }
 
+/// Returns the place of the list of a process among all lists: the hinted one, or else the one to which the index leads.
+/// It's behind the last list if the process has none.
+#[inline(always)]
+fn head_place(heads: &NumberIndex<ListHead>, hints: &LwpHints, pid: Pid) -> usize
+    ensures { slice_get heads.now.entries result ≡ option_map (λ ends. (pid, ends)) (lookup (nat_eq pid) heads.now.entries) }
+{
+    let hint = hints.place(pid);
+    match heads.get_index(hint) {
+        Some((number, _)) if *number == pid.get() => hint,
+        _ => indexed_place(heads, pid),
+    }
+}
+
+/// Returns the place of the list of a process, to which the index leads, or that behind the last list.
+#[inline(never)]
+#[tactic(auto, using(crate::proofs::HeadLemmas::placed))]
+fn indexed_place(heads: &NumberIndex<ListHead>, pid: Pid) -> usize
+    ensures { slice_get heads.now.entries result ≡ option_map (λ ends. (pid, ends)) (lookup (nat_eq pid) heads.now.entries) }
+{
+    heads.get_index_of(&pid.get()).unwrap_or(heads.len())
+}
+
 /// Returns the ends of the list of a process.
-pub fn ends_of(heads: &NumberIndex<ListHead>, pid: Pid) -> ListHead
+#[inline(always)]
+pub fn ends_of(heads: &NumberIndex<ListHead>, hints: &LwpHints, pid: Pid) -> ListHead
     ensures { result ≡ ends_at heads.now.entries pid }
 {
-    match heads.get(&pid.get()) {
-        Some(ends) => *ends,
+    match heads.get_index(head_place(heads, hints, pid)) {
+        Some((_, ends)) => *ends,
         None => ListHead::empty(),
     }
 }
 
+/// Returns the same place, and notes it if the hint was another one.
+#[inline(always)]
+#[tactic(auto, using(crate::proofs::HeadLemmas::placed))]
+fn noted_place(heads: &NumberIndex<ListHead>, hints: &mut LwpHints, pid: Pid) -> usize
+    ensures { slice_get heads.now.entries result ≡ option_map (λ ends. (pid, ends)) (lookup (nat_eq pid) heads.now.entries) }
+{
+    let hint = hints.place(pid);
+    let there = match heads.get_index(hint) {
+        Some((number, _)) if *number == pid.get() => return hint,
+        Some((number, ends)) if ends.first.is_some() => Some(*number),
+        _ => None,
+    };
+    // not by `indexed_place`, so that an insertion that follows hashes no second time
+    let place = heads.get_index_of(&pid.get()).unwrap_or(heads.len());
+    hints.note_place(pid, place, there);
+    place
+}
+
 /// Adds the slot of a new row to the list of its process. Returns the slot before it, if any.
-pub fn join(heads: &mut NumberIndex<ListHead>, row: &LwpData, slot: usize) -> Option<usize>
+pub fn join(
+    heads: &mut NumberIndex<ListHead>,
+    hints: &mut LwpHints,
+    row: &LwpData,
+    slot: usize,
+) -> Option<usize>
     requires room { 0 < spare heads.old }
     requires count { (ends_at heads.old.entries row.now.pid).count < 18446744073709551615 }
     ensures before { result ≡ (ends_at heads.old.entries row.now.pid).last }
     ensures ends { (q : ℕ) → ends_at heads.new.entries q ≡ (if nat_eq row.now.pid q then extended slot (gathered (ends_at heads.old.entries q).marks row.now) (ends_at heads.old.entries q) else ends_at heads.old.entries q) }
     ensures spare { spare heads.old ≤ spare heads.new + 1 }
 {
-    if let Some(ends) = heads.get_mut(&row.pid.get()) {
+    let place = noted_place(heads, hints, row.pid);
+    if let Some(ends) = heads.get_index_mut(place) {
         let before = ends.last;
         *ends = ends.extended(slot, ends.marks.gathered(row));
         return before;
@@ -245,22 +297,24 @@ pub fn join(heads: &mut NumberIndex<ListHead>, row: &LwpData, slot: usize) -> Op
 }
 
 /// Takes a slot that had this row and links out of the list of its process.
-pub fn leave(heads: &mut NumberIndex<ListHead>, gone: &RowNode)
+pub fn leave(heads: &mut NumberIndex<ListHead>, hints: &LwpHints, gone: &RowNode)
     requires { 0 < (ends_at heads.old.entries gone.now.row.pid).count }
     ensures ends { (q : ℕ) → ends_at heads.new.entries q ≡ (if nat_eq gone.now.row.pid q then without_slot gone.now.own (left (ends_at heads.old.entries q).marks gone.now.row.tid) (ends_at heads.old.entries q) else ends_at heads.old.entries q) }
     ensures spare { spare heads.new ≡ spare heads.old }
 {
-    if let Some(ends) = heads.get_mut(&gone.row.pid.get()) {
+    let place = head_place(heads, hints, gone.row.pid);
+    if let Some(ends) = heads.get_index_mut(place) {
         *ends = ends.without(gone.own, ends.marks.left(gone.row.tid));
     }
 }
 
 /// Gives the list of a process these marks. Changes nothing if the process has no rows.
-pub fn mark(heads: &mut NumberIndex<ListHead>, pid: Pid, marks: Marks)
+pub fn mark(heads: &mut NumberIndex<ListHead>, hints: &LwpHints, pid: Pid, marks: Marks)
     ensures ends { (q : ℕ) → ends_at heads.new.entries q ≡ (if nat_eq pid q then marked marks (ends_at heads.old.entries q) else ends_at heads.old.entries q) }
     ensures spare { spare heads.new ≡ spare heads.old }
 {
-    if let Some(ends) = heads.get_mut(&pid.get()) {
+    let place = head_place(heads, hints, pid);
+    if let Some(ends) = heads.get_index_mut(place) {
         if ends.first.is_some() {
             ends.marks = marks;
         }
@@ -268,14 +322,15 @@ pub fn mark(heads: &mut NumberIndex<ListHead>, pid: Pid, marks: Marks)
 }
 
 /// Notes in the marks of its process that the row has replaced the one before. Changes nothing if neither has traits.
-pub fn note(heads: &mut NumberIndex<ListHead>, before: &LwpData, row: &LwpData)
+pub fn note(heads: &mut NumberIndex<ListHead>, hints: &LwpHints, before: &LwpData, row: &LwpData)
     ensures ends { (q : ℕ) → ends_at heads.new.entries q ≡ (if nat_eq row.now.pid q && not (is_bare (traits_of before.now) && is_bare (traits_of row.now)) then marked (noted (ends_at heads.old.entries row.now.pid).marks row.now) (ends_at heads.old.entries q) else ends_at heads.old.entries q) }
     ensures spare { spare heads.new ≡ spare heads.old }
 {
     if Traits::of(before).is_bare() && Traits::of(row).is_bare() {
         return;
     }
-    if let Some(ends) = heads.get_mut(&row.pid.get()) {
+    let place = head_place(heads, hints, row.pid);
+    if let Some(ends) = heads.get_index_mut(place) {
         if ends.first.is_some() {
             ends.marks = ends.marks.noted(row);
         }
@@ -290,7 +345,7 @@ pub fn name_waiter(
     unnamed: &mut bool,
     rows: &Slab<RowNode>,
     slots: &NumberIndex<usize>,
-    hints: &Hints,
+    hints: &LwpHints,
     row: &LwpData,
 )
     requires { (s : ℕ) (slot : RowNode) → get rows.now s ≡ Some slot → lookup (nat_eq slot.row.tid) slots.now.entries ≡ Some s }
@@ -311,7 +366,7 @@ fn await_process(
     heads: &mut NumberIndex<ListHead>,
     rows: &Slab<RowNode>,
     slots: &NumberIndex<usize>,
-    hints: &Hints,
+    hints: &LwpHints,
     child: Pid,
     row: &LwpData,
 ) -> bool
@@ -320,7 +375,8 @@ fn await_process(
     ensures alone { result ≡ true → (s : ℕ) (slot : RowNode) → get rows.now s ≡ Some slot → IsWaiter (ends_at heads.old.entries child) child slot.row → slot.row.tid ≡ row.now.tid }
     ensures spare { spare heads.new ≡ spare heads.old }
 {
-    let Some(ends) = heads.get_mut(&child.get()) else {
+    let place = head_place(heads, hints, child);
+    let Some(ends) = heads.get_index_mut(place) else {
         return false;
     };
     if let Some(other) = ends.waiter {
@@ -336,7 +392,7 @@ fn await_process(
 fn waits_for(
     rows: &Slab<RowNode>,
     slots: &NumberIndex<usize>,
-    hints: &Hints,
+    hints: &LwpHints,
     tid: Tid,
     child: Pid,
 ) -> bool

@@ -17,11 +17,11 @@ ghost use Rattle.lwp_table.specs.Marks.{Spares};
 
 use crate::LwpData;
 use crate::hasher::NumberIndex;
-use crate::hints::Hints;
 use crate::links::{
     Link, Links, ListHead, RowNode, close_up, ends_of, join, join_user, leave, leave_user, mark,
     name_waiter, next_born, node_of, note, set_link, slot_of, waits_anew,
 };
+use crate::lwp_hints::LwpHints;
 use crate::marks::{Marks, Traits};
 use crate::user_heads::UserHeads;
 use crate::walks::{OfProcess, OfUser};
@@ -38,7 +38,7 @@ use std::marker::Model;
 pub struct LwpTable {
     rows: Slab<RowNode>,
     slots: NumberIndex<usize>,
-    hints: Hints,
+    hints: LwpHints,
     heads: NumberIndex<ListHead>,
     births: usize,
     users: UserHeads,
@@ -90,7 +90,7 @@ impl LwpTable {
         Ok(LwpTable {
             rows: Slab::new(alloc),
             slots: NumberIndex::with_hasher(alloc, BuildHasherDefault::new()),
-            hints: Hints::new(alloc),
+            hints: LwpHints::new(alloc),
             heads: NumberIndex::with_hasher(alloc, BuildHasherDefault::new()),
             births: 0,
             users: UserHeads::new(alloc),
@@ -112,7 +112,7 @@ impl LwpTable {
         self.heads.reserve(count)?;
         self.users.reserve(count)?;
         let rows = self.rows.len().saturating_add(count);
-        self.hints.reserve(&self.slots, rows)
+        self.hints.reserve(&self.slots, &self.heads, rows)
     }
 
     /// Adds a row at the end. Allocates nothing.
@@ -124,7 +124,7 @@ impl LwpTable {
     {
         let slot = self.rows.vacant_key();
         let own = Links {
-            prev: join(&mut self.heads, &row, slot),
+            prev: join(&mut self.heads, &mut self.hints, &row, slot),
             next: None,
         };
         let user = Links {
@@ -140,9 +140,9 @@ impl LwpTable {
         set_link(&mut self.rows, Link::NextOwn, own.prev, Some(slot));
         set_link(&mut self.rows, Link::NextUser, user.prev, Some(slot));
         self.slots.insert(row.tid.get(), slot).unwrap();
-        let hinted = self.rows.get(self.hints.slot(row.tid.get()));
-        let there = hinted.map(|node| node.row.tid.get());
-        self.hints.note_new(row.tid.get(), slot, there);
+        let hinted = self.rows.get(self.hints.slot(row.tid));
+        let there = hinted.map(|node| node.row.tid);
+        self.hints.note_slot(row.tid, slot, there);
         self.births += 1;
         name_waiter(
             &mut self.heads,
@@ -189,7 +189,7 @@ impl LwpTable {
     {
         let slot = slot_of(&self.rows, &self.slots, &self.hints, row.tid);
         // before the row is replaced, so that neither row is copied for it
-        note(&mut self.heads, &self.rows[slot].row, &row);
+        note(&mut self.heads, &self.hints, &self.rows[slot].row, &row);
         self.rows[slot].row = row;
         name_waiter(
             &mut self.heads,
@@ -212,7 +212,7 @@ impl LwpTable {
     {
         let mut marks = Marks::none();
         let mut unnamed = self.unnamed;
-        let mut link = ends_of(&self.heads, pid).first;
+        let mut link = ends_of(&self.heads, &self.hints, pid).first;
         while let Some(at) = link {
             let slot = &mut self.rows[at];
             let row = edit(&slot.row);
@@ -222,7 +222,7 @@ impl LwpTable {
             link = slot.own.next;
         }
         self.unnamed = unnamed;
-        mark(&mut self.heads, pid, marks);
+        mark(&mut self.heads, &self.hints, pid, marks);
     }
 
     /// Changes the row with this number in its place, if it's a row of this process.
@@ -256,7 +256,7 @@ impl LwpTable {
         ensures rows { (change : LwpData → LwpData) → ComputesRows (FnReturnsAt F.Fn edit) self.old.rows change → Spares touched.now change → self.new.rows ≡ map (own_lwp pid change) self.old.rows }
         ensures spare { self.new.spare ≡ self.old.spare }
     {
-        let marks = ends_of(&self.heads, pid).marks;
+        let marks = ends_of(&self.heads, &self.hints, pid).marks;
         if marks.all.meets(touched) {
             self.edit_of(pid, edit);
         } else if marks.own.meets(touched) {
@@ -278,7 +278,7 @@ impl LwpTable {
     {
         if self.unnamed {
             self.edit_of(pid, edit);
-        } else if let Some(tid) = ends_of(&self.heads, child).waiter {
+        } else if let Some(tid) = ends_of(&self.heads, &self.hints, child).waiter {
             self.edit_one(pid, tid, &edit);
         }
     }
@@ -291,7 +291,7 @@ impl LwpTable {
     {
         let slot = slot_of(&self.rows, &self.slots, &self.hints, tid);
         let gone = self.rows.remove(slot);
-        leave(&mut self.heads, &gone);
+        leave(&mut self.heads, &self.hints, &gone);
         leave_user(&mut self.users, &gone);
         close_up(&mut self.rows, &gone);
     }
@@ -314,7 +314,7 @@ impl LwpTable {
         ensures row { result ≡ first_lwp pid self.now.rows }
         ensures differ { Differ self.now.rows }
     {
-        let slot = ends_of(&self.heads, pid).first?;
+        let slot = ends_of(&self.heads, &self.hints, pid).first?;
         Some(self.rows[slot].row)
     }
 
@@ -340,7 +340,7 @@ impl LwpTable {
             slots: &self.slots,
             births: self.births,
             pid,
-            link: ends_of(&self.heads, pid).first,
+            link: ends_of(&self.heads, &self.hints, pid).first,
         }
     }
 
@@ -365,7 +365,7 @@ impl LwpTable {
         ensures count { result ≡ count_by (λ l. l.pid == pid) self.now.rows }
         ensures differ { Differ self.now.rows }
     {
-        ends_of(&self.heads, pid).count
+        ends_of(&self.heads, &self.hints, pid).count
     }
 
     /// Returns the number of rows whose numbers are this user's.

@@ -1,0 +1,31 @@
+use Rattle.lwp_table.proofs.CommonNames.{arith, marked, noted, ends_at, nat_tests, refl, Some, ◌≡◌}
+use Rattle.lwp_table.proofs.HeadLemmas.{had, changed, unchanged}
+use Rattle.lwp_table.proofs.links.note.Goals as goal
+
+pub returns-then-is_some-clause-ends : goal.returns-then-is_some-clause-ends
+returns-then-is_some-clause-ends c q =
+    let row = c.args.row.now in
+    let ends = c.in-Some.ends.now in
+    let place = c.head_place-place in
+    let put = marked (noted (ends_at c.args.heads.now.entries row.pid).marks row) in
+    let was = had c.args.heads.now place.result row.pid place.ensures (Some ends) c.in-Some.ensures.value in
+    let made : record ends { marks = c.noted-ends.result } ≡ put ends = grind (arith, was, c.noted-ends.ensures, c.is_some.ensures, c.if-is_some.true) in
+    let after = changed c.args.heads.now place.result row.pid place.ensures c.in-Some.ensures.unique put ends (record ends { marks = c.noted-ends.result }) c.in-Some.ensures.value made q in
+    grind (arith, nat_tests, after, c.else-is_bare.branch, c.is_bare.ensures, c.of.ensures)
+
+pub returns-else-is_some-clause-ends : goal.returns-else-is_some-clause-ends
+returns-else-is_some-clause-ends c q =
+    let row = c.args.row.now in
+    let ends = c.in-Some.ends.now in
+    let place = c.head_place-place in
+    let put = marked (noted (ends_at c.args.heads.now.entries row.pid).marks row) in
+    let after = changed c.args.heads.now place.result row.pid place.ensures c.in-Some.ensures.unique put ends ends c.in-Some.ensures.value (grind (arith, c.is_some.ensures, c.if-is_some.false)) q in
+    grind (arith, nat_tests, after, c.else-is_bare.branch, c.is_bare.ensures, c.of.ensures)
+
+pub returns-in_default-clause-ends : goal.returns-in_default-clause-ends
+returns-in_default-clause-ends c q =
+    let row = c.args.row.now in
+    let place = c.head_place-place in
+    let put = marked (noted (ends_at c.args.heads.now.entries row.pid).marks row) in
+    let after = unchanged c.args.heads.now place.result row.pid place.ensures c.in_default.ensures.value put refl q in
+    grind (arith, nat_tests, after, c.else-is_bare.branch, c.is_bare.ensures, c.of.ensures)
