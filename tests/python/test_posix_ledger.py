@@ -186,6 +186,16 @@ def test_another_search_is_refused(posix: Posix, whole: Whole, name: str, words:
     assert whole.ledger.read_bytes() == whole.text
 
 
+@pytest.mark.parametrize("name", ["model", "broker"])
+def test_another_model_or_broker_is_refused(posix: Posix, whole: Whole, tmp_path: Path, name: str) -> None:
+    head = json.loads(whole.lines[0])
+    other = whole.text.replace(head[name].encode(), b"0" * 16, 1)
+    (tmp_path / "ledger").write_bytes(other)
+    done = posix.run(*whole.words(tmp_path / "ledger"))
+    assert done.returncode == 2 and f'it is of another search: {name} is "{"0" * 16}" there, and ' in done.stderr, done.stderr
+    assert (tmp_path / "ledger").read_bytes() == other
+
+
 def test_another_program_is_refused(posix: Posix, whole: Whole) -> None:
     done = posix.run(*SEARCH, "--ledger", whole.ledger, posix.remedy("stale_lwp"))
     assert done.returncode == 2 and "it is of another search: program is " in done.stderr, done.stderr

@@ -18,6 +18,10 @@ from checking import run
 from dask_cluster import Cluster, cluster, needs_dask
 from posix_kit import POSIX, RUN, Posix
 
+sys.path[:0] = [str(POSIX), str(POSIX.parent / "python")]
+
+from tracehost_posix import farm  # noqa: E402
+
 __all__ = ["cluster"]  # a fixture
 pytestmark = needs_dask
 
@@ -46,6 +50,38 @@ def test_workers_come_to_what_one_job_does(posix: Posix, cluster: Cluster, tmp_p
     assert (again.returncode, again.stdout, again.stderr) == (1, first.stdout, first.stderr)
     passed = posix.run("--workers", cluster.address, "--schedules", 1500, posix.remedy("stale_lwp"))
     assert passed.returncode == 0 and "1501 schedules passed" in passed.stderr, passed.stderr
+
+
+class Client:
+    """Stands for Dask's, and for a call that it was given: each is answered as soon as somebody waits for it."""
+
+    out = most = 0
+
+    def submit(self, function: object, share: int, pure: bool, priority: int) -> Client:
+        assert priority == -share, "Dask makes it before the next one, also if its worker has died"
+        self.out += 1
+        self.most = max(self.most, self.out)
+        return self
+
+    def result(self) -> None:
+        self.out -= 1
+
+    def cancel(self, futures: list[Client]) -> None:
+        self.out -= len(futures)
+
+
+def test_400_cores_have_work_and_few_shares_wait_for_the_first() -> None:
+    """Two shares a core are given out. If the first share is the last that counts, those after it are cancelled."""
+    made, client = object.__new__(farm.Farm), Client()
+    made._client = client
+    answers = made.answers(iter(range(5000)), lambda share: (print, share), farm.AHEAD)
+    assert [share for share, _ in answers] == list(range(5000))
+    assert client.out == 0 and 800 <= client.most == farm.AHEAD
+    made._client = client = Client()
+    answers = made.answers(iter(range(5000)), lambda share: (print, share), farm.AHEAD)
+    assert next(answers) == (0, None) and client.most == farm.FIRST
+    del answers  # ends it
+    assert client.out == 0
 
 
 def test_dask_logs_nothing(cluster: Cluster, monkeypatch: pytest.MonkeyPatch) -> None:

@@ -21,8 +21,8 @@ from .setting import Broken, Refused
 DIFFERENT, BROKEN = 1, 3
 BLOCK = 2000
 """Rows that a process runs."""
-SHARE, SHARE_BYTES = 5000, 16 << 20
-"""What a worker is given at a time: at least 0.3 seconds of work."""
+SHARE, SHARE_BYTES, AHEAD = 5000, 16 << 20, 64
+"""What a worker is given at a time: at least 0.3 seconds of work. And how many are given out at a time: at most 1 GB."""
 
 
 class File(NamedTuple):
@@ -204,7 +204,7 @@ class There:
 
         shares = (share for block in blocks(files, SHARE) for share in _read(block, corpus))
         try:
-            for share, (worker, fault, there, said) in self._farm.answers(shares, self._call):
+            for share, (worker, fault, there, said) in self._farm.answers(shares, self._call, AHEAD):
                 if fault:
                     raise Broken(f"--workers: {worker}: {fault}")
                 if said is None:

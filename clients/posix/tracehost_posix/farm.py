@@ -15,6 +15,7 @@ import site
 import sys
 from collections import deque
 from collections.abc import Callable, Iterator, Sequence
+from itertools import islice
 from typing import Any, NamedTuple, NoReturn, TypeVar
 
 from .ledger import BLOCK, Block, block_of
@@ -23,8 +24,10 @@ from .setting import Broken, Refused
 _Share = TypeVar("_Share")
 SHARE = 4 * BLOCK
 """Seeds that a worker is given at a time: at least a second of work."""
-AHEAD = 64
-"""So many shares are given out beyond one that isn't answered yet."""
+AHEAD = 1024
+"""So many shares are given out at a time: two for each of 400 cores, and more."""
+FIRST = 64
+"""So many before the first is answered, since with a failure in it the others are in vain."""
 
 
 class Order(NamedTuple):
@@ -109,13 +112,19 @@ class Farm:
         """Sends it to the workers, once to each: what a call is given for it."""
         return self._client.scatter(data, hash=True)
 
-    def answers(self, shares: Iterator[_Share], words: Callable[[_Share], Sequence[Any]]) -> Iterator[tuple[_Share, Any]]:
-        """Each share with its answer, in their order: that of a call, a function and what it is given."""
+    def answers(
+        self, shares: Iterator[_Share], words: Callable[[_Share], Sequence[Any]], ahead: int
+    ) -> Iterator[tuple[_Share, Any]]:
+        """Each share with its answer, in their order: that of a call, a function and what it is given.
+
+        So many are given out at a time, and at first `FIRST`. A share of a worker that has died is made before later ones.
+        """
         waiting: deque[tuple[_Share, Any]] = deque()
+        numbered = enumerate(shares)
         try:
             while True:
-                while len(waiting) < AHEAD and (share := next(shares, None)) is not None:
-                    waiting.append((share, self._client.submit(*words(share), pure=False)))
+                for place, share in islice(numbered, min(FIRST, ahead - len(waiting))):
+                    waiting.append((share, self._client.submit(*words(share), pure=False, priority=-place)))
                 if not waiting:
                     return
                 share, future = waiting.popleft()
@@ -145,7 +154,7 @@ def blocks(farm: Farm, order: Order, seeds: range) -> Iterator[Block]:
         chosen = ["--seeds", f"{share.start}..{share.stop - 1}"] if share.start else ["--schedules", str(share.stop - 1)]
         return run_share, program, name, [*chosen, *order.options], list(order.arguments)
 
-    for share, said in farm.answers(_shares(seeds), words):
+    for share, said in farm.answers(_shares(seeds), words, AHEAD):
         yield from _answer(order, share, Said(*said))
 
 
