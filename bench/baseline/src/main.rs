@@ -1,7 +1,8 @@
 //! The yardstick of the benchmarks: the tracing machine as a fast program by hand, without contracts.
 //!
 //! It reads scenarios that are accepted, and prints the same lines as `tracehost FILE`. Of one that is refused it only
-//! says so: whoever measures compares the work, and not the words of faults.
+//! says so: whoever measures compares the work, and not the words of faults. A key that comes twice is refused too if its
+//! first value is wrong, though only the last one counts.
 
 mod ends;
 mod names;
