@@ -1,8 +1,8 @@
 """A run takes little memory: on the scenarios of bench/scenarios.py, of nearly 4 MiB, and on texts of bench/hostile.py.
 
-A run of a scenario has at most 4 times the bytes of its scenario, and of the lines that it is compared with; if it prints
-more than its scenario, as with lists of many processes, also 2 times what it prints, since none is written before all are
-known. A hostile text, refused or not, has at most 4 times its bytes.
+A run of a scenario has at most 4 times the bytes of its scenario. If its lines are more than twice as long, as with lists of
+many processes, it has also 2 times what it prints, since none is written before all are known, and 4 times the lines that it
+is compared with. A hostile text, refused or not, has at most 4 times its bytes.
 """
 
 from __future__ import annotations
@@ -24,6 +24,7 @@ LOADS = {
     "fork, exit and wait": scenarios.of_one(scenarios.forks_and_exits),
     "attach, wait and detach": scenarios.of_one(scenarios.attach_cycles),
     "chains of debuggers": scenarios.of_one(scenarios.chains_that_end),
+    "system calls that are handled": scenarios.of_one(scenarios.handled_calls),
     "threads": scenarios.of_one(scenarios.threads),
     "refusals": scenarios.refusals,
     "lists of 64 users": scenarios.spawns_and_lists,
@@ -70,7 +71,7 @@ def test_a_scenario(peak_of: Path, program: Path, load: Load, mode: str) -> None
     print(f"{load.steps} steps, {size} bytes, {printed} printed, at most {peak} in memory, {peak / size:.2f} times")
     compared = lines if mode == "--expect" else 0
     assert status == 0
-    assert peak <= TIMES * (size + compared) + 2 * (printed if printed > size else 0)
+    assert peak <= TIMES * size + (2 * printed + TIMES * compared if lines > 2 * size else 0)
 
 
 @needs("cc")
