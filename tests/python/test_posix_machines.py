@@ -190,7 +190,9 @@ def test_workers_are_busy(posix: Posix, machines: Machines, tmp_path: Path) -> N
         assert search.returncode == 0, errors
         times = [times_of(tmp_path, name) for name in ("one", "other")]
         assert sum(map(len, times)) == 2 * 6 * SCALE and all(len(of_one) >= 4 for of_one in times)
-        assert all(busy(of_one) > 0.9 for of_one in times), [busy(of_one) for of_one in times]
+        parts = [busy(of_one) for of_one in times]
+        print(f"busy for {', '.join(f'{part:.3f}' for part in parts)} of the time")
+        assert min(parts) > 0.9, parts
     finally:
         remote.cluster.end()
 

@@ -184,12 +184,14 @@ fn states(session: &Session) -> [Vec<u32>; 2] {
     })
 }
 
-/// Steps of two users at random states in both orders: the same answers, and the same states of both.
-fn commute(pairs: usize) {
+/// A million pairs of steps of two users at random states in both orders: the same answers, and the same states of both.
+#[test]
+fn steps_of_two_users_commute() {
+    const PAIRS: usize = 1_000_000;
     let mut random = Random(0x5eed);
     let mut session = Session::new().expect("memory");
     let mut changed = 0;
-    for pair in 0..pairs {
+    for pair in 0..PAIRS {
         if pair % 100 == 0 {
             session = Session::new().expect("memory");
             for user in [1001, 1002, 1001, 1002] {
@@ -207,20 +209,6 @@ fn commute(pairs: usize) {
         assert_eq!(after, states(&other), "{steps:?}");
         changed += usize::from(after[0] != before[0] && after[1] != before[1]);
     }
-    assert!(
-        changed > pairs / 20,
-        "{changed} of {pairs} pairs have changed both states"
-    );
-}
-
-#[test]
-fn steps_of_two_users_commute() {
-    commute(10_000);
-}
-
-/// A minute.
-#[test]
-#[ignore = "a minute"]
-fn a_million_steps_of_two_users_commute() {
-    commute(1_000_000);
+    println!("{changed} of {PAIRS} pairs have changed both states");
+    assert!(changed > PAIRS / 20);
 }
