@@ -12,6 +12,7 @@ pub mod KeptLemmas
 pub mod EditLemmas
 pub mod WalkLemmas
 pub mod CloneLemmas
+pub mod CopyLemmas
 pub mod BirthLemmas
 pub mod NamedLemmas
 pub mod HeadLemmas

@@ -1,5 +1,6 @@
 //! Where rows are likely to be, so that most look-ups need no hash.
 
+use crate::copies::copy_items_into;
 use crate::hasher::NumberIndex;
 use std::alloc::{AllocError, Global};
 
@@ -26,6 +27,14 @@ impl Hints {
         Hints {
             slots: Vec::new(alloc),
         }
+    }
+
+    /// Returns the same hints, in the memory of old ones. Fails when out of memory.
+    #[inline(always)]
+    pub fn copy_into(&self, old: Hints) -> Result<Hints, AllocError> {
+        Ok(Hints {
+            slots: copy_items_into(&self.slots, old.slots)?,
+        })
     }
 
     /// Returns the slot that was noted for the number, or another one.

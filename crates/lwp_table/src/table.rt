@@ -16,6 +16,7 @@ ghost use Rattle.lwp_table.specs.Lwps.{lwp_of, lwps_of, first_lwp, next_lwp, has
 ghost use Rattle.lwp_table.specs.Marks.{Spares};
 
 use crate::LwpData;
+use crate::copies::{copy_index_into, copy_slots_into};
 use crate::hasher::NumberIndex;
 use crate::links::{
     Link, Links, ListHead, RowNode, close_up, ends_of, join, join_user, leave, leave_user, mark,
@@ -95,6 +96,22 @@ impl LwpTable {
             births: 0,
             users: UserHeads::new(alloc),
             unnamed: false,
+        })
+    }
+
+    /// Returns a table of the same rows, in the memory of an old one. Fails when out of memory.
+    #[inline(always)]
+    pub fn copy_into(&self, old: LwpTable) -> Result<LwpTable, AllocError>
+        ensures { IfOk result (λ copy. copy.rows ≡ self.now.rows) }
+    {
+        Ok(LwpTable {
+            rows: copy_slots_into(&self.rows, old.rows)?,
+            slots: copy_index_into(&self.slots, old.slots)?,
+            hints: self.hints.copy_into(old.hints)?,
+            heads: copy_index_into(&self.heads, old.heads)?,
+            births: self.births,
+            users: self.users.copy_into(old.users)?,
+            unnamed: self.unnamed,
         })
     }
 
