@@ -2,15 +2,20 @@
 use Rattle.lwp_table.proofs.CommonNames.{◌≡◌, ◌≢◌, ℕ, ◌⊎◌, ◌≤◌, ◌||◌, Bool, false, List, [], ◌∷◌, ◌++◌, Some, None, refl, sym, ap, subst, ◌∙◌, arith, inl, inr, cond, nat_eq, cases_eq, nat_tests, same_Some, Slab, get, length, Option, slice_index_or, IsSlotClone, IsSlabClone}
 use Rattle.lwp_table.proofs.IndexLemmas.{option_same}
 use Rattle.std.proofs.lemmas.List.Elements.{same_from_all_zip}
-use Rattle.std.proofs.Common.{Contains, append_assoc, Result, Ok, Err, IfOk}
-use Rattle.std.specs.Result.{MatchResult}
-use Rattle.std.proofs.lemmas.List.{get_or_past}
+use Rattle.std.proofs.Common.{Contains, append_assoc, Result, Ok, Err, OnOk, true, take, slice_get, ◌+◌, zero, suc, length-append, add-one}
+use Rattle.std.specs.Result.{is_ok}
+use Rattle.std.proofs.lemmas.List.{get_or_past, take_all, append-nil, length-take-le}
 use Rattle.std.proofs.lemmas.Map.Keys.{IsDistinct-head, IsDistinct-tail}
 use Rattle.std.specs.List.{IsDistinct, AllByRecursion}
 use Rattle.std.specs.Map.{keys_of}
-use Rattle.indexmap.specs.IndexMap.{insert_entry}
+use Rattle.indexmap.specs.IndexMap.{insert_entry, set_value_at}
 use Rattle.slab.proofs.SlabLemmas.{Contains-cons, Contains-cons_cases}
 use Rattle.slab.specs.Slab.{Updates}
+
+-- what a call ensures if it succeeds, once it has
+pub from-ok : {X E P : Type 0} (r : Result X E) → true ≡ is_ok r → OnOk r P → P
+from-ok (Ok x) is h = h
+from-ok (Err e) is h = absurd (cc)
 
 module _ {V : Type 0} (k : ℕ) (v : V) (rest : List (ℕ × V)) where
   apart : (n : ℕ) (done : List (ℕ × V)) → AllByRecursion (λ y. nat_eq n y ≡ false) (keys_of (done ++ (k, v) ∷ rest)) → nat_eq k n ≡ false
@@ -24,11 +29,39 @@ module _ {V : Type 0} (k : ℕ) (v : V) (rest : List (ℕ × V)) where
       ap (λ b. cond b ((e.0, v) ∷ es) (e ∷ insert_entry nat_eq es k v)) (apart e.0 es (IsDistinct-head nat_eq e.0 _ distinct))
       ∙ ap (λ l. e ∷ l) (goes_last es (IsDistinct-tail nat_eq e.0 _ distinct))
 
-  -- the next entry is copied
-  pub entry-copied : (all done left new : List (ℕ × V)) → IsDistinct nat_eq (keys_of all) → done ++ left ≡ all → left ≡ (k, v) ∷ rest → new ≡ insert_entry nat_eq done k v → new ++ rest ≡ all
-  entry-copied all done left new distinct whole next inserted =
-      let split : done ++ (k, v) ∷ rest ≡ all = ap (λ l. done ++ l) (sym next) ∙ whole in
-      ap (λ l. l ++ rest) (inserted ∙ goes_last done (subst (λ es. IsDistinct nat_eq (keys_of es)) (sym split) distinct)) ∙ append_assoc done ((k, v) ∷ []) rest ∙ split
+  module _ (all now : List (ℕ × V)) (at : ℕ) (left : List (ℕ × V)) (whole : take at now ++ left ≡ all) (next : left ≡ (k, v) ∷ rest) where
+    split : take at now ++ (k, v) ∷ rest ≡ all
+    split = ap (λ l. take at now ++ l) (sym next) ∙ whole
+
+    -- the next entry got its value
+    pub entry-put : (new : List (ℕ × V)) → take (at + 1) new ≡ take at now ++ (k, v) ∷ [] → take (at + 1) new ++ rest ≡ all
+    entry-put new put = ap (λ l. l ++ rest) put ∙ append_assoc (take at now) ((k, v) ∷ []) rest ∙ split
+
+    -- the next entry was added behind those before it
+    module _ (distinct : IsDistinct nat_eq (keys_of all)) (within : at ≤ length now) (new : List (ℕ × V)) (inserted : new ≡ insert_entry nat_eq (take at now) k v) where
+      added : new ≡ take at now ++ (k, v) ∷ []
+      added = inserted ∙ goes_last (take at now) (subst (λ es. IsDistinct nat_eq (keys_of es)) (sym split) distinct)
+
+      pub length-added : length new ≡ at + 1
+      length-added = ap length added ∙ length-append (take at now) ((k, v) ∷ []) ∙ ap (λ n. n + 1) (length-take-le at now within)
+
+      pub entry-added : take (at + 1) new ++ rest ≡ all
+      entry-added = entry-put new (take_all (at + 1) new (omega (arith, length-added)) ∙ added)
+
+-- all entries are copied, and none is behind them
+pub entries-copied : {V : Type 0} (all now left : List (ℕ × V)) (at : ℕ) → take at now ++ left ≡ all → left ≡ [] → length now ≤ at + length left → now ≡ all
+entries-copied all now left at whole end short =
+    let at_end : length now ≤ at = omega (arith, short, ap length end) in
+    sym (take_all at now at_end) ∙ sym (append-nil (take at now)) ∙ ap (λ l. take at now ++ l) (sym end) ∙ whole
+
+value-put-suc : {V : Type 0} (es : List (ℕ × V)) (at k : ℕ) (was v : V) → slice_get es at ≡ Some (k, was) → take (suc at) (set_value_at es at v) ≡ take at es ++ (k, v) ∷ []
+value-put-suc [] at k was v found = absurd (cc)
+value-put-suc (e ∷ es) zero k was v found = ap (λ p. (p.0, v) ∷ []) (same_Some e (k, was) found)
+value-put-suc (e ∷ es) (suc at) k was v found = ap (λ l. e ∷ l) (value-put-suc es at k was v found)
+
+-- a value replaces another one at its place
+pub value-put : {V : Type 0} (es : List (ℕ × V)) (at k : ℕ) (was v : V) → slice_get es at ≡ Some (k, was) → take (at + 1) (set_value_at es at v) ≡ take at es ++ (k, v) ∷ []
+value-put es at k was v found = ap (λ n. take n (set_value_at es at v)) (add-one at) ∙ value-put-suc es at k was v found
 
 module _ {T : Type 0} where
   -- a value stays if another key, a vacant one, gets one
@@ -99,10 +132,6 @@ module _ {T : Type 0} where
       slot_same None copied h = h
       slot_same (Some value) None h = absurd (grind (arith, nat_tests))
       slot_same (Some value) (Some copied) h = ap Some (same value copied h)
-
-  pub cloned-if : {E : Type 0} (is_clone : T → T → Type 0) (source : Slab T) (fails : E → Type 0) → ((value copied : T) → is_clone value copied → copied ≡ value) → (r : Result (Slab T) E) → MatchResult r (IsSlabClone is_clone source) fails → IfOk r (λ copy. (k : ℕ) → get copy k ≡ get source k)
-  cloned-if is_clone source fails same (Ok copy) h = cloned is_clone source copy same h
-  cloned-if is_clone source fails same (Err e) h = tt
 
   -- slabs of the same values are looked up alike
   pub get-same : (source copy : Slab T) → ((k : ℕ) → get copy k ≡ get source k) → get copy ≡ get source

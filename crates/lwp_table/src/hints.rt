@@ -1,6 +1,6 @@
 //! Where rows are likely to be, so that most look-ups need no hash.
 
-use crate::copies::copy_items_into;
+use crate::copies::copy_items;
 use crate::hasher::NumberIndex;
 use std::alloc::{AllocError, Global};
 
@@ -29,12 +29,10 @@ impl Hints {
         }
     }
 
-    /// Returns the same hints, in the memory of old ones. Fails when out of memory.
+    /// Makes the hints those of the source. Fails when out of memory.
     #[inline(always)]
-    pub fn copy_into(&self, old: Hints) -> Result<Hints, AllocError> {
-        Ok(Hints {
-            slots: copy_items_into(&self.slots, old.slots)?,
-        })
+    pub fn copy_from(&mut self, source: &Hints) -> Result<(), AllocError> {
+        copy_items(&mut self.slots, &source.slots)
     }
 
     /// Returns the slot that was noted for the number, or another one.

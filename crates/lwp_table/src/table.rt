@@ -9,14 +9,14 @@
 //! with another row or none, which a look-up sees, and `heads` to the ends of an empty list. So an index has at most an
 //! entry for each number that a row has had.
 
-ghost use Rattle.std.specs.Prelude.{◌≡◌, ◌==◌, ◌+◌, ◌<◌, ◌≤◌, ◌++◌, [], ◌∷◌, false, IsSome, IsSomeAnd, OnOk, IfOk, count_by, filter, map, option_map, slice_get, if◌then◌else◌};
+ghost use Rattle.std.specs.Prelude.{◌≡◌, ◌==◌, ◌+◌, ◌<◌, ◌≤◌, ◌++◌, [], ◌∷◌, false, IsSome, IsSomeAnd, OnOk, OnErr, IfOk, count_by, filter, map, option_map, slice_get, if◌then◌else◌};
 ghost use Rattle.pid_blocks.specs.Blocks.{tid_owner};
 ghost use Rattle.std.specs.Fn.{FnReturnsAt};
 ghost use Rattle.lwp_table.specs.Lwps.{lwp_of, lwps_of, first_lwp, next_lwp, has_lwp, with_lwp, without_lwp, own_lwp, KeepsNumbers, ComputesRows, SparesOthers, Differ};
 ghost use Rattle.lwp_table.specs.Marks.{Spares};
 
 use crate::LwpData;
-use crate::copies::{copy_index_into, copy_slots_into};
+use crate::copies::{copy_entries, copy_values};
 use crate::hasher::NumberIndex;
 use crate::links::{
     Link, Links, ListHead, RowNode, close_up, ends_of, join, join_user, leave, leave_user, mark,
@@ -84,11 +84,11 @@ impl Clone for LwpTable {
 
 #[tactic(auto, using(crate::proofs::KeptLemmas::differ_seen))]
 impl LwpTable {
-    /// Returns an empty table. Fails when out of memory.
-    pub fn new(alloc: Global) -> Result<LwpTable, AllocError>
-        ensures { IfOk result (λ table. table.rows ≡ []) }
+    /// Returns an empty table.
+    pub fn empty(alloc: Global) -> LwpTable
+        ensures { result.rows ≡ [] }
     {
-        Ok(LwpTable {
+        LwpTable {
             rows: Slab::new(alloc),
             slots: NumberIndex::with_hasher(alloc, BuildHasherDefault::new()),
             hints: LwpHints::new(alloc),
@@ -96,23 +96,35 @@ impl LwpTable {
             births: 0,
             users: UserHeads::new(alloc),
             unnamed: false,
-        })
+        }
     }
 
-    /// Returns a table of the same rows, in the memory of an old one. Fails when out of memory.
-    #[inline(always)]
-    pub fn copy_into(&self, old: LwpTable) -> Result<LwpTable, AllocError>
-        ensures { IfOk result (λ copy. copy.rows ≡ self.now.rows) }
+    /// Returns an empty table. Fails when out of memory.
+    pub fn new(alloc: Global) -> Result<LwpTable, AllocError>
+        ensures { IfOk result (λ table. table.rows ≡ []) }
     {
-        Ok(LwpTable {
-            rows: copy_slots_into(&self.rows, old.rows)?,
-            slots: copy_index_into(&self.slots, old.slots)?,
-            hints: self.hints.copy_into(old.hints)?,
-            heads: copy_index_into(&self.heads, old.heads)?,
-            births: self.births,
-            users: self.users.copy_into(old.users)?,
-            unnamed: self.unnamed,
-        })
+        Ok(LwpTable::empty(alloc))
+    }
+
+    /// Makes the rows those of the source, in the table's own memory as far as it goes. Fails when out of memory, and
+    /// then the table is empty.
+    #[inline(always)]
+    pub fn copy_from(&mut self, alloc: Global, source: &LwpTable) -> Result<(), AllocError>
+        ensures copied { OnOk result (self.new.rows ≡ source.now.rows) }
+        ensures emptied { OnErr result (self.new.rows ≡ []) }
+    {
+        if copy_values(&mut self.rows, &source.rows).is_ok()
+            && copy_entries(&mut self.slots, &source.slots).is_ok()
+            && self.hints.copy_from(&source.hints).is_ok()
+            && copy_entries(&mut self.heads, &source.heads).is_ok()
+            && self.users.copy_from(&source.users).is_ok()
+        {
+            self.births = source.births;
+            self.unnamed = source.unnamed;
+            return Ok(());
+        }
+        *self = LwpTable::empty(alloc);
+        Err(AllocError)
     }
 
     /// Makes room for `count` more rows. Fails when out of memory, and then leaves the rows unchanged.

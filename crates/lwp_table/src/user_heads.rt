@@ -1,9 +1,9 @@
 //! The ends of the users' lists. A list takes memory once its user has had a row.
 
-ghost use Rattle.std.specs.Prelude.{◌≡◌, ◌<◌, ◌≤◌, ◌+◌, get_or, set, replicate, IfOk, OnOk};
+ghost use Rattle.std.specs.Prelude.{◌≡◌, ◌<◌, ◌≤◌, ◌+◌, get_or, set, replicate, OnOk};
 ghost use Rattle.lwp_table.specs.Kept.{empty_head};
 
-use crate::copies::copy_items_into;
+use crate::copies::copy_items;
 use crate::links::ListHead;
 use std::alloc::{AllocError, Global};
 use std::marker::Model;
@@ -60,15 +60,16 @@ impl UserHeads {
         }
     }
 
-    /// Returns the same ends, in the memory of old ones. Fails when out of memory.
+    /// Makes the ends those of the source. Fails when out of memory.
     #[inline(always)]
-    pub fn copy_into(&self, old: UserHeads) -> Result<UserHeads, AllocError>
-        ensures { IfOk result (λ copy. copy.items ≡ self.now.items) }
+    #[tactic(auto, using(crate::proofs::PlaceLemmas::none_placed))]
+    pub fn copy_from(&mut self, source: &UserHeads) -> Result<(), AllocError>
+        ensures { OnOk result (self.new.items ≡ source.now.items) }
     {
-        Ok(UserHeads {
-            indices: self.indices,
-            heads: copy_items_into(&self.heads, old.heads)?,
-        })
+        self.indices = [NONE; USERS];
+        copy_items(&mut self.heads, &source.heads)?;
+        self.indices = source.indices;
+        Ok(())
     }
 
     /// Makes room for the lists of `count` more users, or of all users if they are fewer.

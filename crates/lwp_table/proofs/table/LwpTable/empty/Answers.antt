@@ -1,7 +1,7 @@
 use Rattle.lwp_table.proofs.CommonNames.{None, ℕ, ◌≡◌, ap, sym, subst, LwpTableInvariant, covering, slice_index_or}
 use Rattle.slab.specs.Slab.{get as slot_get}
 use Rattle.lwp_table.proofs.KeptLemmas.{LwpTableInvariant-none}
-use Rattle.lwp_table.proofs.table.LwpTable.new.Goals as goal
+use Rattle.lwp_table.proofs.table.LwpTable.empty.Goals as goal
 
 pub invariant_of-result : goal.invariant_of-result
 invariant_of-result c =
