@@ -1,7 +1,7 @@
 //! Copies over older collections, in their memory.
 
-ghost use Rattle.std.specs.Prelude.{◌≡◌, ℕ, ◌+◌, ◌<◌, ◌++◌, ◌∷◌, [], Some, true, false, length, take, IfOk, OnOk, OnErr};
-ghost use Rattle.slab.specs.Slab.{get};
+ghost use Rattle.std.specs.Prelude.{◌≡◌, ℕ, ◌+◌, ◌<◌, ◌++◌, ◌∷◌, [], Some, None, true, false, length, take, OnOk, OnErr};
+ghost use Rattle.slab.specs.Slab.{get, Updates};
 
 use crate::hasher::NumberIndex;
 use slab::Slab;
@@ -61,45 +61,68 @@ pub fn copy_values<T: Copy + Drop>(slots: &mut Slab<T>, source: &Slab<T>) -> Res
     requires { (value copied : T) → T.is_clone value copied → copied ≡ value }
     ensures { OnOk result ((key : ℕ) → get slots.new key ≡ get source.now key) }
 {
-    slots.clear();
-    slots.reserve(source.len())?;
-    let mut is_filled = false;
+    drop_others(slots, source);
     for (key, value) in source.iter() {
-        is_filled |= fill(slots, key, value)?;
-        if slots.insert(*value)? != key {
-            *slots = source.clone()?;
-            return Ok(());
+        if !replace_value(slots, key, value) && slots.insert(*value)? != key {
+            return copy_anew(slots, source);
         }
-    }
-    if is_filled {
-        drop_others(slots, source);
     }
     Ok(())
 }
 
-/// Gives the vacant keys below this one that come next the value. Returns whether there were any. A slab gives out its
-/// keys one by one, so a key after vacant ones is reached only then.
-#[inline(always)]
-fn fill<T: Copy + Drop>(slots: &mut Slab<T>, key: usize, value: &T) -> Result<bool, AllocError>
-    ensures kept { (k : ℕ) (v : T) → get slots.old k ≡ Some v → get slots.new k ≡ Some v }
-    ensures none { IfOk result (λ is_filled. is_filled ≡ false → slots.new ≡ slots.old) }
-{
-    let first = slots.vacant_key();
-    for _ in first..key {
-        slots.insert(*value)?;
-    }
-    Ok(first < key)
-}
-
 /// Removes the values at keys that have none in the source.
-#[inline(never)]
+#[inline(always)]
 fn drop_others<T: Copy + Drop>(slots: &mut Slab<T>, source: &Slab<T>)
-    requires { (k : ℕ) (v : T) → get source.now k ≡ Some v → get slots.old k ≡ Some v }
-    ensures { (k : ℕ) → get slots.new k ≡ get source.now k }
+    ensures kept { (k : ℕ) (v : T) → get source.now k ≡ Some v → get slots.new k ≡ get slots.old k }
+    ensures gone { (k : ℕ) → get source.now k ≡ None → get slots.new k ≡ None }
 {
     for key in 0..slots.capacity() {
         if !source.contains(key) {
             slots.try_remove(key);
         }
     }
+}
+
+/// Replaces the value at the key, if it has one. Returns whether it has.
+#[inline(always)]
+fn replace_value<T: Copy + Drop>(slots: &mut Slab<T>, key: usize, value: &T) -> bool
+    ensures replaced { result ≡ true → Updates slots.old slots.new key (Some value.now) }
+    ensures unchanged { result ≡ false → slots.new ≡ slots.old }
+{
+    match slots.get_mut(key) {
+        Some(place) => {
+            *place = *value;
+            true
+        }
+        None => false,
+    }
+}
+
+/// Does as `copy_values` in the order of the keys, once the slab gives out its vacant keys in another one.
+#[inline(never)]
+fn copy_anew<T: Copy + Drop>(slots: &mut Slab<T>, source: &Slab<T>) -> Result<(), AllocError>
+    requires { (value copied : T) → T.is_clone value copied → copied ≡ value }
+    ensures { OnOk result ((key : ℕ) → get slots.new key ≡ get source.now key) }
+{
+    slots.clear();
+    for (key, value) in source.iter() {
+        fill(slots, key, value)?;
+        if slots.insert(*value)? != key {
+            *slots = source.clone()?;
+            return Ok(());
+        }
+    }
+    drop_others(slots, source);
+    Ok(())
+}
+
+/// Gives the vacant keys below this one that come next the value. A cleared slab gives out its keys one by one, so it
+/// comes to a key after vacant ones only then.
+fn fill<T: Copy + Drop>(slots: &mut Slab<T>, key: usize, value: &T) -> Result<(), AllocError>
+    ensures { (k : ℕ) (v : T) → get slots.old k ≡ Some v → get slots.new k ≡ Some v }
+{
+    for _ in slots.vacant_key()..key {
+        slots.insert(*value)?;
+    }
+    Ok(())
 }
