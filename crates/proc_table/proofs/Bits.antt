@@ -3,7 +3,7 @@ use Rattle.std.proofs.Common.{◌≡◌, ◌≢◌, ℕ, ◌<◌, ◌≤◌, ◌
 use Rattle.std.proofs.Common.{[], ◌∷◌, ◌++◌, replicate, subst, length-append, length-set}
 use Rattle.std.proofs.lemmas.Bool.Decides.{nat_tests}
 use Rattle.std.proofs.lemmas.List.{get_or-set_same, get_or-set_other, get_or-replicate, get_or_past, get_or_append_left, length-replicate}
-use Rattle.{std.{proofs.lemmas.Nat.{shr-shr, Bits.{bit_at_above, bit_at-zero}}, specs.Int.bit_at}, lwp_table.{specs.Places.{placed, ArePlaced}, proofs.PlaceLemmas.{few, free, value_at, long_placed, replaced, are_with, placed_with, last_added}}, proc_table.specs.Members.{has_bit, member, word_at, IsBegun, IsPaged}}
+use Rattle.{std.{proofs.lemmas.Nat.{shr-shr, Bits.{bit_at_above, bit_at-zero}}, specs.Int.bit_at}, lwp_table.{specs.Places.{placed, ArePlaced}, proofs.PlaceLemmas.{none_placed, few, free, value_at, long_placed, replaced, are_with, placed_with, last_added}}, proc_table.specs.Members.{has_bit, member, word_at, IsBegun, IsPaged}}
 
 -- a set without pages has no number
 pub no_member : (n : ℕ) → member (replicate 64 []) n ≡ false
@@ -144,3 +144,7 @@ pub next-before : (pages : List (List ℕ)) (at place : ℕ) → place < 64
     → ((i : ℕ) → at % 64 ≤ i → i < place → has_bit (word_at pages (at / 64)) i ≡ false)
     → (n : ℕ) → at ≤ n → n < at / 64 * 64 + place → member pages n ≡ false
 next-before pages at place below none n low high = grind (arith, member-at pages at n (n % 64), none (n % 64))
+
+-- no page was begun
+pub none_paged : IsPaged (replicate 64 255) []
+none_paged = record { placed = none_placed; full = λ i within. absurd (omega (arith, within)) }

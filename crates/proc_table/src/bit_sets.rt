@@ -7,6 +7,7 @@
 ghost use Rattle.std.specs.Prelude.{◌≡◌, ◌≢◌, ℕ, ◌+◌, ◌<◌, ◌≤◌, true, false, ◌/◌, IfSome, IfNone, OnOk};
 ghost use Rattle.proc_table.specs.Members.{has_bit, member, word_at, max_number, IsBegun};
 
+use lwp_table::copy_items;
 use std::alloc::{AllocError, Global};
 use std::marker::Model;
 
@@ -83,6 +84,17 @@ impl NumberSet {
             indices: [NONE; PAGES],
             pages: Vec::new(alloc),
         }
+    }
+
+    /// Makes the set the source. Fails when out of memory, and then the set is empty.
+    #[inline(always)]
+    pub fn copy_from(&mut self, source: &NumberSet) -> Result<(), AllocError>
+        ensures { OnOk result (self.new.pages ≡ source.now.pages) }
+    {
+        self.indices = [NONE; PAGES];
+        copy_items(&mut self.pages, &source.pages)?;
+        self.indices = source.indices;
+        Ok(())
     }
 
     /// Makes room for `count` more numbers. Fails when out of memory.

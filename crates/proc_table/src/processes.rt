@@ -1,6 +1,6 @@
 //! The rows of processes, each found by its number, with the lists of each process's tracees and children.
 
-ghost use Rattle.std.specs.Prelude.{◌≡◌, ℕ, ◌+◌, ◌<◌, ◌≤◌, ◌==◌, [], Bool, true, false, not, filter, map, count_by, option_map, option_copied, Some, None, IsSome, IsSomeAnd, IfOk, OnOk};
+ghost use Rattle.std.specs.Prelude.{◌≡◌, ℕ, ◌+◌, ◌<◌, ◌≤◌, ◌==◌, [], Bool, true, false, not, filter, map, count_by, option_map, option_copied, Some, None, IsSome, IsSomeAnd, IfOk, OnOk, OnErr};
 ghost use Rattle.std.specs.List.{list_any};
 ghost use Rattle.proc_table.specs.Processes.{has_news, process_of, placed};
 ghost use Rattle.std.specs.Fn.{FnReturnsAt};
@@ -11,7 +11,7 @@ ghost use Rattle.proc_table.specs.Kept.{InOwnBlock, put_process};
 use crate::links::{ListKind, ListLinks, RowNode, first_slot, next_slot, update_lists};
 use crate::lookups::{known_slot, node_named, noted_number, slot_of};
 use crate::{ProcData, State};
-use lwp_table::{Hints, NumberIndex};
+use lwp_table::{Hints, NumberIndex, copy_entries, copy_values};
 use pid_blocks::{Pid, Uid};
 use signals::SigSet;
 use slab::Slab;
@@ -90,17 +90,42 @@ impl Clone for Processes {
 }
 
 impl Processes {
-    /// Returns an empty collection. Fails when out of memory.
-    pub fn new(alloc: Global) -> Result<Processes, AllocError>
-        ensures { IfOk result (λ processes. processes.rows ≡ []) }
+    /// Returns an empty collection.
+    pub fn empty(alloc: Global) -> Processes
+        ensures { result.rows ≡ [] }
     {
         let counts = [0; 64];
-        Ok(Processes {
+        Processes {
             nodes: Slab::new(alloc),
             slots: NumberIndex::with_hasher(alloc, BuildHasherDefault::new()),
             hints: Hints::new(alloc),
             counts,
-        })
+        }
+    }
+
+    /// Returns an empty collection. Fails when out of memory.
+    pub fn new(alloc: Global) -> Result<Processes, AllocError>
+        ensures { IfOk result (λ processes. processes.rows ≡ []) }
+    {
+        Ok(Processes::empty(alloc))
+    }
+
+    /// Makes the rows those of the source, in the collection's own memory as far as it goes. Fails when out of memory,
+    /// and then the collection is empty.
+    #[inline(always)]
+    pub fn copy_from(&mut self, alloc: Global, source: &Processes) -> Result<(), AllocError>
+        ensures copied { OnOk result (self.new.rows ≡ source.now.rows) }
+        ensures emptied { OnErr result (self.new.rows ≡ []) }
+    {
+        if copy_values(&mut self.nodes, &source.nodes).is_ok()
+            && copy_entries(&mut self.slots, &source.slots).is_ok()
+            && self.hints.copy_from(&source.hints).is_ok()
+        {
+            self.counts = source.counts;
+            return Ok(());
+        }
+        *self = Processes::empty(alloc);
+        Err(AllocError)
     }
 
     /// Makes room for `count` more rows. Fails when out of memory, and then leaves the rows unchanged.

@@ -1,6 +1,6 @@
 //! The tables of a host: its processes, its LWPs, and where the search for each user's next number begins.
 
-ghost use Rattle.std.specs.Prelude.{◌≡◌, ℕ, ◌+◌, ◌*◌, ◌<◌, ◌≤◌, ◌^◌, Bool, true, false, IsSomeAnd, OnOk, IfOk, IfSome, IfNone, filter, get_or, map, option_map, slice_get};
+ghost use Rattle.std.specs.Prelude.{◌≡◌, ℕ, ◌+◌, ◌*◌, ◌<◌, ◌≤◌, ◌^◌, Bool, true, false, IsSomeAnd, OnOk, OnErr, IfOk, IfSome, IfNone, filter, get_or, map, option_map, slice_get};
 ghost use Rattle.pid_blocks.specs.Users.{IsUser};
 ghost use Rattle.pid_blocks.specs.Blocks.{slot, users, pid_block, tid_block, InBlock};
 ghost use Rattle.lwp_table.specs.Lwps.{first_lwp, lwp_of, lwps_of, next_lwp};
@@ -84,19 +84,46 @@ fn cursors(first: u32, step: u32) -> [u32; 64]
 }
 
 impl Tables {
-    /// Returns the tables of an unused host. Fails when out of memory.
+    /// Returns the tables of an unused host.
     #[tactic(auto, using(crate::proofs::KeepsLwps::keeps_none))]
+    pub fn unused(alloc: Global) -> Tables
+        ensures { result.rows ≡ no_rows }
+    {
+        Tables {
+            processes: Processes::empty(alloc),
+            pids: NumberSet::new(alloc),
+            news: NumberSet::new(alloc),
+            lwps: LwpTable::empty(alloc),
+            pid_cursors: cursors(FIRST_PID, PIDS),
+            tid_cursors: cursors(FIRST_TID, TIDS),
+        }
+    }
+
+    /// Returns the tables of an unused host. Fails when out of memory.
     pub fn new(alloc: Global) -> Result<Tables, AllocError>
         ensures { IfOk result (λ tables. tables.rows ≡ no_rows) }
     {
-        Ok(Tables {
-            processes: Processes::new(alloc)?,
-            pids: NumberSet::new(alloc),
-            news: NumberSet::new(alloc),
-            lwps: LwpTable::new(alloc)?,
-            pid_cursors: cursors(FIRST_PID, PIDS),
-            tid_cursors: cursors(FIRST_TID, TIDS),
-        })
+        Ok(Tables::unused(alloc))
+    }
+
+    /// Makes the rows and cursors those of the source, in the tables' own memory as far as it goes. Fails when out of
+    /// memory, and then the tables are those of an unused host.
+    #[inline(always)]
+    pub fn copy_from(&mut self, alloc: Global, source: &Tables) -> Result<(), AllocError>
+        ensures copied { OnOk result (self.new.rows ≡ source.now.rows) }
+        ensures emptied { OnErr result (self.new.rows ≡ no_rows) }
+    {
+        if self.processes.copy_from(alloc, &source.processes).is_ok()
+            && self.pids.copy_from(&source.pids).is_ok()
+            && self.news.copy_from(&source.news).is_ok()
+            && self.lwps.copy_from(alloc, &source.lwps).is_ok()
+        {
+            self.pid_cursors = source.pid_cursors;
+            self.tid_cursors = source.tid_cursors;
+            return Ok(());
+        }
+        *self = Tables::unused(alloc);
+        Err(AllocError)
     }
 
     /// Makes room for `count` more processes. Fails when out of memory. The rows stay unchanged.
