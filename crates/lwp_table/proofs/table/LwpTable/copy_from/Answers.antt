@@ -1,4 +1,4 @@
-use Rattle.lwp_table.proofs.CommonNames.{◌≡◌, ap, sym, get}
+use Rattle.lwp_table.proofs.CommonNames.{ap}
 use Rattle.lwp_table.proofs.CopyLemmas.{from-ok, get-same}
 use Rattle.lwp_table.proofs.table.LwpTable.copy_from.Goals as goal
 
