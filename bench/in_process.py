@@ -119,9 +119,9 @@ def compile_copies(room: pathlib.Path, library: pathlib.Path) -> pathlib.Path:
     return to
 
 
-def instructions_of_copies(copies: pathlib.Path, processes: int, what: str) -> int:
+def instructions_of_copies(copies: pathlib.Path, processes: int, what: str, *more: str) -> int:
     """Those of `what` in bench/in_process/copies.c, with a session of so many processes."""
-    return instructions([str(copies), str(processes)], f"--toggle-collect={what}")
+    return instructions([str(copies), str(processes), *more], f"--toggle-collect={what}")
 
 
 def bytes_of_copy(copies: pathlib.Path, processes: int) -> int:

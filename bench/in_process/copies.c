@@ -2,16 +2,17 @@
  * Copies, opens and closes sessions. bench/in_process.py counts the instructions of one `copy_and_close`, of one
  * `open_and_close` and of one `copy_over`.
  *
- *     copies PROCESSES
+ *     copies PROCESSES [gaps]
  *
- * The session that is copied has PROCESSES processes of one LWP. Linked with --wrap for malloc, realloc and free, the
+ * The session that is copied has PROCESSES processes of one LWP; with `gaps` as many more ended, each between two of them.
+ * Linked with --wrap for malloc, realloc and free, the
  * program prints the bytes that its copy was given, and fails if memory is left at the end.
  */
 #include <stdio.h>
 #include <stdlib.h>
 #include <tracehost.h>
 
-enum { USER = 1001 };
+enum { USER = 1001, FIRST_LWP = 100000 };
 
 static size_t bytes; /* that were asked for */
 static long blocks;  /* that weren't freed */
@@ -75,10 +76,16 @@ int main(int count, char **words)
 {
     tracehost h = TRACEHOST_CLOSED, copy = TRACEHOST_CLOSED;
     tracehost_reply reply;
-    wanted(count == 2, "PROCESSES");
+    wanted(count == 2 || count == 3, "PROCESSES [gaps]");
     wanted(tracehost_open(true, &h) == TRACEHOST_ANSWERED, "tracehost_open");
-    for (long i = strtol(words[1], NULL, 10); i > 0; i--)
+    long processes = strtol(words[1], NULL, 10), more = count == 3 ? processes : 0;
+    for (long i = 0; i < processes + more; i++)
         wanted(tracehost_spawn(&h, USER, &reply) == TRACEHOST_ANSWERED && reply.kind == TRACEHOST_NEW, "spawn");
+    for (uint32_t i = 0; i < more; i++) {
+        uint32_t lwp = FIRST_LWP + 2 * i;
+        wanted(tracehost_turn(&h, USER, lwp, TRACEHOST_ENTER, TRACEHOST_EXIT, 0, &reply) == TRACEHOST_ANSWERED, "exit");
+        wanted(reply.kind == TRACEHOST_OK, "exit");
+    }
     bytes = 0;
     wanted(tracehost_copy(&h, &copy) == TRACEHOST_ANSWERED, "tracehost_copy");
     printf("%zu\n", bytes);

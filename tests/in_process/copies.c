@@ -69,6 +69,38 @@ static void own_ways(void)
     }
 }
 
+/*
+ * Sessions of different lengths are copied over one that goes its own way in between: it takes the memory that it had, and is
+ * each time in the state of the other one, whose calls it answers alike.
+ */
+static void copies_over(void)
+{
+    static struct call before[CALLS], mine[CALLS], other[CALLS];
+    static struct text lines, wanted, made, state, later;
+    tracehost h = TRACEHOST_CLOSED, to = TRACEHOST_CLOSED, twin = TRACEHOST_CLOSED;
+    CHECK(tracehost_open(roll(2), &to) == 0);
+    for (int i = 0; i < 4; i++) {
+        choose_calls(before, true);
+        choose_calls(mine, false);
+        choose_calls(other, true);
+        CHECK(tracehost_open(roll(2), &h) == 0);
+        steps(&h, before, &lines);
+        if (i % 2)
+            steps(&to, other, &lines);
+        CHECK(tracehost_copy_over(&h, &to) == 0 && tracehost_copy(&h, &twin) == 0);
+        get_state(&h, &state);
+        get_state(&to, &later);
+        CHECK(same(&state, &later));
+        steps(&twin, mine, &wanted);
+        steps(&to, mine, &made);
+        CHECK(same(&wanted, &made));
+        get_state(&h, &later);
+        CHECK(same(&state, &later));
+        CHECK(tracehost_close(&h) == 0 && tracehost_close(&twin) == 0);
+    }
+    CHECK(tracehost_close(&to) == 0);
+}
+
 int main(int argc, char **argv)
 {
     int runs = argc > 1 ? atoi(argv[1]) : 30;
@@ -76,6 +108,7 @@ int main(int argc, char **argv)
     for (int run = 0; run < runs; run++) {
         a_copy(run % 2);
         own_ways();
+        copies_over();
     }
     printf("%lu checks\n", checks);
     return 0;

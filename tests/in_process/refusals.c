@@ -223,6 +223,50 @@ static unsigned long copies(tracehost *h)
     return refusals;
 }
 
+/* Copies a session over another one, each allocation refused in turn: both stay as they were, and the next try succeeds. */
+static unsigned long copying_over(tracehost *from, tracehost *to)
+{
+    static struct text before[2], after[2];
+    get_state(from, &before[0]);
+    get_state(to, &before[1]);
+    for (long number = 1;; number++) {
+        uint32_t code;
+        bool was_refused = REFUSED(number, code, tracehost_copy_over(from, to));
+        get_state(from, &after[0]);
+        get_state(to, &after[1]);
+        CHECK(same(&before[0], &after[0]));
+        if (!was_refused) {
+            CHECK(code == TRACEHOST_ANSWERED && same(&before[0], &after[1]));
+            return (unsigned long)number - 1;
+        }
+        CHECK(code == TRACEHOST_NO_MEMORY && same(&before[1], &after[1]));
+    }
+}
+
+/* Sessions of other rows are copied over one whose last copy was refused: it goes on as a session that was refused nothing. */
+static unsigned long copies_over(tracehost *h)
+{
+    static struct call calls[CALLS];
+    static struct text lines[2], state[2];
+    tracehost copy[2] = {TRACEHOST_CLOSED, TRACEHOST_CLOSED};
+    unsigned long refusals = 0;
+    long held = blocks;
+    CHECK(tracehost_open(true, &copy[0]) == TRACEHOST_ANSWERED && tracehost_copy(h, &copy[1]) == TRACEHOST_ANSWERED);
+    for (int i = 0; i < 3; i++) {
+        refusals += copying_over(h, &copy[0]);
+        CHECK(tracehost_copy_over(h, &copy[1]) == TRACEHOST_ANSWERED);
+        choose_calls(calls, false);
+        for (int c = 0; c < 2; c++) {
+            steps(&copy[c], calls, &lines[c]);
+            get_state(&copy[c], &state[c]);
+        }
+        CHECK(same(&lines[0], &lines[1]) && same(&state[0], &state[1]));
+    }
+    CHECK(tracehost_close(&copy[0]) == TRACEHOST_ANSWERED && tracehost_close(&copy[1]) == TRACEHOST_ANSWERED);
+    CHECK(blocks == held);
+    return refusals;
+}
+
 /* A copy of a session with two stop handlers; the second one decides. */
 static void handlers(void)
 {
@@ -244,8 +288,8 @@ static void handlers(void)
 
 int main(int argc, char **argv)
 {
-    enum { OPENINGS, TYPED, LINES, LAST_LINES, VIEWS, COPIES, KINDS };
-    static const char *const names[KINDS] = {"openings", "typed calls", "lines", "last lines", "views", "copies"};
+    enum { OPENINGS, TYPED, LINES, LAST_LINES, VIEWS, COPIES, COPIES_OVER, KINDS };
+    static const char *const names[KINDS] = {"openings", "typed calls", "lines", "last lines", "views", "copies", "copies over"};
     long calls = argc > 1 ? atol(argv[1]) : 1000, held = blocks;
     unsigned long refusals[KINDS] = {0};
     tracehost h = TRACEHOST_CLOSED, twin = TRACEHOST_CLOSED;
@@ -261,6 +305,7 @@ int main(int argc, char **argv)
         if (i % 50 == 49) {
             refusals[VIEWS] += views(&h);
             refusals[COPIES] += copies(&h);
+            refusals[COPIES_OVER] += copies_over(&h);
         }
     }
     CHECK(tracehost_close(&h) == TRACEHOST_ANSWERED && tracehost_close(&twin) == TRACEHOST_ANSWERED && blocks == held);
@@ -271,5 +316,5 @@ int main(int argc, char **argv)
     for (size_t i = 0; i < KINDS; i++)
         printf(" %lu of %s", refusals[i], names[i]);
     printf("\n%lu checks\n", checks);
-    return refusals[OPENINGS] && refusals[TYPED] && refusals[LINES] && refusals[COPIES] ? 0 : 1;
+    return refusals[OPENINGS] && refusals[TYPED] && refusals[LINES] && refusals[COPIES] && refusals[COPIES_OVER] ? 0 : 1;
 }

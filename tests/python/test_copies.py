@@ -20,6 +20,7 @@ from in_process import bytes_of_copy, compile_copies, instructions_of_copies  # 
 MOST_BYTES_OF_TWO_ROWS = 8_192
 MOST_OF_COPY_AND_CLOSE = 9_100  # of three processes
 MOST_OF_OPEN_AND_CLOSE = 10_000
+MOST_OF_COPY_OVER = 3_000  # of three processes
 
 pytestmark = pytest.mark.skipif(not shutil.which("cc"), reason="needs cc")
 needs_valgrind = pytest.mark.skipif(not shutil.which("valgrind"), reason="needs valgrind")
@@ -45,3 +46,11 @@ def test_a_copy_takes_few_instructions(copies: pathlib.Path) -> None:
 @needs_valgrind
 def test_an_unused_session_takes_few_instructions(copies: pathlib.Path) -> None:
     assert 0 < instructions_of_copies(copies, 0, "open_and_close") <= MOST_OF_OPEN_AND_CLOSE
+
+
+@needs_valgrind
+@pytest.mark.parametrize("rows", [[], ["gaps"]], ids=["dense", "gaps"])
+def test_a_copy_over_a_session_takes_its_memory(copies: pathlib.Path, rows: list[str]) -> None:
+    three, many = (instructions_of_copies(copies, processes, "copy_over", *rows) for processes in (3, 100))
+    assert 0 < three < many
+    assert three <= MOST_OF_COPY_OVER
