@@ -33,6 +33,12 @@ impl LwpHints {
         }
     }
 
+    /// Makes the hints those of the source. Fails when out of memory.
+    #[inline(always)]
+    pub fn copy_from(&mut self, source: &LwpHints) -> Result<(), AllocError> {
+        self.hints.copy_from(&source.hints)
+    }
+
     /// Returns the slot that was noted for the LWP, or another one.
     #[inline(always)]
     pub fn slot(&self, tid: Tid) -> usize {
