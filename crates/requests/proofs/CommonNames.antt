@@ -51,12 +51,12 @@ pub use Rattle.requests.specs.Actors.{HasLwp, IsActing}
 pub use Rattle.requests.specs.{Sigaction.is_refused, Sigaction.sigaction, Wait.collect_reply, Wait.wait, Spawn.spawn, Spawn.spawn_with, List.list}
 pub use Rattle.requests.specs.Handle.{decided, done, handled_by, handles, handles_status, handles_stop, install, policies_in, policies_of, view_of, handle}
 pub use Rattle.step_types.specs.{Plain.caller_of, Plain.installs, Replies.is_memory, Replies.is_refusal, Status.no_options}
-pub use Rattle.requests.specs.Hosts.{Steps, Tries, machine_of}
+pub use Rattle.requests.specs.Hosts.{Steps, machine_of}
 pub use Rattle.requests.specs.Isolation.{Alone, Apart, Debugger, KeepsApart, OneStep, OtherStep, OwnRun, ApartInASoundHost, TwoLists, Users, host_after, own_replies, own_view, replies_to, reply_of}
 pub use Rattle.requests.specs.Laws.{SoundKept, SoundRuns, act_fits, step_fits}
 pub use Rattle.requests.specs.Leave.{Numbers, child_stop, due_at_birth, exec_rows, exit_stop, exits_lwp, forked, forks, in_mode, leaves, makes_lwp, room_for_lwp, room_for_process, with_child}
 pub use Rattle.requests.specs.Machine.{After, Installed, Machine, after, empty, installed_by, outcome_of}
-pub use Rattle.requests.specs.Memory.{Attempts, attempted_reply, may_want, takes_memory}
+pub use Rattle.requests.specs.Memory.{Attempts, may_want, takes_memory}
 pub use Rattle.requests.specs.Outcome.{Gives, Outcome, answers, refuses, stops_or, stops_with, trap}
 pub use Rattle.requests.specs.Ptrace.{about, attach, bad_argument, closes_chain, command, commands, commands_stopped, does, is_attach, is_trace_me, ptrace, resumes, set_mask}
 pub use Rattle.requests.specs.Ptrace.{shows_info, stop_first, suspend, switched, target_of, trace_me, traced_by, with_signal}

@@ -2,7 +2,7 @@
 use Rattle.requests.proofs.CommonNames.{ℕ, List, [], ◌∷◌, ◌++◌, set, slot, Rule, Machine, After, installed_by, Reply, ◌≡◌, ◌+◌, ◌<◌, length, map, filter, Bool, true, sym, ap, ◌∙◌, arith, subst}
 use Rattle.requests.proofs.CommonNames.{get_or, length-map, IsUser, Rows, PlainStep, Outcome, Installed, is_live_at, after, sound, step, put_at, slots_differ, either, get_or-map, length-set}
 use Rattle.requests.proofs.CommonNames.{get_or-set_other, ◌≢◌, Some, None, false, refl, inl, inr, set-get_or, answers, nat_tests, takes_memory, is_refusal, may_want, step_fits, Steps, ProcData, calls}
-use Rattle.requests.proofs.CommonNames.{caller_of, le-leb, not, ◌≤◌, if◌then◌else◌, cases_Bool, attempted_reply, Errno, Step, Attempts, Result, Ok, Err, uncalled, installs, outcome_of, Tries, step_of}
+use Rattle.requests.proofs.CommonNames.{caller_of, le-leb, not, ◌≤◌, if◌then◌else◌, cases_Bool, Errno, Step, Attempts, uncalled, installs, outcome_of, step_of}
 use Rattle.requests.proofs.CommonNames.{IsCaller, IsCallerByNumber, Barred, may_end}
 use Rattle.requests.specs.View.{view}
 use Rattle.requests.proofs.SoundWithoutEnded.{slots_of, same_at, all_left, left_live, answers_same, rows_sound}
@@ -74,18 +74,18 @@ module _ (u : ℕ) (s : PlainStep) (m : Machine) (user : IsUser u) (is : sound m
   }
 
   -- once the pairs of the user's ended debuggers are gone
-  pub finished : {E : Type 0} (o : Outcome) (rows : Rows) (r : Result Reply E) → step u s m ≡ after m o → Attempts (takes_memory u s m) o m.rows rows r → Tries u s m (kept_by u rows m) r
-  finished o rows (Ok r) same did = grind (arith, nat_tests, from_machine (kept_by u rows m) r (λ ok. (ap (λ x. kept_by u x m) did.gives.rows ∙ sym (drops m u user is s o same) ∙ sym (ap (λ a. a.machine) same), did.gives.reply ∙ sym (ap (λ a. a.reply) same))) (λ e. absurd (no_step_runs_out_of_memory u s m (ap (λ a. a.reply) same ∙ sym did.gives.reply ∙ e))), no_step_runs_out_of_memory)
-  finished o rows (Err e) same did = from_machine (kept_by u rows m) (Reply.Errno Errno.ENOMEM) (λ plenty. absurd (plenty refl))
+  pub finished : (o : Outcome) (rows : Rows) (r : Reply) → step u s m ≡ after m o → Attempts (takes_memory u s m) o m.rows rows r → Steps u s m (kept_by u rows m) r
+  finished o rows r same (inl did) = from_machine (kept_by u rows m) r (λ ok. (ap (λ x. kept_by u x m) did.rows ∙ sym (drops m u user is s o same) ∙ sym (ap (λ a. a.machine) same), did.reply ∙ sym (ap (λ a. a.reply) same))) (λ e. absurd (no_step_runs_out_of_memory u s m (ap (λ a. a.reply) same ∙ sym did.reply ∙ e)))
+  finished o rows r same (inr did) = from_machine (kept_by u rows m) r (λ plenty. absurd (plenty did.reply))
       (λ e. (
         ap (λ x. kept_by u x m) did.same ∙ ap (λ x. record m { installed = x }) (ap (λ ys. set m.installed (slot u) ys) (all_left m is u user) ∙ set-get_or m.installed (slot u) []),
         rw (did.takes, ap (λ a. is_refusal a.reply) same ∙ did.unrefused) refl,
       ))
 
   -- which are none if the step ends no process
-  pub none_ended : {E : Type 0} (o : Outcome) (rows : Rows) (r : Result Reply E) → step u s m ≡ after m o → Attempts (takes_memory u s m) o m.rows rows r → may_end s (attempted_reply r) ≡ false → set m.installed (slot u) (left_in rows u m) ≡ m.installed
-  none_ended o rows (Ok r) same did none = grind (arith, nat_tests, left_live m is o.rows (subst (λ a. Lives m.rows.processes a.machine.rows.processes) same ((step_fair u s m).lives (subst (λ x. may_end s x ≡ false) (did.gives.reply ∙ sym (ap (λ a. a.reply) same)) none))).at u user, set-get_or m.installed (slot u) [])
-  none_ended o rows (Err e) same did none = ap (λ x. (kept_by u x m).installed) did.same ∙ ap (λ ys. set m.installed (slot u) ys) (all_left m is u user) ∙ set-get_or m.installed (slot u) []
+  pub none_ended : (o : Outcome) (rows : Rows) (r : Reply) → step u s m ≡ after m o → Attempts (takes_memory u s m) o m.rows rows r → may_end s r ≡ false → set m.installed (slot u) (left_in rows u m) ≡ m.installed
+  none_ended o rows r same (inl did) none = grind (arith, nat_tests, left_live m is o.rows (subst (λ a. Lives m.rows.processes a.machine.rows.processes) same ((step_fair u s m).lives (subst (λ x. may_end s x ≡ false) (did.reply ∙ sym (ap (λ a. a.reply) same)) none))).at u user, set-get_or m.installed (slot u) [], did)
+  none_ended o rows r same (inr did) none = ap (λ x. (kept_by u x m).installed) did.same ∙ ap (λ ys. set m.installed (slot u) ys) (all_left m is u user) ∙ set-get_or m.installed (slot u) []
 
   -- a refusal before anything was done
   pub refuses_at : (r : Reply) → r ≢ Reply.Errno Errno.ENOMEM → step u s m ≡ after m (answers r m.rows) → Steps u s m m r
@@ -103,17 +103,21 @@ module _ {u : ℕ} {h m : Machine} (view : h ≡ m) (user : IsUser u) (kept : so
   host_barred {s = s} {r = r} fits by b = refuses_at u s m user seen_kept fits r b.other (b.answer s by)
 
   -- a step once what ended debuggers had installed is gone
-  module _ {E : Type 0} (s : PlainStep) (fits : step_fits s ≡ true) {rows : Rows} {left : List (List Installed)} {r : Result Reply E} (keeps : left ≡ (if may_end s (attempted_reply r) then set h.installed (slot u) (left_in rows u h) else h.installed)) where
+  module _ (s : PlainStep) (fits : step_fits s ≡ true) {rows : Rows} {left : List (List Installed)} {r : Reply} (keeps : left ≡ (if may_end s r then set h.installed (slot u) (left_in rows u h) else h.installed)) where
     only_left : (o : Outcome) → step u s h ≡ after h o → Attempts (takes_memory u s h) o h.rows rows r → left ≡ set h.installed (slot u) (left_in rows u h)
-    only_left o same did = grind (arith, nat_tests, cases_Bool (may_end s (attempted_reply r)), none_ended)
+    only_left o same did = by_end (may_end s r) refl
+      where
+        by_end : (b : Bool) → may_end s r ≡ b → left ≡ set h.installed (slot u) (left_in rows u h)
+        by_end true e = keeps ∙ rw e refl
+        by_end false e = keeps ∙ rw e (sym (none_ended u s h user kept fits o rows r same did e))
 
-    pub host_uncalled : caller_of s ≡ None → Attempts (takes_memory u s h) (outcome_of (uncalled u s h)) h.rows rows r → Tries u s h (record h { rows = rows; installed = left }) r
-    host_uncalled none did = subst (λ x. Tries u s h (record h { rows = rows; installed = x }) r) (sym (only_left (outcome_of (uncalled u s h)) (ap (step_of u s h) none ∙ uncalled_after u s h) did)) (finished u s h user kept fits (outcome_of (uncalled u s h)) rows r (ap (step_of u s h) none ∙ uncalled_after u s h) did)
+    pub host_uncalled : caller_of s ≡ None → Attempts (takes_memory u s h) (outcome_of (uncalled u s h)) h.rows rows r → Steps u s h (record h { rows = rows; installed = left }) r
+    host_uncalled none did = subst (λ x. Steps u s h (record h { rows = rows; installed = x }) r) (sym (only_left (outcome_of (uncalled u s h)) (ap (step_of u s h) none ∙ uncalled_after u s h) did)) (finished u s h user kept fits (outcome_of (uncalled u s h)) rows r (ap (step_of u s h) none ∙ uncalled_after u s h) did)
 
-    pub host_called : {n : ℕ} {p : ProcData} → IsCallerByNumber u n m.rows p → caller_of s ≡ Some n → installs s ≡ false → Attempts (takes_memory u s h) (outcome_of (calls u s p h)) h.rows rows r → Tries u s h (record h { rows = rows; installed = left }) r
+    pub host_called : {n : ℕ} {p : ProcData} → IsCallerByNumber u n m.rows p → caller_of s ≡ Some n → installs s ≡ false → Attempts (takes_memory u s h) (outcome_of (calls u s p h)) h.rows rows r → Steps u s h (record h { rows = rows; installed = left }) r
     host_called {n} {p} found by kind did =
         let f : IsCallerByNumber u n h.rows p = subst (λ x. IsCallerByNumber u n x.rows p) (sym view) found in
-        (subst (λ x. Tries u s h (record h { rows = rows; installed = x }) r) (sym (only_left (outcome_of (calls u s p h)) (called u n s h by p f.seen f.live f.runs ∙ calls_after u s p h kind) did)) (finished u s h user kept fits (outcome_of (calls u s p h)) rows r (called u n s h by p f.seen f.live f.runs ∙ calls_after u s p h kind) did))
+        (subst (λ x. Steps u s h (record h { rows = rows; installed = x }) r) (sym (only_left (outcome_of (calls u s p h)) (called u n s h by p f.seen f.live f.runs ∙ calls_after u s p h kind) did)) (finished u s h user kept fits (outcome_of (calls u s p h)) rows r (called u n s h by p f.seen f.live f.runs ∙ calls_after u s p h kind) did))
 
   module _ {n : ℕ} {p : ProcData} (found : IsCallerByNumber u n m.rows p) where
     by_host : IsCallerByNumber u n h.rows p

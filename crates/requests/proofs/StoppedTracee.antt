@@ -1,5 +1,5 @@
 -- A stopped tracee in sound rows, and changes of its row and of its LWPs.
-use Rattle.requests.proofs.CommonNames.{some_is, Gives, Attempts, Ok, Bool, ◌≡◌, ℕ, ◌≤◌, ◌==◌, arith, eqb-true, true, if◌then◌else◌, Some, is_some, refl, sym, ap, ◌∙◌, subst, eq-eqb, rules}
+use Rattle.requests.proofs.CommonNames.{some_is, Gives, Attempts, inl, Bool, ◌≡◌, ℕ, ◌≤◌, ◌==◌, arith, eqb-true, true, if◌then◌else◌, Some, is_some, refl, sym, ap, ◌∙◌, subst, eq-eqb, rules}
 use Rattle.requests.proofs.CommonNames.{IsSomeAnd, nat_tests, EventMask, LwpData, lwp_of, Differ, ProcData, process_of, reporting, Rows, change_process, change_lwp, is_numbered}
 use Rattle.requests.proofs.CommonNames.{lwp_count, lwp_count_of, owns, Rise, IsRow, InOwnBlock, set_lwp, owns-kept, found_row, lwp_of-tid, every_found, some_and, change_process-at, change_lwp-at}
 use Rattle.requests.proofs.CommonNames.{lwp_there, IsSound, count_edit, changed_row, edit_none, Reply, Outcome, answers, set_mask}
@@ -46,8 +46,8 @@ signalled f arg pass r rows rows1 rows2 to few same done = search (rules, nat_te
 pub gives_as : {o o' : Outcome} {rows : Rows} {r : Reply} → o ≡ o' → Gives o rows r → Gives o' rows r
 gives_as {rows = rows} {r = r} same g = subst (λ x. Gives x rows r) same g
 
-pub given : {E : Type 0} {takes : Bool} {o : Outcome} {before rows : Rows} {r : Reply} → Gives o rows r → Attempts {E = E} takes o before rows (Ok r)
-given g = record { gives = g; takes = tt; unrefused = tt; same = tt }
+pub given : {takes : Bool} {o : Outcome} {before rows : Rows} {r : Reply} → Gives o rows r → Attempts takes o before rows r
+given g = inl g
 
 -- A process has no more LWPs than its user
 

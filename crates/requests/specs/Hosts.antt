@@ -1,7 +1,7 @@
 -- A host, as the machine sees it, and its step.
 use Rattle.std.specs.Prelude.{◌≡◌, ◌≢◌}
-use Rattle.requests.specs.CommonNames.{ℕ, true, List, Result, ENOMEM, Table, Settings, Reply, PlainStep}
-use Rattle.requests.specs.Memory.{may_want, attempted_reply}
+use Rattle.requests.specs.CommonNames.{ℕ, true, List, ENOMEM, Table, Settings, Reply, PlainStep}
+use Rattle.requests.specs.Memory.{may_want}
 use Rattle.step_types.specs.Replies.{is_refusal}
 use Rattle.requests.specs.Sound.{sound}
 use Rattle.requests.specs.Step.{Machine, Installed, step}
@@ -16,7 +16,3 @@ pub record Steps (u : ℕ) (s : PlainStep) (m n : Machine) (r : Reply) : Type 0 
   pub memory : r ≡ Reply.Errno ENOMEM → (n ≡ m) × (may_want u s m ≡ true)
   pub refused : is_refusal r ≡ true → n ≡ m
   pub sound : sound n ≡ true
-
--- the same before the reply is written: an error means out of memory
-abbrev pub Tries : {E : Type 0} → ℕ → PlainStep → Machine → Machine → Result Reply E → Type 0
-Tries u s m n r = Steps u s m n (attempted_reply r)

@@ -23,18 +23,18 @@ use crate::wait::wait;
 use crate::{Reply, Step};
 use pid_blocks::Uid;
 use proc_table::{ProcData, Tables};
-use std::alloc::{AllocError, Global};
+use std::alloc::Global;
 use stop_handlers::Decider;
 use trace_rows::Settings;
 
-/// Makes a step without a caller. An error means out of memory, and changes nothing.
+/// Makes a step without a caller. Refused with ENOMEM if memory runs out, which changes nothing.
 pub fn uncalled<F: Decider + Send + Drop, H>(
     tables: &mut Tables,
     handlers: &HandlerTable<F>,
     settings: Settings,
     user: Uid,
     step: &Step<H>,
-) -> Result<Reply, AllocError>
+) -> Reply
     requires sound { IsSound tables.old.rows }
     requires none { caller_of (bare step.now) ≡ None }
     ensures { let m = machine_of settings tables.old handlers.now in
@@ -47,8 +47,8 @@ pub fn uncalled<F: Decider + Send + Drop, H>(
     }
 }
 
-/// Makes a step of a caller, a process that runs, unless it installs a handler. An error means out of memory, and
-/// changes nothing.
+/// Makes a step of a caller, a process that runs, unless it installs a handler. Refused with ENOMEM if memory runs out,
+/// which changes nothing.
 pub fn called<F: Decider + Send + Drop, H>(
     tables: &mut Tables,
     handlers: &HandlerTable<F>,
@@ -57,7 +57,7 @@ pub fn called<F: Decider + Send + Drop, H>(
     user: Uid,
     caller: &ProcData,
     step: &Step<H>,
-) -> Result<Reply, AllocError>
+) -> Reply
     requires sound { IsSound tables.old.rows }
     requires few { length (get_or handlers.now (slot user) []) ≤ 64 }
     requires caller { IsCaller user caller.now tables.old.rows }
@@ -73,10 +73,10 @@ pub fn called<F: Decider + Send + Drop, H>(
             sig,
             disposition,
             ..
-        } => Ok(sigaction(tables, caller, sig, disposition)),
-        Step::Kill { which, sig, .. } => Ok(kill(tables, settings, user, caller.pid, which, sig)),
-        Step::Wait4 { which, options, .. } => Ok(wait(tables, caller, which, options)),
-        Step::Handle { .. } => Ok(handle(tables, handlers, settings, user, caller)),
+        } => sigaction(tables, caller, sig, disposition),
+        Step::Kill { which, sig, .. } => kill(tables, settings, user, caller.pid, which, sig),
+        Step::Wait4 { which, options, .. } => wait(tables, caller, which, options),
+        Step::Handle { .. } => handle(tables, handlers, settings, user, caller),
         Step::Ptrace {
             request,
             target,

@@ -15,7 +15,6 @@ use lwp_table::{Due, LwpData, Mode};
 use pid_blocks::{Errno, Pid, Tid};
 use proc_table::{ProcData, State, Tables};
 use signals::{SigSet, Signal};
-use std::alloc::AllocError;
 use trace_rows::{StopInfo, stop};
 
 /// Returns the row of a fork's child. If `followed`, the parent's tracer traces it.
@@ -82,29 +81,33 @@ fn add_child(tables: &mut Tables, call: Call, p: &ProcData, l: &LwpData, pid: Pi
     }
 }
 
-/// Makes a child of the process, with one LWP. Refused with EAGAIN if the user has 250 processes or 1000 LWPs. An
-/// error means out of memory, and changes nothing.
-pub fn fork(tables: &mut Tables, call: Call, p: &ProcData, l: &LwpData) -> Result<Reply, AllocError>
+/// Makes a child of the process, with one LWP. Refused with EAGAIN if the user has 250 processes or 1000 LWPs, and with
+/// ENOMEM if memory runs out. A refusal changes nothing.
+pub fn fork(tables: &mut Tables, call: Call, p: &ProcData, l: &LwpData) -> Reply
     requires { IsActing p.now l.now tables.old.rows }
     ensures { let room = room_for_process p.now.uid tables.old.rows in
         Attempts true (forks call (mode_after call) p.now l.now tables.old.rows room) tables.old.rows
         tables.new.rows result }
 {
     let Some(pid) = room_for_pid(tables, p.uid) else {
-        return Ok(Reply::Errno(Errno::EAGAIN));
+        return Reply::Errno(Errno::EAGAIN);
     };
     let Some(tid) = room_for_lwp(tables, p.uid) else {
-        return Ok(Reply::Errno(Errno::EAGAIN));
+        return Reply::Errno(Errno::EAGAIN);
     };
-    tables.reserve_process(1)?;
-    tables.reserve_lwp(1)?;
+    let Ok(()) = tables.reserve_process(1) else {
+        return Reply::Errno(Errno::ENOMEM);
+    };
+    let Ok(()) = tables.reserve_lwp(1) else {
+        return Reply::Errno(Errno::ENOMEM);
+    };
     add_child(tables, call, p, l, pid, tid);
-    Ok(finish(
+    finish(
         tables,
         mode_after(call, pid),
         &exit_stop(p, call, pid.get()),
         new_reply(pid, tid),
         p,
         l,
-    ))
+    )
 }

@@ -4,8 +4,7 @@ ghost use Rattle.std.specs.Prelude.{◌≡◌, None, true, false, IfOk, IfErr, o
 ghost use Rattle.pid_blocks.specs.Users.{IsUser};
 ghost use Rattle.step_types.specs.declared.step.Step.TheVariants as op;
 ghost use Rattle.requests.specs.Callers.{IsCallerByNumber, Barred};
-ghost use Rattle.requests.specs.Hosts.{Steps, Tries};
-ghost use Rattle.requests.specs.Memory.{attempted_reply};
+ghost use Rattle.requests.specs.Hosts.{Steps};
 ghost use Rattle.step_types.specs.Plain.{installs};
 ghost use Rattle.requests.specs.Making.{Makes};
 ghost use Rattle.step_types.specs.Plain.{bare, with_handler};
@@ -35,16 +34,6 @@ fn fits<H>(step: &Step<H>)
     } = step
     {
         let _byte = *code;
-    }
-}
-
-/// Returns the reply of an attempt: ENOMEM if memory ran out.
-fn attempted_reply(attempted: Result<Reply, AllocError>) -> Reply
-    ensures { result ≡ attempted_reply attempted }
-{
-    match attempted {
-        Ok(reply) => reply,
-        Err(_) => Reply::Errno(Errno::ENOMEM),
     }
 }
 
@@ -156,50 +145,44 @@ impl<F: Decider + Send + Drop> Host<F> {
         Ok(asking)
     }
 
-    /// Installs a handler of the caller. Refused with EAGAIN if the user's debuggers have 64. An error means out of
-    /// memory, and changes nothing.
-    fn install(
-        &mut self,
-        alloc: Global,
-        user: Uid,
-        number: u32,
-        handler: Handler<F>,
-    ) -> Result<Reply, AllocError>
+    /// Installs a handler of the caller. Refused with EAGAIN if the user's debuggers have 64, and with ENOMEM if memory
+    /// runs out. A refusal changes nothing.
+    fn install(&mut self, alloc: Global, user: Uid, number: u32, handler: Handler<F>) -> Reply
         requires { IsUser user }
-        ensures { Tries user (op.Install number handler) self.old self.new result }
+        ensures { Steps user (op.Install number handler) self.old self.new result }
     {
         let caller = match self.caller(user, number) {
             Ok(caller) => caller,
-            Err(refusal) => return Ok(refusal),
+            Err(refusal) => return refusal,
         };
         if self.handlers.count(user) >= MAX_HANDLERS {
-            return Ok(Reply::Errno(Errno::EAGAIN));
+            return Reply::Errno(Errno::EAGAIN);
         }
         match self.handlers.install(alloc, user, caller.pid, handler) {
-            Ok(()) => Ok(Reply::Done),
-            Err(refused) => Err(refused),
+            Ok(()) => Reply::Done,
+            Err(_) => Reply::Errno(Errno::ENOMEM),
         }
     }
 
-    /// Makes a step of the user that installs no handler. An error means out of memory, and changes nothing.
-    fn attempt<H>(&mut self, alloc: Global, user: Uid, step: &Step<H>) -> Result<Reply, AllocError>
+    /// Makes a step of the user that installs no handler. Refused with ENOMEM if memory runs out, which changes nothing.
+    fn make<H>(&mut self, alloc: Global, user: Uid, step: &Step<H>) -> Reply
         requires user { IsUser user }
         requires other { installs (bare step.now) ≡ false }
-        ensures { Tries user (bare step.now) self.old self.new result }
+        ensures { Steps user (bare step.now) self.old self.new result }
     {
         fits(step);
         match step.caller() {
             None => {
-                let done = uncalled(&mut self.tables, &self.handlers, self.settings, user, step);
-                drop_ended(&mut self.handlers, &self.tables, user, step, &done);
-                done
+                let reply = uncalled(&mut self.tables, &self.handlers, self.settings, user, step);
+                drop_ended(&mut self.handlers, &self.tables, user, step, &reply);
+                reply
             }
             Some(number) => {
                 let caller = match self.caller(user, number) {
                     Ok(caller) => caller,
-                    Err(refusal) => return Ok(refusal),
+                    Err(refusal) => return refusal,
                 };
-                let done = called(
+                let reply = called(
                     &mut self.tables,
                     &self.handlers,
                     self.settings,
@@ -208,8 +191,8 @@ impl<F: Decider + Send + Drop> Host<F> {
                     &caller,
                     step,
                 );
-                drop_ended(&mut self.handlers, &self.tables, user, step, &done);
-                done
+                drop_ended(&mut self.handlers, &self.tables, user, step, &reply);
+                reply
             }
         }
     }
@@ -227,7 +210,7 @@ impl<F: Decider + Send + Drop> Host<F> {
         let Step::Install { caller, handler } = step else {
             unreachable!()
         };
-        attempted_reply(self.install(alloc, user, caller, handler))
+        self.install(alloc, user, caller, handler)
     }
 
     /// Makes a step of the user as `step` does, if it needs no handler. For an install it returns `None` and changes
@@ -244,6 +227,6 @@ impl<F: Decider + Send + Drop> Host<F> {
         if let Step::Install { .. } = step {
             return None;
         }
-        Some(attempted_reply(self.attempt(alloc, user, step)))
+        Some(self.make(alloc, user, step))
     }
 }

@@ -18,7 +18,6 @@ use event_masks::{Call, EventMask, StopFlags};
 use lwp_table::{Due, LwpData, Mode};
 use pid_blocks::Errno;
 use proc_table::{ProcData, Tables};
-use std::alloc::AllocError;
 use trace_rows::Settings;
 use trace_stop::end;
 
@@ -64,31 +63,33 @@ fn due_at_birth(p: &ProcData) -> Due
     }
 }
 
-/// thr_new: adds an LWP to the process. Refused with EAGAIN if the user has 1000. An error means out of memory, and
-/// changes nothing.
+/// thr_new: adds an LWP to the process. Refused with EAGAIN if the user has 1000, and with ENOMEM if memory runs out. A
+/// refusal changes nothing.
 #[tactic(auto, using(crate::proofs::HasLwpAfterChange::owns_itself))]
-fn make_lwp(tables: &mut Tables, p: &ProcData, l: &LwpData) -> Result<Reply, AllocError>
+fn make_lwp(tables: &mut Tables, p: &ProcData, l: &LwpData) -> Reply
     requires { IsActing p.now l.now tables.old.rows }
     ensures { let room = room_for_lwp p.now.uid tables.old.rows in
         Attempts true (makes_lwp p.now l.now tables.old.rows room) tables.old.rows tables.new.rows result }
 {
     let Some(tid) = room_for_lwp(tables, p.uid) else {
-        return Ok(Reply::Errno(Errno::EAGAIN));
+        return Reply::Errno(Errno::EAGAIN);
     };
-    tables.reserve_lwp(1)?;
+    let Ok(()) = tables.reserve_lwp(1) else {
+        return Reply::Errno(Errno::ENOMEM);
+    };
     tables.add_lwp(p.uid, LwpData::born(tid, p.pid, l.blocked, due_at_birth(p)));
-    Ok(finish(
+    finish(
         tables,
         Mode::User,
         &exit_stop(p, Call::ThrNew, 0),
         new_reply(p.pid, tid),
         p,
         l,
-    ))
+    )
 }
 
 /// Does the work of a call when its LWP leaves it. Refused with EAGAIN if a limit leaves no room for the process or
-/// LWP that the call makes. An error means out of memory, and changes nothing.
+/// LWP that the call makes, and with ENOMEM if memory runs out. A refusal changes nothing.
 #[tactic(auto, using(crate::proofs::HasLwpAfterChange::runs_live))]
 pub fn leave(
     tables: &mut Tables,
@@ -96,7 +97,7 @@ pub fn leave(
     call: Call,
     p: &ProcData,
     l: &LwpData,
-) -> Result<Reply, AllocError>
+) -> Reply
     requires sound { IsSound tables.old.rows }
     requires acting { IsActing p.now l.now tables.old.rows }
     requires runs { is_run p.now ≡ true }
@@ -106,13 +107,13 @@ pub fn leave(
     match call {
         Call::Fork => fork(tables, Call::Fork, p, l),
         Call::Vfork => fork(tables, Call::Vfork, p, l),
-        Call::Exec => Ok(exec(tables, p, l)),
+        Call::Exec => exec(tables, p, l),
         Call::ThrNew => make_lwp(tables, p, l),
-        Call::ThrExit => Ok(exit_lwp(tables, settings, p, l)),
-        Call::Exit(status) => Ok(exit(tables, settings, status, p)),
+        Call::ThrExit => exit_lwp(tables, settings, p, l),
+        Call::Exit(status) => exit(tables, settings, status, p),
         Call::Other(code) => {
             let shown = exit_stop(p, Call::Other(code), 0);
-            Ok(finish(tables, Mode::User, &shown, Reply::Done, p, l))
+            finish(tables, Mode::User, &shown, Reply::Done, p, l)
         }
     }
 }

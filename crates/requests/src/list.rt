@@ -7,7 +7,7 @@ ghost use Rattle.requests.specs.Memory.{Attempts};
 
 use crate::Reply;
 use lwpinfo::NumList;
-use pid_blocks::Uid;
+use pid_blocks::{Errno, Uid};
 use proc_table::Tables;
 use std::alloc::{AllocError, Global};
 
@@ -25,9 +25,12 @@ fn pids_of(tables: &Tables, alloc: Global, user: Uid) -> Result<NumList, AllocEr
     Ok(NumList::of(pids))
 }
 
-/// Lists the user's processes. An error means out of memory.
-pub fn list(tables: &Tables, alloc: Global, user: Uid) -> Result<Reply, AllocError>
+/// Lists the user's processes. Refused with ENOMEM if memory runs out.
+pub fn list(tables: &Tables, alloc: Global, user: Uid) -> Reply
     ensures { Attempts true (list user tables.now.rows) tables.now.rows tables.now.rows result }
 {
-    Ok(Reply::Pids(pids_of(tables, alloc, user)?))
+    match pids_of(tables, alloc, user) {
+        Ok(pids) => Reply::Pids(pids),
+        Err(_) => Reply::Errno(Errno::ENOMEM),
+    }
 }

@@ -26,14 +26,14 @@ use lwpinfo::{info, lwp_count, lwp_list};
 use pid_blocks::{Errno, Pid, Tid, Uid};
 use proc_table::{ProcData, State, Tables};
 use signals::Pass;
-use std::alloc::{AllocError, Global};
+use std::alloc::Global;
 use trace_rows::Stepping::{Nobody, Only};
 use trace_rows::{Resumption, Settings, Stepping};
 use trace_stop::{detach_process, resume_process};
 
 /// Makes a request of ptrace(2) by a process that runs. A target up to 99999 names a process, and its LWP that reports
-/// a stop. A greater one names an LWP, and its process. Refused as the manual page says. An error means out of memory
-/// for the list of PT_GETLWPLIST. A refused request changes nothing, and nor does an error.
+/// a stop. A greater one names an LWP, and its process. Refused as the manual page says, and with ENOMEM if memory runs
+/// out for the list of PT_GETLWPLIST. A refused request changes nothing.
 #[tactic(auto, using(std::proofs::lemmas::Bool::Decides::nat_tests, crate::proofs::SoundAfterRequest::target_within, crate::proofs::SoundAfterRequest::asks_tracee))]
 pub fn ptrace(
     tables: &mut Tables,
@@ -44,32 +44,32 @@ pub fn ptrace(
     request: Request,
     target: u32,
     arg: u32,
-) -> Result<Reply, AllocError>
+) -> Reply
     requires sound { IsSound tables.old.rows }
     requires caller { IsCaller user caller.now tables.old.rows }
     ensures { let outcome = ptrace settings user caller.now request target arg tables.old.rows in
         Attempts (lists request) outcome tables.old.rows tables.new.rows result }
 {
     if is_trace_me(request) {
-        return Ok(trace_me(tables, caller));
+        return trace_me(tables, caller);
     }
     let Some(process) = target_of(tables, user, target) else {
-        return Ok(Reply::Errno(Errno::ESRCH));
+        return Reply::Errno(Errno::ESRCH);
     };
     if !process.is_live() {
-        return Ok(Reply::Errno(Errno::ESRCH));
+        return Reply::Errno(Errno::ESRCH);
     }
     if is_attach(request) {
-        return Ok(attach(tables, caller, &process));
+        return attach(tables, caller, &process);
     }
     if process.tracer.is_none() {
-        return Ok(Reply::Errno(Errno::EPERM));
+        return Reply::Errno(Errno::EPERM);
     }
     if !process.is_traced_by(caller.pid) {
-        return Ok(Reply::Errno(Errno::EBUSY));
+        return Reply::Errno(Errno::EBUSY);
     }
     let Some(reporting) = process.reported_stop() else {
-        return Ok(Reply::Errno(Errno::EBUSY));
+        return Reply::Errno(Errno::EBUSY);
     };
     let lwp = named_lwp(target, reporting);
     command(tables, alloc, settings, request, arg, lwp, &process)
@@ -111,8 +111,8 @@ fn named_lwp(target: u32, reporting: Tid) -> Tid
     }
 }
 
-/// Makes a request of the tracer about an LWP of its stopped tracee. Refused with EINVAL if `arg` is wrong. An
-/// error means out of memory for a list of LWPs.
+/// Makes a request of the tracer about an LWP of its stopped tracee. Refused with EINVAL if `arg` is wrong, and with
+/// ENOMEM if memory runs out for a list of LWPs.
 #[inline(always)]
 #[tactic(auto, using(std::proofs::lemmas::Bool::Decides::nat_tests, crate::proofs::StoppedTracee::few_own, crate::proofs::StoppedTracee::given, crate::proofs::StoppedTracee::gives_as))]
 fn command(
@@ -123,7 +123,7 @@ fn command(
     arg: u32,
     lwp: Tid,
     process: &ProcData,
-) -> Result<Reply, AllocError>
+) -> Reply
     requires sound { IsSound tables.old.rows }
     requires at { process_of process.now.pid tables.old.rows.processes ≡ Some process.now }
     requires stopped { is_some (reporting process.now) ≡ true }
@@ -137,26 +137,26 @@ fn command(
     let entry = EventMask::PTRACE_SCE;
     let exit = EventMask::PTRACE_SCX;
     match request {
-        Request::TraceMe => Ok(Reply::Errno(Errno::EINVAL)),
-        Request::Attach => Ok(Reply::Errno(Errno::EBUSY)),
-        Request::Continue => Ok(resume_with(tables, settings, process, none, Nobody, arg)),
-        Request::ToSce => Ok(resume_with(tables, settings, process, entry, Nobody, arg)),
-        Request::ToScx => Ok(resume_with(tables, settings, process, exit, Nobody, arg)),
+        Request::TraceMe => Reply::Errno(Errno::EINVAL),
+        Request::Attach => Reply::Errno(Errno::EBUSY),
+        Request::Continue => resume_with(tables, settings, process, none, Nobody, arg),
+        Request::ToSce => resume_with(tables, settings, process, entry, Nobody, arg),
+        Request::ToScx => resume_with(tables, settings, process, exit, Nobody, arg),
         Request::Syscall => {
             let both = entry.with(exit);
-            Ok(resume_with(tables, settings, process, both, Nobody, arg))
+            resume_with(tables, settings, process, both, Nobody, arg)
         }
-        Request::Step => Ok(resume_with(tables, settings, process, none, Only(lwp), arg)),
-        Request::Suspend => Ok(suspend(tables, lwp, true)),
-        Request::Resume => Ok(suspend(tables, lwp, false)),
-        Request::Detach => Ok(detach_with(tables, settings, process, arg)),
-        Request::Kill => Ok(kill(tables, settings, process)),
-        Request::SetEventMask => Ok(set_events(tables, process, arg)),
-        Request::FollowFork => Ok(switch(tables, process, EventMask::PTRACE_FORK, arg)),
-        Request::LwpEvents => Ok(switch(tables, process, EventMask::PTRACE_LWP, arg)),
-        Request::GetEventMask => Ok(Reply::Mask(mask)),
-        Request::LwpInfo => Ok(show_lwp(tables, process, lwp)),
-        Request::GetNumLwps => Ok(Reply::Number(lwp_count(tables, pid) as u32)),
+        Request::Step => resume_with(tables, settings, process, none, Only(lwp), arg),
+        Request::Suspend => suspend(tables, lwp, true),
+        Request::Resume => suspend(tables, lwp, false),
+        Request::Detach => detach_with(tables, settings, process, arg),
+        Request::Kill => kill(tables, settings, process),
+        Request::SetEventMask => set_events(tables, process, arg),
+        Request::FollowFork => switch(tables, process, EventMask::PTRACE_FORK, arg),
+        Request::LwpEvents => switch(tables, process, EventMask::PTRACE_LWP, arg),
+        Request::GetEventMask => Reply::Mask(mask),
+        Request::LwpInfo => show_lwp(tables, process, lwp),
+        Request::GetNumLwps => Reply::Number(lwp_count(tables, pid) as u32),
         Request::GetLwpList => list_lwps(tables, alloc, pid, arg),
     }
 }
@@ -292,15 +292,18 @@ fn show_lwp(tables: &Tables, process: &ProcData, lwp: Tid) -> Reply
     }
 }
 
-/// PT_GETLWPLIST. Refused with EINVAL if the count is 0. An error means out of memory.
-fn list_lwps(tables: &Tables, alloc: Global, pid: Pid, count: u32) -> Result<Reply, AllocError>
+/// PT_GETLWPLIST. Refused with EINVAL if the count is 0, and with ENOMEM if memory runs out.
+fn list_lwps(tables: &Tables, alloc: Global, pid: Pid, count: u32) -> Reply
     ensures { let rows = tables.now.rows in
         Attempts true (if count == 0
         then refuses errno.EINVAL rows else answers (reply.Lwps (lwp_list pid count rows)) rows)
         rows rows result }
 {
     if count == 0 {
-        return Ok(Reply::Errno(Errno::EINVAL));
+        return Reply::Errno(Errno::EINVAL);
     }
-    Ok(Reply::Lwps(lwp_list(alloc, tables, pid, count)?))
+    match lwp_list(alloc, tables, pid, count) {
+        Ok(tids) => Reply::Lwps(tids),
+        Err(_) => Reply::Errno(Errno::ENOMEM),
+    }
 }

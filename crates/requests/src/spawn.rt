@@ -17,7 +17,6 @@ use lwp_table::{Due, LwpData};
 use pid_blocks::{Errno, Pid, Tid, Uid};
 use proc_table::{ProcData, State, Tables};
 use signals::{Dispositions, SigSet};
-use std::alloc::AllocError;
 
 /// Returns the number of the user's next LWP, or `None` if the user has 1000.
 pub fn room_for_lwp(tables: &Tables, user: Uid) -> Option<Tid>
@@ -66,20 +65,24 @@ pub fn new_reply(pid: Pid, tid: Tid) -> Reply
     Reply::New { pid, tid }
 }
 
-/// Makes a process of the user with one LWP. Refused with EAGAIN if the user has 250 processes or 1000 LWPs. An
-/// error means out of memory, and changes nothing.
-pub fn spawn(tables: &mut Tables, user: Uid) -> Result<Reply, AllocError>
+/// Makes a process of the user with one LWP. Refused with EAGAIN if the user has 250 processes or 1000 LWPs, and with
+/// ENOMEM if memory runs out. A refusal changes nothing.
+pub fn spawn(tables: &mut Tables, user: Uid) -> Reply
     ensures { Attempts true (spawn user tables.old.rows) tables.old.rows tables.new.rows result }
 {
     let Some(pid) = room_for_pid(tables, user) else {
-        return Ok(Reply::Errno(Errno::EAGAIN));
+        return Reply::Errno(Errno::EAGAIN);
     };
     let Some(tid) = room_for_lwp(tables, user) else {
-        return Ok(Reply::Errno(Errno::EAGAIN));
+        return Reply::Errno(Errno::EAGAIN);
     };
-    tables.reserve_process(1)?;
-    tables.reserve_lwp(1)?;
+    let Ok(()) = tables.reserve_process(1) else {
+        return Reply::Errno(Errno::ENOMEM);
+    };
+    let Ok(()) = tables.reserve_lwp(1) else {
+        return Reply::Errno(Errno::ENOMEM);
+    };
     tables.add_process(spawned(pid, user));
     tables.add_lwp(user, LwpData::born(tid, pid, SigSet::empty(), Due::Nothing));
-    Ok(new_reply(pid, tid))
+    new_reply(pid, tid)
 }

@@ -25,7 +25,6 @@ use lwp_table::{Due, LwpData, Mode};
 use pid_blocks::{Errno, Tid, Uid};
 use proc_table::{ProcData, State, Tables};
 use signals::{Action, Disposition, Signal, default_action};
-use std::alloc::AllocError;
 use trace_rows::{Settings, StopInfo, post_sigchld};
 use trace_stop::end;
 
@@ -173,15 +172,15 @@ fn take_due(tables: &mut Tables, p: &ProcData, l: &LwpData, shown: &StopInfo) ->
     stop_with(tables, p, l, shown)
 }
 
-/// Performs the act of an LWP, by its mode. Refused with EINVAL if the mode doesn't allow the act. An error means
-/// out of memory, and changes nothing.
+/// Performs the act of an LWP, by its mode. Refused with EINVAL if the mode doesn't allow the act, and with ENOMEM if
+/// memory runs out. A refusal changes nothing.
 fn act_in_mode(
     tables: &mut Tables,
     settings: Settings,
     act: Act,
     p: &ProcData,
     l: &LwpData,
-) -> Result<Reply, AllocError>
+) -> Reply
     requires sound { IsSound tables.old.rows }
     requires acting { IsActing p.now l.now tables.old.rows }
     requires runs { is_run p.now ≡ true }
@@ -189,61 +188,49 @@ fn act_in_mode(
         Attempts (leaves_making act l.now.mode) outcome tables.old.rows tables.new.rows result }
 {
     match l.mode {
-        Mode::User => Ok(act_in_user_mode(tables, settings, act, p, l)),
+        Mode::User => act_in_user_mode(tables, settings, act, p, l),
         Mode::InCall(call) => match act {
             Act::Leave => leave(tables, settings, call, p, l),
             Act::Compute | Act::Raise(_) | Act::Block(_) | Act::Enter(_) => {
-                Ok(Reply::Errno(Errno::EINVAL))
+                Reply::Errno(Errno::EINVAL)
             }
         },
-        Mode::VforkWait(_) => Ok(Reply::Errno(Errno::EINVAL)),
+        Mode::VforkWait(_) => Reply::Errno(Errno::EINVAL),
     }
 }
 
-/// Makes the turn of an LWP of a process. `Held` if the process doesn't run, or the LWP is suspended or waits. An
-/// error means out of memory, and changes nothing.
-fn turn_of(
-    tables: &mut Tables,
-    settings: Settings,
-    act: Act,
-    p: &ProcData,
-    l: &LwpData,
-) -> Result<Reply, AllocError>
+/// Makes the turn of an LWP of a process. `Held` if the process doesn't run, or the LWP is suspended or waits. Refused
+/// with ENOMEM if memory runs out, which changes nothing.
+fn turn_of(tables: &mut Tables, settings: Settings, act: Act, p: &ProcData, l: &LwpData) -> Reply
     requires sound { IsSound tables.old.rows }
     requires acting { IsActing p.now l.now tables.old.rows }
     ensures { let outcome = turn_of settings act p.now l.now tables.old.rows in
         Attempts (turn_makes act (Some l.now)) outcome tables.old.rows tables.new.rows result }
 {
     if !p.is_run() || l.suspended || waits(l.mode) {
-        return Ok(Reply::Held);
+        return Reply::Held;
     }
     match due_stop(l.due) {
-        Some(shown) => Ok(take_due(tables, p, l, &shown)),
+        Some(shown) => take_due(tables, p, l, &shown),
         None => match next_signal(p, l) {
-            Some(signal) => Ok(take_signal(tables, settings, signal, p, l)),
+            Some(signal) => take_signal(tables, settings, signal, p, l),
             None => act_in_mode(tables, settings, act, p, l),
         },
     }
 }
 
 /// Makes the turn of the user's LWP with this number: a due stop, a signal, or its act. Refused with ESRCH if the
-/// user has no such LWP. An error means out of memory, and changes nothing.
-pub fn turn(
-    tables: &mut Tables,
-    settings: Settings,
-    user: Uid,
-    tid: u32,
-    act: Act,
-) -> Result<Reply, AllocError>
+/// user has no such LWP, and with ENOMEM if memory runs out. A refusal changes nothing.
+pub fn turn(tables: &mut Tables, settings: Settings, user: Uid, tid: u32, act: Act) -> Reply
     requires sound { IsSound tables.old.rows }
     ensures { let outcome = turn settings user tid act tables.old.rows in
         Attempts (turn_makes act (seen_lwp user tid tables.old.rows)) outcome tables.old.rows tables.new.rows result }
 {
     let Some(l) = tables.seen_lwp(user, tid) else {
-        return Ok(Reply::Errno(Errno::ESRCH));
+        return Reply::Errno(Errno::ESRCH);
     };
     let Some(p) = tables.process(l.pid) else {
-        return Ok(Reply::Errno(Errno::ESRCH));
+        return Reply::Errno(Errno::ESRCH);
     };
     turn_of(tables, settings, act, &p, &l)
 }
