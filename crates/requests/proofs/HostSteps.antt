@@ -2,7 +2,7 @@
 use Rattle.requests.proofs.CommonNames.{ℕ, List, [], ◌∷◌, ◌++◌, set, slot, Rule, Machine, After, installed_by, Reply, ◌≡◌, ◌+◌, ◌<◌, length, map, filter, Bool, true, sym, ap, ◌∙◌, arith, subst}
 use Rattle.requests.proofs.CommonNames.{get_or, length-map, IsUser, Rows, PlainStep, Outcome, Installed, is_live_at, after, sound, step, put_at, slots_differ, either, get_or-map, length-set}
 use Rattle.requests.proofs.CommonNames.{get_or-set_other, ◌≢◌, Some, None, false, refl, inl, inr, set-get_or, answers, nat_tests, takes_memory, is_refusal, may_want, step_fits, Steps, ProcData, calls}
-use Rattle.requests.proofs.CommonNames.{caller_of, le-leb, not, ◌≤◌, if◌then◌else◌, cases_Bool, Errno, Step, Attempts, uncalled, installs, outcome_of, step_of}
+use Rattle.requests.proofs.CommonNames.{caller_of, le-leb, not, ◌≤◌, if◌then◌else◌, Errno, Step, Attempts, uncalled, installs, outcome_of, step_of}
 use Rattle.requests.proofs.CommonNames.{IsCaller, IsCallerByNumber, Barred, may_end}
 use Rattle.requests.specs.View.{view}
 use Rattle.requests.proofs.SoundWithoutEnded.{slots_of, same_at, all_left, left_live, answers_same, rows_sound}

@@ -19,6 +19,7 @@ pub mod IsolationOfHosts
 pub mod IsolationLaws
 pub mod SoundHostIsApart
 pub mod HasLwpAfterChange
+pub mod SeenTurns
 pub mod HostSteps
 pub mod SoundAfterActing
 pub mod SoundAfterMask

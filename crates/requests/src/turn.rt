@@ -1,6 +1,6 @@
 //! The turn of an LWP: a due stop, a signal, or its act.
 
-ghost use Rattle.std.specs.Prelude.{◌≡◌, true, false, Some};
+ghost use Rattle.std.specs.Prelude.{◌≡◌, true, false, Some, IfSome};
 ghost use Rattle.signals.specs.Table.{disposition_of};
 ghost use Rattle.lwp_table.specs.declared.Due.TheVariants as due;
 ghost use Rattle.trace_rows.specs.Sound.{is_live_at};
@@ -136,6 +136,7 @@ fn take_untraced(
 }
 
 /// Takes a pending signal of an LWP. A traced process stops; an untraced one acts by the signal's disposition.
+#[inline(never)]
 fn take_signal(
     tables: &mut Tables,
     settings: Settings,
@@ -157,19 +158,23 @@ fn take_signal(
     }
 }
 
-/// Stops the LWP with its due stop, and clears it.
+/// Stops the LWP with its due stop, and clears it. It is apart, so that other turns need no room for a stop.
+#[inline(never)]
 #[tactic(auto, using(proc_table::proofs::Stays::lwp_there))]
-fn take_due(tables: &mut Tables, p: &ProcData, l: &LwpData, shown: &StopInfo) -> Reply
+fn take_due(tables: &mut Tables, p: &ProcData, l: &LwpData) -> Reply
     requires { IsActing p.now l.now tables.old.rows }
     ensures { let cleared = change_lwp l.now.tid (λ k. record k { due = due.Nothing }) tables.old.rows in
-        Gives (stops_with shown.now p.now l.now cleared) tables.new.rows result }
+        IfSome (due_stop l.now.due) (λ shown. Gives (stops_with shown p.now l.now cleared) tables.new.rows result) }
 {
+    let Some(shown) = due_stop(l.due) else {
+        return Reply::Held;
+    };
     tables.assert_invariant();
     tables.set_lwp(LwpData {
         due: Due::Nothing,
         ..*l
     });
-    stop_with(tables, p, l, shown)
+    stop_with(tables, p, l, &shown)
 }
 
 /// Performs the act of an LWP, by its mode. Refused with EINVAL if the mode doesn't allow the act, and with ENOMEM if
@@ -210,26 +215,31 @@ fn turn_of(tables: &mut Tables, settings: Settings, act: Act, p: &ProcData, l: &
     if !p.is_run() || l.suspended || waits(l.mode) {
         return Reply::Held;
     }
-    match due_stop(l.due) {
-        Some(shown) => take_due(tables, p, l, &shown),
-        None => match next_signal(p, l) {
+    match l.due {
+        Due::Nothing => match next_signal(p, l) {
             Some(signal) => take_signal(tables, settings, signal, p, l),
             None => act_in_mode(tables, settings, act, p, l),
         },
+        Due::Born | Due::Begun | Due::VforkDone => take_due(tables, p, l),
     }
 }
 
 /// Makes the turn of the user's LWP with this number: a due stop, a signal, or its act. Refused with ESRCH if the
 /// user has no such LWP, and with ENOMEM if memory runs out. A refusal changes nothing.
+#[tactic(auto, using(crate::proofs::SeenTurns::turn_laws))]
 pub fn turn(tables: &mut Tables, settings: Settings, user: Uid, tid: u32, act: Act) -> Reply
     requires sound { IsSound tables.old.rows }
     ensures { let outcome = turn settings user tid act tables.old.rows in
         Attempts (turn_makes act (seen_lwp user tid tables.old.rows)) outcome tables.old.rows tables.new.rows result }
 {
-    let Some(l) = tables.seen_lwp(user, tid) else {
+    tables.assert_invariant();
+    let Some(number) = Tid::new(tid) else {
         return Reply::Errno(Errno::ESRCH);
     };
-    let Some(p) = tables.process(l.pid) else {
+    let Some(l) = tables.lwp(number) else {
+        return Reply::Errno(Errno::ESRCH);
+    };
+    let Some(p) = tables.visible_process(user, l.pid.get()) else {
         return Reply::Errno(Errno::ESRCH);
     };
     turn_of(tables, settings, act, &p, &l)

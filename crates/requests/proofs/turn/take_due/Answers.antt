@@ -10,4 +10,4 @@ pub stop_with-requires : goal.stop_with-requires
 stop_with-requires c = grind (arith, nat_tests, gone c.args.p.now c.args.l.now c.args.tables.now.rows c.set_lwp.new.self.rows c.assert_invariant.ensures c.requires c.set_lwp.ensures.rows, has-lwp_changed c.args.l.now.tid (λ k. record k { due = Due.Nothing }) (λ k. refl) (λ k. refl) c.args.p.now.pid c.args.l.now.tid c.args.tables.now.rows (acting_has c.args.p.now c.args.l.now c.args.tables.now.rows c.requires))
 
 pub returns : goal.returns
-returns c = record { rows = search (rules, gone); reply = search rules }
+returns c = rw (sym c.due_stop.ensures ∙ c.in-Some.is) (record { rows = search (rules, gone); reply = search rules })
