@@ -1,6 +1,7 @@
 //! A search on disk: what was met so far, whole or not at all.
 
 use crate::hash::{Hasher, Key};
+use crate::list::List;
 use crate::set::PARTS;
 use std::fs::{self, File};
 use std::io::{self, BufReader, BufWriter, Error, ErrorKind, Read, Write};
@@ -14,8 +15,8 @@ pub type Identity = Vec<(&'static str, String)>;
 /// A part of the set, its links and its front.
 #[derive(Clone, Debug, PartialEq, Eq)]
 pub struct SavedPart {
-    pub keys: Vec<Key>,
-    pub links: Vec<u64>,
+    pub keys: List<Key>,
+    pub links: List<u64>,
     /// The place of the first state of the front, and its spots.
     pub first: usize,
     pub spots: Vec<u8>,
@@ -23,17 +24,17 @@ pub struct SavedPart {
 
 /// The same, to be written.
 pub struct PartToSave<'a> {
-    pub keys: &'a [Key],
-    pub links: &'a [u64],
+    pub keys: &'a List<Key>,
+    pub links: &'a List<u64>,
     pub first: usize,
-    pub spots: &'a [u8],
+    pub spots: Vec<u8>,
 }
 
-/// A search between two levels, to be written.
-pub struct ToSave<'a> {
+/// A search between two levels, to be written: one part is there at a time.
+pub struct ToSave<P> {
     pub depth: u64,
     pub transitions: u64,
-    pub parts: Vec<PartToSave<'a>>,
+    pub parts: P,
 }
 
 /// A search between two levels.
@@ -55,7 +56,7 @@ impl<W: Write> Output<W> {
         self.to.write_all(&word.to_le_bytes())
     }
 
-    fn words(&mut self, words: &[u64]) -> io::Result<()> {
+    fn words(&mut self, words: &List<u64>) -> io::Result<()> {
         self.word(words.len() as u64)?;
         words.iter().try_for_each(|word| self.word(*word))
     }
@@ -99,7 +100,7 @@ impl<R: Read> Input<R> {
         Ok(count as usize)
     }
 
-    fn words(&mut self) -> io::Result<Vec<u64>> {
+    fn words(&mut self) -> io::Result<List<u64>> {
         (0..self.count()?).map(|_| self.word()).collect()
     }
 
@@ -122,7 +123,11 @@ impl<R: Read> Input<R> {
 }
 
 /// Writes a search into the file. If that fails the file is as it was.
-pub fn write(path: &Path, identity: &Identity, saved: &ToSave) -> io::Result<()> {
+pub fn write<'a>(
+    path: &Path,
+    identity: &Identity,
+    saved: ToSave<impl Iterator<Item = PartToSave<'a>>>,
+) -> io::Result<()> {
     let new = crate::found::unfinished(path);
     let written = write_new(&new, identity, saved).and_then(|()| fs::rename(&new, path));
     if written.is_err() {
@@ -131,7 +136,11 @@ pub fn write(path: &Path, identity: &Identity, saved: &ToSave) -> io::Result<()>
     written
 }
 
-fn write_new(path: &Path, identity: &Identity, saved: &ToSave) -> io::Result<()> {
+fn write_new<'a>(
+    path: &Path,
+    identity: &Identity,
+    saved: ToSave<impl Iterator<Item = PartToSave<'a>>>,
+) -> io::Result<()> {
     let file = File::create(path)?;
     let mut output = Output {
         to: BufWriter::with_capacity(1 << 20, &file),
@@ -145,15 +154,15 @@ fn write_new(path: &Path, identity: &Identity, saved: &ToSave) -> io::Result<()>
     }
     output.word(saved.depth)?;
     output.word(saved.transitions)?;
-    for part in &saved.parts {
+    for part in saved.parts {
         output.word(part.keys.len() as u64)?;
-        for key in part.keys {
+        for key in part.keys.iter() {
             output.word(key.0)?;
             output.word(key.1)?;
         }
         output.words(part.links)?;
         output.word(part.first as u64)?;
-        output.bytes(part.spots)?;
+        output.bytes(&part.spots)?;
     }
     let Key(first, second) = output.sum.key();
     output.word(first)?;
@@ -258,14 +267,14 @@ mod tests {
             keys: &part.keys,
             links: &part.links,
             first: part.first,
-            spots: &part.spots,
+            spots: part.spots.clone(),
         });
         let saved = ToSave {
             depth: saved.depth,
             transitions: saved.transitions,
-            parts: parts.collect(),
+            parts,
         };
-        write(file, identity, &saved).expect("a file");
+        write(file, identity, saved).expect("a file");
     }
 
     fn identity(model: &str) -> Identity {

@@ -1,6 +1,7 @@
 //! The set of the states that were met.
 
 use crate::hash::Key;
+use crate::list::List;
 
 /// How many parts a set has, whatever the number of threads. A key's part is given by what the users see.
 pub const PARTS: usize = 64;
@@ -46,52 +47,106 @@ impl Link {
     }
 }
 
-/// A part of the set: keys by their places, and an index of them by open addressing.
+/// Places of keys, by open addressing: a place + 1 in as few bits as an index of this size needs, and above them some of its
+/// key's; 0 is free.
+#[derive(Debug)]
+struct Index {
+    entries: Vec<u32>,
+    /// The bits that a place needs.
+    mask: u32,
+}
+
+impl Index {
+    fn new(size: usize) -> Index {
+        Index {
+            entries: vec![0; size],
+            mask: (size.next_power_of_two() - 1) as u32,
+        }
+    }
+
+    /// The first slot of a key, in an index of any size.
+    fn slot(&self, key: Key) -> usize {
+        (u64::from(key.1 as u32) * self.entries.len() as u64 >> 32) as usize
+    }
+
+    /// The slot after this one.
+    fn after(&self, slot: usize) -> usize {
+        if slot + 1 == self.entries.len() {
+            0
+        } else {
+            slot + 1
+        }
+    }
+
+    /// The bits of a key that are in the index.
+    fn tag(&self, key: Key) -> u32 {
+        key.0 as u32 & !self.mask
+    }
+
+    /// The first place that is wanted, of those whose keys have the same bits in the index.
+    fn find(&self, key: Key, is_wanted: impl Fn(u32) -> bool) -> Option<u32> {
+        let (mut slot, tag) = (self.slot(key), self.tag(key));
+        while self.entries[slot] != 0 {
+            let place = self.entries[slot] ^ tag;
+            if place <= self.mask && is_wanted(place - 1) {
+                return Some(place - 1);
+            }
+            slot = self.after(slot);
+        }
+        None
+    }
+
+    fn add(&mut self, key: Key, place: u32) {
+        let mut slot = self.slot(key);
+        while self.entries[slot] != 0 {
+            slot = self.after(slot); // a quarter is free
+        }
+        self.entries[slot] = self.tag(key) | (place + 1);
+    }
+}
+
+/// A part of the set: keys by their places, and an index of them.
 #[derive(Debug)]
 pub struct Part {
-    keys: Vec<Key>,
-    /// A place + 1 in as few bits as an index of this size needs, and above them some of its key's; 0 is free.
-    index: Vec<u32>,
+    keys: List<Key>,
+    index: Index,
 }
 
 const SMALLEST: usize = 16;
 
 impl Part {
     pub fn new() -> Part {
-        Part {
-            keys: Vec::new(),
-            index: vec![0; SMALLEST],
-        }
+        Part::of_keys(List::new())
     }
 
     /// A part with these keys, all different.
-    pub fn of_keys(keys: Vec<Key>) -> Part {
+    pub fn of_keys(keys: List<Key>) -> Part {
         let mut part = Part {
             keys,
-            index: Vec::new(),
+            index: Index::new(0),
         };
         part.index_anew();
         part
     }
 
-    pub fn keys(&self) -> &[Key] {
+    pub fn keys(&self) -> &List<Key> {
         &self.keys
     }
 
     /// Bytes of memory, also those that are kept for more keys.
     pub fn bytes(&self) -> usize {
-        self.keys.capacity() * std::mem::size_of::<Key>() + self.index.capacity() * 4
+        self.keys.bytes() + self.index.entries.capacity() * 4
     }
 
     /// A word that a look at this key needs: those of many keys are read first, since a processor waits for all of them as long
     /// as for one.
     pub fn near(&self, key: Key) -> u32 {
-        self.index[self.slot(key)]
+        self.index.entries[self.index.slot(key)]
     }
 
     /// The first place that may be that of a key.
     pub fn candidate(&self, key: Key) -> Option<u32> {
-        self.candidates(key).next()
+        self.index.find(key, |_| true)
     }
 
     /// The place of a key, if it is its candidate.
@@ -101,61 +156,28 @@ impl Part {
 
     /// The place of a key, and whether it is new.
     pub fn insert(&mut self, key: Key) -> (u32, bool) {
-        if let Some(place) = self.candidates(key).find(|place| self.is_at(key, *place)) {
+        if let Some(place) = self.index.find(key, |place| self.is_at(key, place)) {
             return (place, false);
         }
         let place = u32::try_from(self.keys.len()).expect("a part has less than 2^32 states");
         self.keys.push(key);
-        if self.keys.len() * 4 >= self.index.len() * 3 {
+        if self.keys.len() * 4 >= self.index.entries.len() * 3 {
             self.index_anew();
         } else {
-            self.add(key, place);
+            self.index.add(key, place);
         }
         (place, true)
     }
 
-    fn slot(&self, key: Key) -> usize {
-        key.1 as usize & (self.index.len() - 1)
-    }
-
-    /// What is around the first slot of a key, up to a free one.
-    fn slots(&self, key: Key) -> impl Iterator<Item = usize> {
-        let (first, last) = (self.slot(key), self.index.len() - 1);
-        (0..).map(move |n| first.wrapping_add(n) & last)
-    }
-
-    /// The bits of a key that are in the index.
-    fn tag(&self, key: Key) -> u32 {
-        let places = self.index.len() as u64 - 1;
-        key.0 as u32 & !(places as u32)
-    }
-
-    /// The places whose keys have the same bits in the index.
-    fn candidates(&self, key: Key) -> impl Iterator<Item = u32> + '_ {
-        let tag = self.tag(key);
-        let known = self
-            .slots(key)
-            .map(|slot| self.index[slot])
-            .take_while(|entry| *entry != 0);
-        known
-            .map(move |entry| entry ^ tag)
-            .filter(|place| (*place as usize) < self.index.len())
-            .map(|place| place - 1)
-    }
-
-    fn add(&mut self, key: Key, place: u32) {
-        let free = self.slots(key).find(|slot| self.index[*slot] == 0);
-        let entry = self.tag(key) | (place + 1);
-        self.index[free.expect("a quarter is free")] = entry;
-    }
-
+    /// Makes the index anew, half free. It grows by a half: if it doubled, all parts would have too much at about one time.
     fn index_anew(&mut self) {
-        let size = (self.keys.len() * 2).next_power_of_two().max(SMALLEST);
-        self.index.clear();
-        self.index.resize(size, 0);
-        for place in 0..self.keys.len() {
-            self.add(self.keys[place], place as u32);
-        }
+        let size = (self.keys.len() * 2).max(SMALLEST);
+        self.index.entries = Vec::new(); // before there is another
+        self.index = Index::new(size);
+        let index = &mut self.index;
+        (0..)
+            .zip(self.keys.iter())
+            .for_each(|(place, key)| index.add(*key, place));
     }
 }
 
@@ -178,7 +200,7 @@ mod tests {
             let place = part.candidate(key(n)).filter(|place| part.is_at(key(n), *place));
             assert_eq!(place, (n < 5000).then_some(n as u32));
         }
-        let mut again = Part::of_keys(part.keys().to_vec());
+        let mut again = Part::of_keys(part.keys().clone());
         assert_eq!(again.insert(key(4999)), (4999, false));
         assert_eq!(again.insert(key(5000)), (5000, true));
     }

@@ -1,43 +1,46 @@
 //! The states that one thread owns: what was met, and the front.
 
 use crate::hash::Key;
-use crate::packed::{pack, unpack};
+use crate::list::List;
+use crate::packed::Packing;
 use crate::set::{Part, PARTS};
+use crate::spots::Spots;
 use std::sync::RwLock;
 
 /// The links of all states, but those of the level that is being made.
-pub type Links = Vec<RwLock<Vec<u64>>>;
+pub type Links = Vec<RwLock<List<u64>>>;
 
 pub fn no_links() -> Links {
-    (0..PARTS).map(|_| RwLock::default()).collect()
+    (0..PARTS).map(|_| RwLock::new(List::new())).collect()
 }
 
 /// A part of the set, and those of its states whose next ones aren't known yet.
 pub struct Level {
     pub set: Part,
     /// The links of the level that is being made, their orders, and its spots.
-    pub links: Vec<u64>,
-    orders: Vec<u64>,
-    spots: Vec<u8>,
-    /// Where each state's spot begins, if it may be exchanged for another.
-    starts: Vec<usize>,
+    pub links: List<u64>,
+    orders: List<u64>,
+    spots: Spots,
+    /// Where each state's spot is, if it may be exchanged for another.
+    starts: List<usize>,
     /// The place of its first state.
     pub first: usize,
 }
 
 impl Level {
     /// The spots of the level, in the order of its states.
-    fn take_spots(&mut self, width: usize) -> Vec<u8> {
+    fn take_spots(&mut self, packing: &mut Packing, width: usize) -> Spots {
         let spots = std::mem::take(&mut self.spots);
-        if self.starts.is_empty() {
+        if self.starts.len() == 0 {
             return spots;
         }
         let mut words = vec![0; width];
-        let mut kept = Vec::new();
-        for start in self.starts.drain(..) {
-            unpack(&spots[start..], &mut words);
-            pack(&words, &mut kept);
+        let mut kept = Spots::default();
+        for start in self.starts.iter() {
+            packing.unpack(spots.at(*start), &mut words);
+            kept.add(packing, &words);
         }
+        self.starts.clear();
         kept
     }
 }
@@ -49,6 +52,7 @@ pub struct Store {
     /// Whether states with one key have different spots. Then that of the lowest order is kept.
     symmetric: bool,
     pub levels: Vec<Level>,
+    pub packing: Packing,
 }
 
 /// The states of a part that are to be expanded.
@@ -56,8 +60,8 @@ pub struct Front {
     pub part: usize,
     pub first: usize,
     pub count: usize,
-    /// Where their processes are, packed.
-    pub spots: Vec<u8>,
+    /// Where their processes are, as the store has packed it.
+    pub spots: Spots,
 }
 
 impl Store {
@@ -65,10 +69,10 @@ impl Store {
         let count = (thread..PARTS).step_by(threads).count();
         let level = || Level {
             set: Part::new(),
-            links: Vec::new(),
-            orders: Vec::new(),
-            spots: Vec::new(),
-            starts: Vec::new(),
+            links: List::new(),
+            orders: List::new(),
+            spots: Spots::default(),
+            starts: List::new(),
             first: 0,
         };
         Store {
@@ -76,13 +80,14 @@ impl Store {
             threads,
             symmetric,
             levels: (0..count).map(|_| level()).collect(),
+            packing: Packing::default(),
         }
     }
 
-    /// The level of a part that this thread owns.
-    pub fn level(&mut self, part: usize) -> &mut Level {
+    /// The level of a part that this thread owns, and how its spots are packed.
+    pub fn level(&mut self, part: usize) -> (&mut Level, &mut Packing) {
         debug_assert_eq!(part % self.threads, self.thread, "a part of this thread");
-        &mut self.levels[part / self.threads]
+        (&mut self.levels[part / self.threads], &mut self.packing)
     }
 
     /// The set of such a part.
@@ -98,15 +103,15 @@ impl Store {
     /// Adds a state, and returns whether it is new. Of two ways to a state of the level, that of the lower order is kept.
     pub fn insert(&mut self, part: usize, key: Key, spot: &[u64], (link, order): (u64, u64)) -> bool {
         let symmetric = self.symmetric;
-        let level = self.level(part);
+        let (level, packing) = self.level(part);
         let (place, is_new) = level.set.insert(key);
         if is_new {
             level.links.push(link);
             level.orders.push(order);
+            let start = level.spots.add(packing, spot);
             if symmetric {
-                level.starts.push(level.spots.len());
+                level.starts.push(start);
             }
-            pack(spot, &mut level.spots);
         } else {
             self.meet(part, place, spot, (link, order));
         }
@@ -116,14 +121,13 @@ impl Store {
     /// Adds another way to a state.
     pub fn meet(&mut self, part: usize, place: u32, spot: &[u64], (link, order): (u64, u64)) {
         let symmetric = self.symmetric;
-        let level = self.level(part);
+        let (level, packing) = self.level(part);
         if let Some(place) = (place as usize).checked_sub(level.first) {
             if order < level.orders[place] {
                 level.orders[place] = order;
                 level.links[place] = link;
                 if symmetric {
-                    level.starts[place] = level.spots.len();
-                    pack(spot, &mut level.spots);
+                    level.starts[place] = level.spots.add(packing, spot);
                 }
             }
         }
@@ -138,7 +142,7 @@ impl Store {
             known.append(&mut level.links);
             let first = std::mem::replace(&mut level.first, level.set.keys().len());
             level.orders.clear();
-            let (count, spots) = (level.first - first, level.take_spots(width));
+            let (count, spots) = (level.first - first, level.take_spots(&mut self.packing, width));
             if count > 0 {
                 fronts.push(Front {
                     part,
@@ -154,8 +158,9 @@ impl Store {
     /// The bytes of the set, with all links, and of the level that is being made.
     pub fn bytes(&self) -> usize {
         let of = |level: &Level| {
-            let words = level.first + level.links.capacity() + level.orders.capacity();
-            level.set.bytes() + (words + level.starts.capacity()) * 8 + level.spots.capacity()
+            let lists = [&level.links, &level.orders].map(List::bytes);
+            let known = level.first * std::mem::size_of::<u64>();
+            level.set.bytes() + known + lists[0] + lists[1] + level.starts.bytes() + level.spots.bytes()
         };
         self.levels.iter().map(of).sum()
     }

@@ -23,6 +23,7 @@ Searches all interleavings of a debugger that has a race.
   --threads N         threads; as many as the machine runs at once
   --limit N           the most states (1000000)
   --memory MIB        the most memory for the states (4096)
+  --answers N         the most answers that are kept, of 50 bytes each (4194304)
   --progress SECONDS  prints lines to standard error
   --checkpoint FILE   writes the search into the file now and then
   --every SECONDS     how often (60)
@@ -80,6 +81,7 @@ fn set(options: &mut Options, option: &str, words: &mut impl Iterator<Item = OsS
         "--threads" => options.threads = number(option, words)?,
         "--limit" => options.limit = number(option, words)?,
         "--memory" => options.memory = number::<usize>(option, words)?.saturating_mul(1 << 20),
+        "--answers" => options.answers = number(option, words)?,
         "--progress" => options.progress = Some(Duration::from_secs(number(option, words)?)),
         "--every" => options.every = Duration::from_secs(number(option, words)?),
         "--checkpoint" => options.checkpoint = Some(value(option, words)?.into()),
