@@ -66,7 +66,7 @@ impl Index {
 
     /// The first slot of a key, in an index of any size.
     fn slot(&self, key: Key) -> usize {
-        (u64::from(key.1 as u32) * self.entries.len() as u64 >> 32) as usize
+        ((u64::from(key.1 as u32) * self.entries.len() as u64) >> 32) as usize
     }
 
     /// The slot after this one.
@@ -203,6 +203,23 @@ mod tests {
         let mut again = Part::of_keys(part.keys().clone());
         assert_eq!(again.insert(key(4999)), (4999, false));
         assert_eq!(again.insert(key(5000)), (5000, true));
+    }
+
+    /// At each size, and so while it grows.
+    #[test]
+    fn the_index_takes_eight_bytes_a_key_at_most() {
+        let mut part = Part::new();
+        let key = |n: u64| Key(mixed(n), mixed(n ^ 0x5eed));
+        for n in 0..100_000 {
+            assert_eq!(part.insert(key(n)), (n as u32, true));
+            let entries = part.index.entries.len();
+            assert!(entries <= SMALLEST.max(2 * part.keys.len()), "{n}: {entries}");
+            assert!(part.keys.len() * 4 < entries * 3, "{n}: a quarter is free");
+        }
+        for n in 0..200_000 {
+            let place = part.index.find(key(n), |place| part.is_at(key(n), place));
+            assert_eq!(place, (n < 100_000).then_some(n as u32));
+        }
     }
 
     #[test]
