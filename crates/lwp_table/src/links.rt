@@ -196,8 +196,17 @@ pub fn slot_of(
     let hint = hints.slot(tid);
     match rows.get(hint) {
         Some(node) if node.row.tid == tid => hint,
-        _ => *slots.get(&tid.get()).unwrap(),
+        _ => indexed_slot(slots, tid),
     }
+}
+
+/// Returns the slot to which the index leads from this number.
+#[inline(never)]
+fn indexed_slot(slots: &NumberIndex<usize>, tid: Tid) -> usize
+    requires { IsSome (lookup (nat_eq tid) slots.now.entries) }
+    ensures { lookup (nat_eq tid) slots.now.entries ≡ Some result }
+{
+    *slots.get(&tid.get()).unwrap()
 }
 
 /// Returns the slot with the least birth number from `least` on, if any, by a pass over all slots. All of their birth
@@ -322,6 +331,7 @@ pub fn mark(heads: &mut NumberIndex<ListHead>, hints: &LwpHints, pid: Pid, marks
 }
 
 /// Notes in the marks of its process that the row has replaced the one before. Changes nothing if neither has traits.
+#[inline(always)]
 pub fn note(heads: &mut NumberIndex<ListHead>, hints: &LwpHints, before: &LwpData, row: &LwpData)
     ensures ends { (q : ℕ) → ends_at heads.new.entries q ≡ (if nat_eq row.now.pid q && not (is_bare (traits_of before.now) && is_bare (traits_of row.now)) then marked (noted (ends_at heads.old.entries row.now.pid).marks row.now) (ends_at heads.old.entries q) else ends_at heads.old.entries q) }
     ensures spare { spare heads.new ≡ spare heads.old }
@@ -329,6 +339,15 @@ pub fn note(heads: &mut NumberIndex<ListHead>, hints: &LwpHints, before: &LwpDat
     if Traits::of(before).is_bare() && Traits::of(row).is_bare() {
         return;
     }
+    note_row(heads, hints, row);
+}
+
+/// Notes the row in the marks of its process. Changes nothing if the process has no rows.
+#[inline(never)]
+fn note_row(heads: &mut NumberIndex<ListHead>, hints: &LwpHints, row: &LwpData)
+    ensures ends { (q : ℕ) → ends_at heads.new.entries q ≡ (if nat_eq row.now.pid q then marked (noted (ends_at heads.old.entries row.now.pid).marks row.now) (ends_at heads.old.entries q) else ends_at heads.old.entries q) }
+    ensures spare { spare heads.new ≡ spare heads.old }
+{
     let place = head_place(heads, hints, row.pid);
     if let Some(ends) = heads.get_index_mut(place) {
         if ends.first.is_some() {
