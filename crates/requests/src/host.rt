@@ -1,6 +1,6 @@
 //! A host and its steps.
 
-ghost use Rattle.std.specs.Prelude.{◌≡◌, None, true, false, IfOk, IfErr, option_map, slice_get};
+ghost use Rattle.std.specs.Prelude.{◌≡◌, None, true, false, IfOk, IfErr, OnOk, option_map, slice_get};
 ghost use Rattle.pid_blocks.specs.Users.{IsUser};
 ghost use Rattle.step_types.specs.declared.step.Step.TheVariants as op;
 ghost use Rattle.requests.specs.Callers.{IsCallerByNumber, Barred};
@@ -228,5 +228,27 @@ impl<F: Decider + Send + Drop> Host<F> {
             return None;
         }
         Some(self.make(alloc, user, step))
+    }
+}
+
+impl Host<ByPolicy> {
+    /// Makes this host equal to the source, as `copy` does another one. It takes its own memory as far as that goes, and
+    /// new memory for handlers. An error means out of memory, and then the host is any one.
+    #[inline(always)]
+    pub fn copy_from<F: Decider + Send + Drop>(
+        &mut self,
+        alloc: Global,
+        source: &Host<F>,
+    ) -> Result<(), AllocError>
+        ensures { OnOk result (self.new ≡ source.now) }
+    {
+        let handlers = source.handlers.copy(alloc)?;
+        if self.tables.copy_from(alloc, &source.tables).is_ok() {
+            self.handlers = handlers;
+            self.settings = source.settings;
+            return Ok(());
+        }
+        self.handlers = HandlerTable::new(alloc);
+        Err(AllocError)
     }
 }
