@@ -49,6 +49,7 @@ pub fn uncalled<F: Decider + Send + Drop, H>(
 
 /// Makes a step of a caller, a process that runs, unless it installs a handler. Refused with ENOMEM if memory runs out,
 /// which changes nothing.
+#[inline(always)]
 pub fn called<F: Decider + Send + Drop, H>(
     tables: &mut Tables,
     handlers: &HandlerTable<F>,

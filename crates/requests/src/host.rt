@@ -165,6 +165,7 @@ impl<F: Decider + Send + Drop> Host<F> {
     }
 
     /// Makes a step of the user that installs no handler. Refused with ENOMEM if memory runs out, which changes nothing.
+    #[inline(always)]
     fn make<H>(&mut self, alloc: Global, user: Uid, step: &Step<H>) -> Reply
         requires user { IsUser user }
         requires other { installs (bare step.now) ≡ false }
@@ -215,6 +216,7 @@ impl<F: Decider + Send + Drop> Host<F> {
 
     /// Makes a step of the user as `step` does, if it needs no handler. For an install it returns `None` and changes
     /// nothing.
+    #[inline(always)]
     pub fn step_without_handler<H>(
         &mut self,
         alloc: Global,
