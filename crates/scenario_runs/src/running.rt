@@ -82,6 +82,7 @@ fn reply_with_handler<F: Decider + Send + Drop>(
 }
 
 /// Makes the step on the host, an install with the next handler, and returns the reply.
+#[inline(always)]
 #[tactic(auto, using(crate::proofs::BindLemmas::needs_none))]
 fn reply_of<F: Decider + Send + Drop>(
     alloc: Global,
