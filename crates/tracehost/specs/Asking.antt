@@ -3,6 +3,22 @@ use Rattle.std.specs.{Prelude.{ℕ, ◌==◌, Bool, true, false, not, List, Opti
 use Rattle.{pid_blocks.specs.Users.IsUser, tracehost.specs.declared.asking.{Arguments.Arguments, Expectation.Expectation, RunRequest.RunRequest, Mode.{Mode, TheVariants.{Scenario, Lines, List as ListMode}}, Selection.Selection, Terminals.Terminals}}
 use Rattle.scenario_runs.specs.declared.style.Style.{Style, TheVariants.{Text, Json}}
 
+-- the arguments of a command line that has only an operand
+abbrev pub only_file : Bor (List ℕ) → Arguments
+only_file file =
+    record {
+      file = Some file;
+      explain = None;
+      user = None;
+      threads = false;
+      expect = None;
+      bless = false;
+      list = None;
+      json = None;
+      lines = false;
+      kill_on_debugger_exit = None;
+    }
+
 -- whether a word is given, and is this one
 abbrev pub has_value : Option (Bor (List ℕ)) → List ℕ → Bool
 has_value None value = false

@@ -2,7 +2,7 @@
 ghost use Rattle.std.specs.Prelude.{◌≡◌};
 ghost use Rattle.std.specs.Result.{OkIff};
 ghost use Rattle.tracehost.specs.Asking as spec;
-ghost use Rattle.tracehost.specs.Asking.{IsUserOrNone, asked_by, expectation_by, explains_by, input_by, mode_by, style_by};
+ghost use Rattle.tracehost.specs.Asking.{IsUserOrNone, asked_by, expectation_by, explains_by, input_by, mode_by, only_file, style_by};
 
 use pid_blocks::{BadUser, Uid};
 use scenario_runs::Style;
@@ -30,6 +30,26 @@ pub(crate) struct Arguments<'a> {
     pub(crate) lines: bool,
     /// The number of `--kill-on-debugger-exit`.
     pub(crate) kill_on_debugger_exit: Option<u32>,
+}
+
+impl<'a> Arguments<'a> {
+    /// Returns the arguments of a command line that has only an operand.
+    pub(crate) fn of_file(file: &'a str) -> Arguments<'a>
+        ensures { result ≡ only_file file.entry }
+    {
+        Arguments {
+            file: Some(file),
+            explain: None,
+            user: None,
+            threads: false,
+            expect: None,
+            bless: false,
+            list: None,
+            json: None,
+            lines: false,
+            kill_on_debugger_exit: None,
+        }
+    }
 }
 
 /// Which lines of a run are printed, and in which order.

@@ -327,7 +327,34 @@ fn arguments_of<'a>(matches: &ArgMatches<'a>) -> Result<Arguments<'a>, Refusal>
     })
 }
 
-/// Returns what the words of a command line ask for. The first word is the program's name.
+/// The operand of a command line that has nothing else, if it can't be taken for an option.
+fn only_file<'a>(words: &'a [String]) -> Option<&'a str> {
+    if words.len() != 2 {
+        return None;
+    }
+    let word = words[1].as_str();
+    if word.is_empty() || word.starts_with("-") {
+        None
+    } else {
+        Some(word)
+    }
+}
+
+/// The arguments among the words of a command line, as `clap` finds them.
+fn found_arguments<'a>(
+    alloc: Global,
+    version: &'a str,
+    words: &'a [String],
+    terminals: Terminals,
+) -> Result<Arguments<'a>, Refusal> {
+    match matches_of(alloc, version, words) {
+        Ok(matches) => arguments_of(&matches),
+        Err(error) => Err(refused(alloc, error, words, terminals)),
+    }
+}
+
+/// Returns what the words of a command line ask for. The first word is the program's name. One with only an operand
+/// needs no `clap`, whose work would take longer than a short run.
 ///
 /// # Errors
 ///
@@ -339,11 +366,10 @@ pub(crate) fn asked_of<'a>(
     words: &'a [String],
     terminals: Terminals,
 ) -> Result<RunRequest<'a>, Refusal> {
-    let matches = match matches_of(alloc, version, words) {
-        Ok(matches) => matches,
-        Err(error) => return Err(refused(alloc, error, words, terminals)),
+    let arguments = match only_file(words) {
+        Some(file) => Arguments::of_file(file),
+        None => found_arguments(alloc, version, words, terminals)?,
     };
-    let arguments = arguments_of(&matches)?;
     match asked_for(arguments, terminals) {
         Ok(asked) => Ok(asked),
         Err(_) => Err(Refusal::User),
