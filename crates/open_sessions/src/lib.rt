@@ -31,5 +31,5 @@ pub use fault::SessionFault;
 pub use front::copy_front;
 pub use serve_fault::ServeError;
 pub use serving::serve;
-pub use session::Session;
+pub use session::{Session, SessionCopy};
 pub use step_members::push_step;

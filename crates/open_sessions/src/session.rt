@@ -36,6 +36,8 @@ pub struct Session {
     asked: Option<(Uid, PlainStep)>,
     steps: StepReader,
     text: String,
+    /// A host that another session had, kept for its memory.
+    spare: Option<Box<Host<ByPolicy>>>,
 }
 
 impl Model for Session {
@@ -48,6 +50,31 @@ impl Model for Session {
 
     ghost view = { λ s. record {
       host = s.host;
+      made = s.made;
+      last = option_map line_reply s.last;
+      asked = option_map user_step s.asked;
+    } };
+}
+
+/// A copy of a session, which another session can become. What the other one keeps for its memory isn't in it.
+#[derive(Drop)]
+pub struct SessionCopy {
+    host: Box<Host<ByPolicy>>,
+    made: [u64; USERS],
+    last: Option<LineAnswer>,
+    asked: Option<(Uid, PlainStep)>,
+}
+
+impl Model for SessionCopy {
+    ghost use Rattle.std.specs.Prelude.{option_map};
+    ghost use Rattle.open_sessions.specs.Calls.{OpenSession};
+    ghost use Rattle.open_sessions.specs.Answers.{line_reply};
+    ghost use Rattle.scenario_text.specs.Plan.{asked as user_step};
+
+    ghost Value = { OpenSession };
+
+    ghost view = { λ s. record {
+      host = s.host.value;
       made = s.made;
       last = option_map line_reply s.last;
       asked = option_map user_step s.asked;
@@ -67,6 +94,7 @@ impl Session {
             asked: None,
             steps: StepReader::new(alloc),
             text: String::new(alloc),
+            spare: None,
         })
     }
 
@@ -84,7 +112,54 @@ impl Session {
             asked: self.asked,
             text: String::new(alloc),
             steps: StepReader::new(alloc),
+            spare: None,
         })
+    }
+
+    /// Returns a copy for another session to become. It takes the memory of the host that was kept here last, if any. An
+    /// error means out of memory.
+    pub fn copy_for(&mut self, alloc: Global) -> Result<SessionCopy, AllocError>
+        ensures copied { IfOk result (λ copy. copy ≡ self.old) }
+        ensures unchanged { self.new ≡ self.old }
+    {
+        let last = copy_of(alloc, &self.last)?;
+        let host = match self.spare.take() {
+            Some(mut spare) => {
+                spare.copy_from(alloc, &self.host)?;
+                spare
+            }
+            None => Box::new(alloc, self.host.copy(alloc)?)?,
+        };
+        Ok(SessionCopy {
+            host,
+            made: self.made,
+            last,
+            asked: self.asked,
+        })
+    }
+
+    /// Becomes the copy. Returns the host that the session had, for another session to keep.
+    pub fn become_copy(&mut self, copy: SessionCopy) -> Box<Host<ByPolicy>>
+        ensures { self.new ≡ copy }
+    {
+        let SessionCopy {
+            mut host,
+            made,
+            last,
+            asked,
+        } = copy;
+        std::mem::swap(&mut self.host, &mut *host);
+        self.made = made;
+        self.last = last;
+        self.asked = asked;
+        host
+    }
+
+    /// Keeps a host for its memory, which the next copy of this session takes.
+    pub fn keep(&mut self, spare: Box<Host<ByPolicy>>)
+        ensures { self.new ≡ self.old }
+    {
+        self.spare = Some(spare);
     }
 
     /// Makes a step of the user. The reply is the last answer, and counts as the user's next one.
