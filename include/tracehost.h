@@ -138,7 +138,8 @@ const char *tracehost_strerror(uint32_t code);
 
 /*
  * Opens a session with an unused host. Closes one, and frees it. Copies one at its present state into a closed handle, or over
- * another open one. From the first copy over it on, this handle keeps the memory of two sessions.
+ * another open one (itself is TRACEHOST_NOT_OPEN). From the first copy over another one on, the copied handle keeps the memory
+ * of two sessions.
  */
 uint32_t tracehost_open(bool kill_on_debugger_exit, tracehost *out);
 uint32_t tracehost_close(tracehost *h);

@@ -60,6 +60,18 @@ static void closed_again(void)
     are_refused(&moved);
 }
 
+/* A copy over itself is refused, and leaves the session. */
+static void over_itself(void)
+{
+    tracehost h = TRACEHOST_CLOSED, closed = TRACEHOST_CLOSED;
+    tracehost_reply first, second;
+    CHECK(tracehost_open(true, &h) == TRACEHOST_ANSWERED && tracehost_spawn(&h, FIRST_USER, &first) == TRACEHOST_ANSWERED);
+    CHECK(tracehost_copy_over(&h, &h) == TRACEHOST_NOT_OPEN);
+    CHECK(tracehost_copy_over(&h, &closed) == TRACEHOST_NOT_OPEN && tracehost_copy_over(&closed, &h) == TRACEHOST_NOT_OPEN);
+    CHECK(tracehost_spawn(&h, FIRST_USER, &second) == TRACEHOST_ANSWERED && second.pid == first.pid + 1);
+    CHECK(tracehost_close(&h) == TRACEHOST_ANSWERED);
+}
+
 static void words(void)
 {
     CHECK(strcmp(tracehost_version(), TRACEHOST_VERSION) == 0);
@@ -79,6 +91,7 @@ int main(int argc, char **argv)
     are_refused(&zeros);
     are_refused(&closed);
     closed_again();
+    over_itself();
     never_opened(rounds);
     words();
     printf("%lu checks\n", checks);

@@ -232,7 +232,8 @@ class Session:
 
     def copy_over(self, other: Session) -> None:
         """Makes the other session one at the present state of this one. Raises MemoryError, and leaves it then."""
-        self.check(self.library["copy_over"](self.handle, other.handle))
+        if other is not self:
+            self.check(self.library["copy_over"](self.handle, other.handle))
 
     def _text(self, name: str, *words: object) -> Optional[str]:
         """The text that the call stores; None if it returns INVALID."""

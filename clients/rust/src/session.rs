@@ -182,8 +182,8 @@ impl Session {
         }
     }
 
-    /// Copies the session over another, whose session and recording end. From the first such copy on, the other one keeps the
-    /// memory of two sessions. The copy isn't recorded. After an error the other session is as it was.
+    /// Copies the session over another, whose session and recording end. From the first such copy on, this session keeps the
+    /// memory of two. The copy isn't recorded. After an error the other session is as it was.
     ///
     /// ```
     /// # fn main() -> Result<(), tracehost::Error> {

@@ -118,6 +118,7 @@ impl Session {
 
     /// Returns a copy for another session to become. It takes the memory of the host that was kept here last, if any. An
     /// error means out of memory.
+    #[inline(always)]
     pub fn copy_for(&mut self, alloc: Global) -> Result<SessionCopy, AllocError>
         ensures copied { IfOk result (λ copy. copy ≡ self.old) }
         ensures unchanged { self.new ≡ self.old }
@@ -139,6 +140,7 @@ impl Session {
     }
 
     /// Becomes the copy. Returns the host that the session had, for another session to keep.
+    #[inline(always)]
     pub fn become_copy(&mut self, copy: SessionCopy) -> Box<Host<ByPolicy>>
         ensures { self.new ≡ copy }
     {

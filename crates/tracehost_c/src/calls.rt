@@ -1,5 +1,5 @@
 //! What the calls have in common.
-ghost use Rattle.std.specs.Prelude.{ℕ, List, [], ◌≡◌, ◌≢◌, ◌≤◌, None, Some, IfOk, string_bytes};
+ghost use Rattle.std.specs.Prelude.{ℕ, List, [], ◌≡◌, ◌≢◌, ◌≤◌, ◌↔◌, None, Some, IsNone, IfOk, string_bytes};
 ghost use Rattle.requests.specs.View.{view};
 ghost use Rattle.json_trace.specs.Rows.{rows_json};
 ghost use Rattle.open_sessions.specs.Answers.{last_numbers};
@@ -274,4 +274,25 @@ pub(crate) fn make(
     let code = make_step(alloc, &mut session, user, step, reply);
     *handle = Tracehost::of(session);
     code
+}
+
+/// Puts a copy of the session in the place of an open handle's. The handle that the session was taken from isn't open.
+pub(crate) fn put_copy(alloc: Global, source: &mut Session, to: &mut Tracehost) -> u32
+    ensures source { source.new ≡ source.old }
+    ensures copied { result ≡ 0 → to.new.held.session ≡ Some source.old }
+    ensures unchanged { result ≢ 0 → to.new ≡ to.old }
+    ensures not_open { (result ≡ 1) ↔ IsNone to.old.held.session }
+    ensures code { result ≤ 2 }
+{
+    if !to.is_open() {
+        return NOT_OPEN;
+    }
+    let Ok(copy) = source.copy_for(alloc) else {
+        return NO_MEMORY;
+    };
+    // not before, so that an error leaves the handle as it was
+    let mut session = std::mem::replace(to, Tracehost::closed(alloc)).session();
+    source.keep(session.become_copy(copy));
+    *to = Tracehost::of(session);
+    ANSWERED
 }

@@ -31,8 +31,8 @@ mod views;
 
 use acts::act_of;
 use calls::{
-    ANSWERED, INVALID, NO_MEMORY, NOT_OPEN, make, put_explanation, put_line, put_numbers, put_rows,
-    put_state, put_step, put_text, refused,
+    ANSWERED, INVALID, NO_MEMORY, NOT_OPEN, make, put_copy, put_explanation, put_line, put_numbers,
+    put_rows, put_state, put_step, put_text, refused,
 };
 use handle::Tracehost;
 use open_sessions::Session;
@@ -126,7 +126,8 @@ pub extern "C" fn tracehost_copy(alloc: Global, from: &mut Tracehost, to: &mut T
     ANSWERED
 }
 
-/// Copies an open session over another one, whose memory is freed. From then on both go their own ways.
+/// Copies an open session over another one. From then on both go their own ways. The first one keeps the memory that the
+/// other one had, for its next copy.
 #[unsafe(no_mangle)]
 pub extern "C" fn tracehost_copy_over(
     alloc: Global,
@@ -139,15 +140,12 @@ pub extern "C" fn tracehost_copy_over(
     ensures not_open { (result ≡ 1) ↔ (IsNone from.old.held.session ⊎ IsNone to.old.held.session) }
     ensures code { result ≤ 2 }
 {
-    if !to.is_open() {
+    if !from.is_open() {
         return NOT_OPEN;
     }
-    let mut copy = Tracehost::closed(alloc);
-    let code = tracehost_copy(alloc, from, &mut copy);
-    if code == ANSWERED {
-        let old = std::mem::replace(to, copy);
-        let _session = old.session();
-    }
+    let mut source = std::mem::replace(from, Tracehost::closed(alloc)).session();
+    let code = put_copy(alloc, &mut source, to);
+    *from = Tracehost::of(source);
     code
 }
 
