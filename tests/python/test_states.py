@@ -142,6 +142,7 @@ def test_a_copy_over_an_open_session(tools: Tools) -> None:
     one.copy_over(other)
     assert [other.state(user) for user in USERS] == [one.state(user) for user in USERS]
     assert other.exchange('{"user":1001,"op":"spawn"}') == "1001 2 new 1001 100001"
+    one.copy_over(one)
     assert one.exchange('{"user":1001,"op":"list","caller":1000}') == "1001 2 pids 1000"
 
 
