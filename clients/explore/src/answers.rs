@@ -5,7 +5,7 @@ use crate::set::Part;
 use std::collections::HashMap;
 use std::hash::{BuildHasherDefault, Hash};
 use std::hint::black_box;
-use std::num::NonZeroU32;
+use std::num::{NonZeroU16, NonZeroU32};
 
 /// Different values, numbered from 1 in the order in which they came.
 #[derive(Debug)]
@@ -53,21 +53,40 @@ pub struct Known {
     pub after: Seen,
 }
 
-/// A question, and its answer.
+/// A question, its answer, and what the users see after it.
 #[derive(Clone, Copy, Debug)]
 struct Entry {
-    question: Question,
-    known: Known,
+    question: NonZeroU16,
+    answer: NonZeroU16,
+    after: Seen,
+}
+
+impl Entry {
+    /// None if a number is larger than those that are kept.
+    fn new(Question(question): Question, known: Known) -> Option<Entry> {
+        Some(Entry {
+            question: question.try_into().ok()?,
+            answer: known.answer.try_into().ok()?,
+            after: known.after,
+        })
+    }
+
+    fn is_of(self, Question(question): Question) -> bool {
+        NonZeroU32::from(self.question) == question
+    }
 }
 
 /// No block.
 const NONE: u32 = u32::MAX;
 
+/// How many answers a block has.
+const ENTRIES: usize = 7;
+
 /// Some answers of a view, in one line of the processor's cache, and the block with those that came before them.
 #[derive(Debug)]
 #[repr(align(64))]
 struct Block {
-    entries: [Option<Entry>; 5],
+    entries: [Option<Entry>; ENTRIES],
     before: u32,
 }
 
@@ -90,8 +109,8 @@ pub struct Answers<Q, A> {
     most: usize,
 }
 
-/// There are few different ones; if there are more, all is forgotten.
-const MOST_VALUES: usize = 1 << 16;
+/// There are few different ones; if there are more, those aren't kept, and all is forgotten soon.
+const MOST_VALUES: usize = u16::MAX as usize;
 /// What an answer takes with its share of its view, if a view has few.
 const ANSWER: usize = 50;
 /// What a view takes without its answers.
@@ -169,15 +188,18 @@ impl<Q: Clone + Eq + Hash, A: Clone + Eq + Hash> Answers<Q, A> {
         let mut at = self.row(view).block;
         while let Some(block) = self.blocks.get(at as usize) {
             let mut entries = block.entries.iter().flatten();
-            if let Some(entry) = entries.find(|entry| entry.question == question) {
-                return Some(entry.known);
+            if let Some(entry) = entries.find(|entry| entry.is_of(question)) {
+                return Some(Known {
+                    answer: entry.answer.into(),
+                    after: entry.after,
+                });
             }
             at = block.before;
         }
         None
     }
 
-    /// Keeps an answer that isn't known yet.
+    /// Keeps an answer that isn't known yet, if there aren't too many.
     pub fn put(&mut self, view: Seen, question: Question, answer: &A, after: Key) -> Known {
         let answer = self.answers.number(answer);
         let (after, is_new) = self.view(after);
@@ -185,7 +207,9 @@ impl<Q: Clone + Eq + Hash, A: Clone + Eq + Hash> Answers<Q, A> {
             self.rows[after.0 as usize].way = Some((question, view));
         }
         let known = Known { answer, after };
-        self.add(view, Entry { question, known });
+        if let Some(entry) = Entry::new(question, known) {
+            self.add(view, entry);
+        }
         known
     }
 
@@ -199,7 +223,7 @@ impl<Q: Clone + Eq + Hash, A: Clone + Eq + Hash> Answers<Q, A> {
         }
         let block = u32::try_from(self.blocks.len()).expect("less than 2^32 blocks");
         self.rows[view.0 as usize].block = block;
-        let mut entries = [None; 5];
+        let mut entries = [None; ENTRIES];
         entries[0] = Some(entry);
         self.blocks.push(Block { entries, before });
     }
@@ -244,6 +268,23 @@ mod tests {
             let way = way.map(|(from, question)| (answers.key(from), *question));
             assert_eq!(way, (n > 0).then_some((key(n / 17), n % 17)), "{n}");
         }
+    }
+
+    /// Until all is forgotten, it is told, and asked for again.
+    #[test]
+    fn an_answer_of_too_many_is_not_kept() {
+        let mut answers: Answers<u64, u64> = Answers::new(1 << 20);
+        let (view, _) = answers.view(key(0));
+        let question = answers.question(&0);
+        for n in 0..MOST_VALUES as u64 {
+            answers.answers.number(&n);
+        }
+        assert!(answers.is_full());
+        let known = answers.put(view, question, &u64::MAX, key(1));
+        assert_eq!((answers.answer(known), answers.key(known.after)), (&u64::MAX, key(1)));
+        assert_eq!(answers.get(view, question), None);
+        let known = answers.put(view, question, &7, key(1));
+        assert_eq!(answers.get(view, question), Some(known));
     }
 
     /// Different answers, or views, without end take no memory without end.
