@@ -5,8 +5,8 @@
  *     copies PROCESSES [gaps]
  *
  * The session that is copied has PROCESSES processes of one LWP; with `gaps` as many more ended, each between two of them.
- * Linked with --wrap for malloc, realloc and free, the
- * program prints the bytes that its copy was given, and fails if memory is left at the end.
+ * Linked with --wrap for malloc, realloc and free, the program prints the bytes that its copy was given, and fails if memory is
+ * left at the end.
  */
 #include <stdio.h>
 #include <stdlib.h>
