@@ -1,4 +1,4 @@
-//! Where rows are likely to be, so that most look-ups need no hash.
+//! Guesses at the places of rows, so that most look-ups need no hash.
 
 use crate::copies::copy_items;
 use crate::hasher::NumberIndex;

@@ -1,4 +1,4 @@
-//! Where a table's rows and the lists of processes are likely to be.
+//! Guesses at the places of a table's rows, and of the lists of processes.
 
 use crate::hasher::NumberIndex;
 use crate::hints::Hints;

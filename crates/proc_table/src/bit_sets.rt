@@ -86,7 +86,7 @@ impl NumberSet {
         }
     }
 
-    /// Makes the set the source. Fails when out of memory, and then the set is empty.
+    /// Makes the set equal to the source. Fails when out of memory, and then the set is any.
     #[inline(always)]
     pub fn copy_from(&mut self, source: &NumberSet) -> Result<(), AllocError>
         ensures { OnOk result (self.new.pages ≡ source.now.pages) }
