@@ -1,1 +1,5 @@
 pub mod CommonNames
+pub mod Parts
+pub mod RowLemmas
+pub mod RowTexts
+pub mod RowTells

@@ -5,13 +5,15 @@
 //! `TraceWriter` is a writer around another one: `scenario_runs` writes a reply's line into it, and it puts the step's members
 //! in front. So the run itself doesn't know of traces.
 //!
-//! The main clause is that of `rows_text`: the text is that of the definition (specs/Rows). No clause speaks of the members
+//! The main clause is that of `rows_text`: the text is that of the definition (specs/Rows). Law `laws::rows_tell`: rows
+//! with the same text are the same. No clause speaks of the members
 //! of a run's lines. The tests named schema and trace compare these with the schema and the scenario.
 //!
 //! Begin with `writing`, then with `states`.
 #![tactic(auto)]
 
 mod changes;
+pub mod laws;
 mod places;
 mod rows;
 mod states;

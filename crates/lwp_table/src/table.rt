@@ -34,7 +34,8 @@ use std::marker::Model;
 
 /// The rows of LWPs in order of birth, each found by its number.
 ///
-/// Every operation but `at` takes the same time in a table of any length, whatever rows other users have.
+/// No operation but `at` passes over other users' rows. But all users share the hints and the indexes, so rows that others
+/// have or had can change the time of a look-up by some instructions.
 #[derive(Drop)]
 pub struct LwpTable {
     rows: Slab<RowNode>,

@@ -3,7 +3,8 @@ use Rattle.std.{proofs.{Common.{arith, ◌≡◌, ◌≢◌, ◌<◌, ℕ, ◌-�
 use Rattle.{std.specs.Prelude.{Err, OnOk}, pid_blocks.specs.Users.IsUser, requests.specs.{Hosts.Steps as HostSteps, Machine.Machine}}
 use Rattle.step_types.specs.{Plain.UserStep, Plain.PlainStep, declared.Reply.Reply}
 use Rattle.{visibility.proofs.Steps.did, scenario_text.specs.{declared.fault.Fault.{Fault, TheVariants.Memory}, OneStep.{IsStep, AnswersBy}}, scenario_runs.specs.declared.style.Style.Style}
-use Rattle.{scenario_runs.specs.Lines.{Answered, line}, open_sessions.specs.{Answers.{LineReply, step, refused, answer_text}, Calls.{OpenSession, Steps, Answers}}}
+use Rattle.{scenario_runs.specs.Lines.{Answered, line}, open_sessions.specs.{Answers.{LineReply, step, refused, answer_text}, Calls.{OpenSession, Steps, Answers, LineOf}, StepLines.{HasLine, line_of}}}
+use Rattle.open_sessions.proofs.LineLaw.{line_is_step}
 
 -- a step of the host, with the count at the user's place raised and the reply kept
 pub steps : (u : ℕ) (p : PlainStep) (s : OpenSession) (k : Machine) (r : Reply) (place : ℕ) → IsUser u → HostSteps u p s.host k r → place ≡ u - 1001 → place < length s.made
@@ -46,3 +47,7 @@ refuses text s t f is same = rw same (record { reply = Err f; answers = refused 
 pub on_ok_so : {X E : Type 0} (r : Result X E) (P Q : Type 0) → (P → Q) → OnOk r P → OnOk r Q
 on_ok_so (Ok x) P Q f p = f p
 on_ok_so (Err e) P Q f p = tt
+
+-- a line that was written for a step with names
+pub shown_line : (a : UserStep) (line : List ℕ) → IsUser a.uid → HasLine a.step → line ≡ line_of a → LineOf (Some a) line
+shown_line a line user has is = (is, rw is (line_is_step a user has))

@@ -6,3 +6,9 @@ pub mod LineAnswers
 pub mod ScenarioLemmas
 pub mod TalkLemmas
 pub mod ViewWordLemmas
+pub mod LineTexts
+pub mod LineSets
+pub mod LineSteps
+pub mod LineRules
+pub mod LineCounts
+pub mod LineLaw

@@ -1,8 +1,8 @@
 -- What an open session is, and what its calls do.
-use Rattle.std.specs.Prelude.{◌≡◌, ℕ, ◌-◌, ◌+◌, ◌^◌, List, Option, Some, None, Ok, Err, slice_index}
+use Rattle.std.specs.Prelude.{⊤, ◌≡◌, ℕ, ◌-◌, ◌+◌, ◌^◌, List, Option, Some, None, Ok, Err, slice_index}
 use Rattle.{pid_blocks.specs.Users.IsUser, requests.specs.{Hosts.Steps as HostSteps, Machine.Machine, View.view}, scenario_runs.specs.declared.style.Style.Style}
 use Rattle.step_types.specs.{Plain.UserStep, Plain.PlainStep, declared.Reply.Reply}
-use Rattle.{scenario_text.specs.{declared.fault.Fault.Fault, OneStep.IsStep}, open_sessions.specs.{Answers.{LineReply, AnswersLine, answer_text, reply_text, made_after}, ViewWords.view_words}}
+use Rattle.{scenario_text.specs.{declared.fault.Fault.Fault, OneStep.IsStep}, open_sessions.specs.{Answers.{LineReply, AnswersLine, answer_text, reply_text, made_after}, StepLines.{HasNames, as_line, line_of}, ViewWords.view_words}}
 
 -- a host, how many answers each of the 64 users has had, the last answer, and its step: none if it refused a line
 pub record OpenSession : Type 0 where
@@ -47,10 +47,15 @@ IsFull u s = slice_index s.made (u - 1001) + 1 ≡ 2 ^ 64
 abbrev pub FullFor : List ℕ → OpenSession → Type 0
 FullFor line s = (a : UserStep) × IsStep line (Ok a) × IsFull a.uid s
 
--- a line that is the step of the last answer
+-- the line of the last answer's step, which is read as this step
 abbrev pub LineOf : Option UserStep → List ℕ → Type 0
 LineOf None line = ⊥
-LineOf (Some a) line = IsStep line (Ok a)
+LineOf (Some a) line = (line ≡ line_of a) × IsStep line (Ok (record a { step = as_line a.step }))
+
+-- no step was asked, or one with a bit that has no name
+abbrev pub NoLine : Option UserStep → Type 0
+NoLine None = ⊤
+NoLine (Some a) = ¬ HasNames a.step
 
 -- all that a user sees of a session's host, as numbers
 abbrev pub state_of : ℕ → OpenSession → List ℕ

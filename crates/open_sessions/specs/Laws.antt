@@ -1,8 +1,8 @@
 -- The calls of a session, one after another: what each is answered, and what a user can tell of it.
 use Rattle.std.specs.{Prelude.{◌≡◌, ◌≢◌, ℕ, false, List, [], ◌∷◌, map, filter_map, option_map, Ok, Err}, Result.result_ok}
-use Rattle.{pid_blocks.specs.Users.IsUser, requests.specs.Isolation.{Apart, Private}, step_types.specs.{Plain.{PlainStep, UserStep}, Replies.is_memory, declared.Reply.Reply}}
+use Rattle.{pid_blocks.specs.Users.IsUser, requests.specs.{Hosts.Steps as HostSteps, Isolation.{Apart, Private}, Machine.Machine, Step.step as machine_step}, step_types.specs.{Plain.{PlainStep, UserStep}, Replies.is_memory, declared.Reply.Reply}}
 use Rattle.{visibility.specs.Runs.reply_given, scenario_text.specs.{declared.fault.Fault.Fault, OneStep.IsStep}}
-use Rattle.open_sessions.specs.{Answers.LineReply, Calls.{OpenSession, Steps, Answers, state_of}}
+use Rattle.open_sessions.specs.{Answers.LineReply, Calls.{OpenSession, Steps, Answers, state_of}, StepLines.{HasLine, as_line, line_of}}
 
 -- a call that makes a step of a user, or answers a line
 pub data Call : Type 0 where
@@ -52,3 +52,15 @@ AnswersAlike = (u : ℕ) (step : PlainStep) (s k t l : OpenSession) → Apart s.
 -- a step of another user leaves a user's state
 abbrev pub LeavesStates : Type 0
 LeavesStates = (u w : ℕ) (step : PlainStep) (s t : OpenSession) → Apart s.host → IsUser u → u ≢ w → Steps w step s t → state_of u t ≡ state_of u s
+
+-- the line of each step with names is read as the step
+abbrev pub EachLineIsItsStep : Type 0
+EachLineIsItsStep = (a : UserStep) → IsUser a.uid → HasLine a.step → IsStep (line_of a) (Ok (record a { step = as_line a.step }))
+
+-- the machine answers a step and its line's alike, and is the same after both
+abbrev pub MachineMakesAlike : Type 0
+MachineMakesAlike = (u : ℕ) (s : PlainStep) (m : Machine) → machine_step u (as_line s) m ≡ machine_step u s m
+
+-- and so does a host, also if memory runs out
+abbrev pub HostMakesAlike : Type 0
+HostMakesAlike = (u : ℕ) (s : PlainStep) (m k : Machine) (r : Reply) → HostSteps u s m k r → HostSteps u (as_line s) m k r

@@ -6,3 +6,4 @@ pub mod Sessions
 pub mod LineLaws
 pub mod Flat
 pub mod ViewWords
+pub mod StepLines

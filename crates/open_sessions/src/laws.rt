@@ -1,5 +1,5 @@
 //! Laws of sessions.
-ghost use Rattle.open_sessions.specs.Laws.{AnswersAlike, CallsArePrivate, LeavesStates};
+ghost use Rattle.open_sessions.specs.Laws.{AnswersAlike, CallsArePrivate, EachLineIsItsStep, HostMakesAlike, LeavesStates, MachineMakesAlike};
 ghost use Rattle.open_sessions.specs.LineLaws.{AsScenario, SessionsArePrivate};
 ghost use Rattle.open_sessions.specs.ViewWords.{WordsTell};
 
@@ -29,4 +29,16 @@ pub fn states_tell()
 pub fn same_states_answer_alike()
     ensures alike { AnswersAlike }
     ensures others { LeavesStates }
+{}
+
+/// The line of each step whose bits have names is read as this step.
+pub fn each_line_is_its_step()
+    ensures { EachLineIsItsStep }
+{}
+
+/// A step and that of its line have the same reply, and the same host after them. So what a session was asked can be
+/// replayed from its lines.
+pub fn a_line_is_made_alike()
+    ensures machine { MachineMakesAlike }
+    ensures host { HostMakesAlike }
 {}

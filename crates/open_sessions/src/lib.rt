@@ -4,8 +4,9 @@
 //! a line, and so can the step that it answers. The C library is a thin layer over it, and so is `serve`, which is
 //! `tracehost --lines`: a debugger's author writes a step, reads the reply, and decides what comes next.
 //!
-//! No clause speaks of what `step_members` writes. `Session::show_step` reads each line again, so a line that it shows
-//! is the step; tests show that it shows one for each step that a line can be.
+//! `Session::show_step` writes the line of the last step, `line_of` (specs/StepLines), if its bits have names. Laws
+//! `laws::each_line_is_its_step` and `laws::a_line_is_made_alike`: such a line is read as the step, a PT_TRACE_ME without
+//! what it ignores, and the machine answers both alike.
 //!
 //! Begin with `session`, then `serving`. The main clause of `answer` and `step`: the answer is the machine's
 //! (specs/Answers). That of `serve`: the bytes that were written are the answers to the lines that were read, each
@@ -19,7 +20,7 @@ mod fault;
 pub mod flat;
 mod front;
 pub mod laws;
-mod same_steps;
+mod line_steps;
 mod serve_fault;
 mod serving;
 mod session;

@@ -1,19 +1,18 @@
 //! The open session.
 
-ghost use Rattle.std.specs.Prelude.{ℕ, List, ◌≡◌, ◌≢◌, ◌++◌, Ok, Err, None, Some, replicate, length, IfOk, IfErr, IfSome, IsTrue, OnOk, OnErr, string_bytes, option_map};
+ghost use Rattle.std.specs.Prelude.{ℕ, List, ◌≡◌, ◌≢◌, ◌++◌, Ok, Err, None, Some, replicate, length, IfOk, IfErr, IfSome, OnOk, OnErr, string_bytes, option_map};
 ghost use Rattle.requests.specs.Hosts.{Steps as HostSteps};
 ghost use Rattle.requests.specs.Machine.{empty};
 ghost use Rattle.requests.specs.View.{view};
 ghost use Rattle.open_sessions.specs.Answers.{last_numbers, last_reply, shown};
-ghost use Rattle.open_sessions.specs.Calls.{last_text, state_of, Steps, Answers, IsFull, FullFor, LineOf};
-ghost use Rattle.scenario_text.specs.Plan.{asked};
+ghost use Rattle.open_sessions.specs.Calls.{last_text, state_of, Steps, Answers, IsFull, FullFor, LineOf, NoLine};
 ghost use Rattle.open_sessions.specs.declared.fault.SessionFault.TheVariants as session_fault;
 ghost use Rattle.scenario_text.specs.declared.fault.Fault.TheVariants.{Memory as NoMemory};
 
 use crate::answers::{LineAnswer, copy_of, numbers_of, reply_of};
 use crate::fault::SessionFault;
 use crate::front::copy_front;
-use crate::same_steps::is_same_step;
+use crate::line_steps::has_line;
 use crate::step_members::step_line;
 use crate::texts::push_last;
 use crate::view_words::words_of;
@@ -264,8 +263,9 @@ impl Session {
     }
 
     /// Writes the line of the step that was answered last over the front of the bytes, as far as they have room, and
-    /// returns its whole length. Read as a line, it is this step. `None` before any answer, after a line that was refused,
-    /// and for a step that no line is: a PT_TRACE_ME that names a target, a mask with bits that no event has.
+    /// returns its whole length. Read as a line, it is this step, a PT_TRACE_ME without target and data, which it ignores.
+    /// `None` before any answer, after a line that was refused, and for a step that no line is: a mask with bits that no
+    /// event has, a rule with flags that no stop has.
     ///
     /// # Errors
     ///
@@ -274,19 +274,17 @@ impl Session {
         ensures session { self.new ≡ self.old }
         ensures shown { IfOk result (λ n. IfSome n (λ n. (line : List ℕ) × LineOf self.old.asked line
             × (out.new ≡ shown line out.old) × (n ≡ length line))) }
-        ensures none { result ≡ Ok None → out.new ≡ out.old }
+        ensures none { result ≡ Ok None → NoLine self.old.asked × (out.new ≡ out.old) }
         ensures unchanged { OnErr result (out.new ≡ out.old) }
     {
         let Some((user, step)) = self.asked else {
             return Ok(None);
         };
-        let line = step_line(alloc, user, &step)?;
-        // the line is given only if the reader of lines finds this step in it
-        match self.steps.parse_step(alloc, line.as_slice()) {
-            Ok(read) if is_same(&read, user, &step) => Ok(Some(copy_front(line.as_slice(), out))),
-            Err(Fault::Memory) => Err(AllocError),
-            _ => Ok(None),
+        if !has_line(&step) {
+            return Ok(None);
         }
+        let line = step_line(alloc, user, &step)?;
+        Ok(Some(copy_front(line.as_slice(), out)))
     }
 
     /// Writes all that the user sees of the host as numbers over the front of `out`, as far as they have room, and
@@ -311,13 +309,6 @@ impl Session {
     {
         user_view(alloc, &self.host, user)
     }
-}
-
-/// Tests whether what was read is this step of this user.
-fn is_same(read: &(Uid, PlainStep), user: Uid, step: &PlainStep) -> bool
-    ensures { IsTrue result → asked read.now ≡ record { uid = user; step = step.now } }
-{
-    read.0 == user && is_same_step(&read.1, step)
 }
 
 /// Makes a step of the user on the host. A handler that it installs answers by its policy.

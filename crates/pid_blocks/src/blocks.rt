@@ -2,7 +2,7 @@
 
 ghost use Rattle.std.specs.Prelude.{◌≡◌, ◌+◌, ◌-◌, ◌^◌, ◌≤◌, ◌<◌, ℕ, Bool, true, false, SomeIff, IfSome, IfNone};
 ghost use Rattle.pid_blocks.specs.Users.{IsUser};
-ghost use Rattle.pid_blocks.specs.Blocks.{pid_block, tid_block, cursor_after, next_free, first_free, InBlock, pid_owner, tid_owner};
+ghost use Rattle.pid_blocks.specs.Blocks.{pid_block, tid_block, cursor_after, next_free, first_free, in_block, InBlock, pid_owner, tid_owner};
 ghost use Rattle.pid_blocks.specs.Search.{Decides};
 
 use crate::{Block, FIRST_PID, FIRST_TID, FIRST_USER, PIDS, TIDS, Uid};
@@ -99,7 +99,16 @@ pub fn cursor_after(block: Block, number: u32) -> u32
 }
 
 impl Block {
+    /// Tests whether the number is in the block.
+    #[inline(always)]
+    pub fn contains(self, number: u32) -> bool
+        ensures { result ≡ in_block self number }
+    {
+        self.first <= number && u64::from(number) < self.end()
+    }
+
     /// Returns the number after the block's last one.
+    #[inline(always)]
     fn end(self) -> u64
         ensures { result ≡ self.first + self.size }
     {

@@ -3,7 +3,9 @@ use Rattle.proc_table.proofs.CommonNames.{nat_tests, ◌≡◌, ℕ, ◌<◌, �
 use Rattle.proc_table.proofs.CommonNames.{count_by, option_eq, AllByRecursion, list_any, cases_Bool, sum_by-cons, LwpData, Lacks, Once, Differ, lwp_of, ProcData, process_of, seen_lwp, owns, Rows}
 use Rattle.proc_table.proofs.CommonNames.{keep, Rise, InOwnersBlock, TableInvariant}
 use Rattle.std.specs.Prelude.{option_map}
-use Rattle.pid_blocks.specs.Blocks.{tid_owner}
+use Rattle.pid_blocks.specs.Blocks.{tid_owner, in_block, pid_block, tid_block}
+use Rattle.proc_table.specs.Seen.{visible_process}
+use Rattle.proc_table.specs.Kept.{InOwnBlock}
 use Rattle.lwp_table.proofs.Numbered.{any-found as any-is_some}
 use Rattle.proc_table.proofs.Rising.{once}
 use Rattle.proc_table.proofs.Every.{every_found}
@@ -92,6 +94,26 @@ module _ (u : ℕ) where
 -- no process has a number outside all blocks
 pub pid-outside : (n : ℕ) (rows : Rows) → TableInvariant rows → (((1000 ≤ n) × (n < 65000)) → ⊥) → process_of n rows.processes ≡ None
 pid-outside n rows kept out = search (rules, every_found, process_of-pid)
+
+-- no process of a user has a number outside of the user's block
+module _ (u n : ℕ) (rows : Rows) (kept : TableInvariant rows) (outside : in_block (pid_block u) n ≡ false) where
+  pub visible_process-outside : visible_process u n rows ≡ None
+  visible_process-outside = none rows.processes kept.in_own_blocks
+    where
+      none : (ps : List ProcData) → AllByRecursion InOwnBlock ps → find (λ p. nat_eq p.pid n && nat_eq p.uid u) ps ≡ None
+      none [] all = refl
+      none (p ∷ ps) all = grind (arith, nat_tests, all.0.block, none ps all.1)
+
+-- and no LWP of a user's process
+module _ (u n : ℕ) (rows : Rows) (kept : TableInvariant rows) (outside : in_block (tid_block u) n ≡ false) where
+  pub seen_lwp-outside : seen_lwp u n rows ≡ None
+  seen_lwp-outside = none rows.lwps kept.in_owners_block
+    where
+      none : (ls : List LwpData) → AllByRecursion (InOwnersBlock rows) ls → find (λ l. nat_eq l.tid n && owns u l.pid rows.processes) ls ≡ None
+      none [] all = refl
+      none (l ∷ ls) all = grind (arith, nat_tests, owns-kept u l.pid rows.processes kept.rising, is_some, all.0, none ls all.1)
+
+pub ruleset block_laws = (visible_process-outside, seen_lwp-outside)
 
 -- what a user sees, by what a number finds
 pub ruleset owner_laws = (owns-kept, eq-kept)

@@ -222,11 +222,16 @@ impl Tables {
         self.lwps.of_user(uid)
     }
 
-    /// Returns the user's process with this number, if any.
+    /// Returns the user's process with this number, if any. It looks at no row if the number isn't in the user's block.
+    #[tactic(auto, using(crate::proofs::Seen::block_laws))]
     pub fn visible_process(&self, uid: Uid, number: u32) -> Option<ProcData>
         ensures row { result ≡ visible_process uid number self.now.rows }
         ensures kept { TableInvariant self.now.rows }
     {
+        let _ = &self.processes;
+        if !pid_block(uid).contains(number) {
+            return None;
+        }
         let row = self.processes.find(number)?;
         if row.uid == uid { Some(*row) } else { None }
     }
@@ -239,13 +244,17 @@ impl Tables {
         self.processes.owner(pid.get()) == Some(uid)
     }
 
-    /// Returns the LWP with this number if its process is the user's.
-    #[tactic(auto, using(crate::proofs::Seen::home_laws))]
+    /// Returns the LWP with this number if its process is the user's. It looks at no row if the number isn't in the user's
+    /// block.
+    #[tactic(auto, using(crate::proofs::Seen::home_laws, crate::proofs::Seen::block_laws))]
     pub fn seen_lwp(&self, uid: Uid, number: u32) -> Option<LwpData>
         ensures row { result ≡ seen_lwp uid number self.now.rows }
         ensures kept { TableInvariant self.now.rows }
     {
         let _ = &self.lwps;
+        if !tid_block(uid).contains(number) {
+            return None;
+        }
         let row = self.lwps.get(Tid::new(number)?)?;
         if self.owns(uid, row.pid) {
             Some(row)
@@ -255,19 +264,27 @@ impl Tables {
     }
 
     /// Returns the number if it is that of one of the user's processes.
+    #[tactic(auto, using(crate::proofs::Seen::block_laws))]
     fn seen_pid(&self, uid: Uid, number: u32) -> Option<Pid>
         ensures { result ≡ option_map (λ p. p.pid) (visible_process uid number self.now.rows) }
     {
         let _ = &self.processes;
+        if !pid_block(uid).contains(number) {
+            return None;
+        }
         let pid = Pid::new(number)?;
         if self.owns(uid, pid) { Some(pid) } else { None }
     }
 
     /// Returns the process of the user's LWP with this number, if any.
-    #[tactic(auto, using(crate::proofs::Seen::home_laws))]
+    #[tactic(auto, using(crate::proofs::Seen::home_laws, crate::proofs::Seen::block_laws))]
     fn seen_lwp_pid(&self, uid: Uid, number: u32) -> Option<Pid>
         ensures { result ≡ option_map (λ l. l.pid) (seen_lwp uid number self.now.rows) }
     {
+        let _ = &self.lwps;
+        if !tid_block(uid).contains(number) {
+            return None;
+        }
         let pid = self.lwp_process(number)?;
         if self.owns(uid, pid) { Some(pid) } else { None }
     }

@@ -6,7 +6,7 @@ ghost use Rattle.trace_rows.specs.Facts.{IsSound};
 ghost use Rattle.trace_rows.specs.Sound.{is_live_at};
 
 use event_masks::StopFlags;
-use lwpinfo::{Event, LwpInfo, info, lwp_count, lwp_list};
+use lwpinfo::{Event, LwpInfo, NumList, info, lwp_count, lwp_list};
 use pid_blocks::{Pid, Tid};
 use proc_table::{ProcData, State, Tables};
 use requests::Host;
@@ -20,7 +20,8 @@ use wait4::{Collected, Options, Status, StatusKind, collect};
 pub fn check(rt: &impl Print, alloc: Global) -> Result<(), TestError> {
     statuses_have_kinds()?;
     each_part_is_made(alloc)?;
-    println!(rt; "stops: 2 checks passed")?;
+    new_lwps_have_no_event(alloc)?;
+    println!(rt; "stops: 3 checks passed")?;
     Ok(())
 }
 
@@ -31,6 +32,19 @@ spawn -> new 1000 100000
 spawn -> new 1001 100001
 ptrace 1000 PT_ATTACH 1001 -> ok
 wait4 1000 -1 -> status 1001 4479
+";
+
+/// The tracee has made an LWP, and stopped in the call that made it.
+const MADE: &str = "
+spawn -> new 1000 100000
+spawn -> new 1001 100001
+ptrace 1000 PT_ATTACH 1001 -> ok
+wait4 1000 -1 -> status 1001 4479
+ptrace 1000 PT_SET_EVENT_MASK 1001 PTRACE_LWP PTRACE_SCX -> ok
+ptrace 1000 PT_CONTINUE 1001 -> ok
+turn 100001 enter thr_new -> ok
+turn 100001 leave -> stopped 100001 5 flags=PL_FLAG_SCX
+wait4 1000 -1 -> status 1001 1407
 ";
 
 /// The debugger, its tracee, and the tracee's LWP.
@@ -297,7 +311,7 @@ fn check_reads(alloc: Global, tables: &Tables, traced: &Traced) -> Result<(), Te
     expect(is_shown, "a debugger reads something else")?;
     let is_only = lwp_count(tables, traced.pid) == 1;
     expect(is_only, "a process has more LWPs")?;
-    let list = lwp_list(alloc, tables, traced.pid, 8)?;
+    let list: NumList = lwp_list(alloc, tables, traced.pid, 8)?;
     let is_whole = list.as_slice() == &[traced.tid.get()][..];
     expect(is_whole, "a process has other LWPs")?;
     let copy = list.copy(alloc)?;
@@ -380,4 +394,24 @@ fn each_part_is_made(alloc: Global) -> Result<(), TestError> {
         check_part(alloc, &mut tables, &traced, part)?;
     }
     Ok(())
+}
+
+/// Checks that the debugger reads no event of an LWP that hasn't stopped.
+fn new_lwps_have_no_event(alloc: Global) -> Result<(), TestError> {
+    let traced = Traced::new()?;
+    let Some(made) = Tid::new(100002) else {
+        return Err(TestError::Wrong("a number is lost"));
+    };
+    let tables = tables_after(alloc, MADE)?;
+    let shown = LwpInfo {
+        tid: made,
+        event: Event::Nothing,
+        flags: StopFlags(0),
+        sigmask: SigSet::empty(),
+        siglist: SigSet::empty(),
+        child: 0,
+        code: 0,
+    };
+    let is_shown = info(&tables, traced.pid, made) == Some(shown);
+    expect(is_shown, "a debugger reads an event of an LWP that has none")
 }

@@ -1,3 +1,4 @@
 pub mod Options
 pub mod Asking
+pub mod Given
 pub mod Found

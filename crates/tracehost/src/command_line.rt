@@ -1,11 +1,12 @@
 //! The command line: its options, and what helps if it is refused. `clap` splits the words, and `asking` turns them into
 //! a `RunRequest`.
 
-ghost use Rattle.std.specs.Prelude.{IfOk, codes};
+ghost use Rattle.std.specs.Prelude.{IfOk, IfSome, codes};
 ghost use Rattle.clap.specs.Matches.{found_of, one_text};
-ghost use Rattle.tracehost.specs.Found.{IsIn, IsNumber};
+ghost use Rattle.tracehost.specs.Found.{AreOf, IsAlone, IsAsked, IsIn, IsNumber};
 
 use crate::asking::{Arguments, RunRequest, Terminals, asked_for, explains, has_value};
+use crate::given::are_so;
 use clap::error::ErrorKind;
 use clap::{Arg, ArgAction, ArgMatches, Command};
 use std::alloc::{AllocError, Global};
@@ -18,6 +19,8 @@ pub(crate) enum Refusal {
     Command(Message),
     /// The user of `--user` isn't one.
     User,
+    /// What was found in it isn't what its words say, which is a fault of the program.
+    Misread,
     /// Memory ran out.
     Memory,
 }
@@ -309,6 +312,16 @@ fn user_number(matches: &ArgMatches<'_>) -> Result<Option<u32>, Refusal>
     }
 }
 
+/// The number of `--kill-on-debugger-exit`; none without the option.
+fn kill_number(matches: &ArgMatches<'_>) -> Result<Option<u32>, Refusal>
+    ensures { IfOk result (λ number. IsNumber (one_text (found_of matches.now) (codes "0|1")) number) }
+{
+    match matches.try_get_one("0|1") {
+        Ok(number) => Ok(number),
+        Err(_) => Err(Refusal::Misread),
+    }
+}
+
 /// The options and the operand that were found.
 fn arguments_of<'a>(matches: &ArgMatches<'a>) -> Result<Arguments<'a>, Refusal>
     ensures { IfOk result (λ arguments. IsIn (found_of matches.now) arguments) }
@@ -323,20 +336,21 @@ fn arguments_of<'a>(matches: &ArgMatches<'a>) -> Result<Arguments<'a>, Refusal>
         list: matches.get_str("LIST"),
         json: matches.get_str("json"),
         lines: matches.get_flag("lines"),
-        kill_on_debugger_exit: matches.get_one("0|1"),
+        kill_on_debugger_exit: kill_number(matches)?,
     })
 }
 
 /// The operand of a command line that has nothing else, if it can't be taken for an option.
-fn only_file<'a>(words: &'a [String]) -> Option<&'a str> {
+fn only_file<'a>(words: &'a [String]) -> Option<&'a str>
+    ensures { IfSome result (λ file. IsAlone words.now file.now) }
+{
     if words.len() != 2 {
         return None;
     }
     let word = words[1].as_str();
-    if word.is_empty() || word.starts_with("-") {
-        None
-    } else {
-        Some(word)
+    match word.as_bytes().first() {
+        None | Some(b'-') => None,
+        Some(_) => Some(word),
     }
 }
 
@@ -346,30 +360,52 @@ fn found_arguments<'a>(
     version: &'a str,
     words: &'a [String],
     terminals: Terminals,
-) -> Result<Arguments<'a>, Refusal> {
-    match matches_of(alloc, version, words) {
-        Ok(matches) => arguments_of(&matches),
-        Err(error) => Err(refused(alloc, error, words, terminals)),
+) -> Result<Arguments<'a>, Refusal>
+    ensures { IfOk result (AreOf words.now) }
+{
+    let matches = match matches_of(alloc, version, words) {
+        Ok(matches) => matches,
+        Err(error) => return Err(refused(alloc, error, words, terminals)),
+    };
+    let arguments = arguments_of(&matches)?;
+    if are_so(words, &arguments) {
+        Ok(arguments)
+    } else {
+        Err(Refusal::Misread)
     }
 }
 
-/// Returns what the words of a command line ask for. The first word is the program's name. One with only an operand
-/// needs no `clap`, whose work would take longer than a short run.
+/// The arguments among the words of a command line. One with only an operand needs no `clap`, whose work would take longer
+/// than a short run.
+fn arguments_in<'a>(
+    alloc: Global,
+    version: &'a str,
+    words: &'a [String],
+    terminals: Terminals,
+) -> Result<Arguments<'a>, Refusal>
+    ensures { IfOk result (AreOf words.now) }
+{
+    match only_file(words) {
+        Some(file) => Ok(Arguments::of_file(file)),
+        None => found_arguments(alloc, version, words, terminals),
+    }
+}
+
+/// Returns what the words of a command line ask for. The first word is the program's name.
 ///
 /// # Errors
 ///
 /// `Command` if the words are refused, or ask for help or for the version, which is that of the program. `User` if
-/// the user isn't from 1001 to 1064. `Memory` if memory runs out.
+/// the user isn't from 1001 to 1064. `Misread` if `clap` found what the words don't say. `Memory` if memory runs out.
 pub(crate) fn asked_of<'a>(
     alloc: Global,
     version: &'a str,
     words: &'a [String],
     terminals: Terminals,
-) -> Result<RunRequest<'a>, Refusal> {
-    let arguments = match only_file(words) {
-        Some(file) => Arguments::of_file(file),
-        None => found_arguments(alloc, version, words, terminals)?,
-    };
+) -> Result<RunRequest<'a>, Refusal>
+    ensures { IfOk result (IsAsked words.now terminals) }
+{
+    let arguments = arguments_in(alloc, version, words, terminals)?;
     match asked_for(arguments, terminals) {
         Ok(asked) => Ok(asked),
         Err(_) => Err(Refusal::User),

@@ -20,6 +20,7 @@ mod command_line;
 mod differing;
 mod expecting;
 mod explaining;
+mod given;
 mod listing;
 
 use crate::asking::{Expectation, Mode, RunRequest, Selection, Terminals};
@@ -44,7 +45,7 @@ use stop_handlers::{Decider, Handler};
 use trace_stop::Settings;
 
 /// The version of the program and of all that comes with it.
-const VERSION: &str = "0.18.0";
+const VERSION: &str = "0.19.0";
 
 /// How many bytes of lines are read, or of answers written, by one call. A pipe holds as many.
 const BUFFER_BYTES: usize = 65536;
@@ -58,6 +59,8 @@ enum CommandError {
     Words,
     /// The user of `--user` isn't one.
     User,
+    /// What was found in the command line isn't what it says.
+    Misread,
     /// The input is refused.
     Fault(Fault),
     /// The input is refused; and lines that explain it.
@@ -95,6 +98,7 @@ impl From<Refusal> for CommandError {
         match refusal {
             Refusal::Command(message) => CommandError::Command(message),
             Refusal::User => CommandError::User,
+            Refusal::Misread => CommandError::Misread,
             Refusal::Memory => CommandError::Fault(Fault::Memory),
         }
     }
@@ -388,6 +392,10 @@ fn report<R: Print + Eprint>(rt: &R, trouble: &CommandError) -> u8 {
         CommandError::User => {
             let _ = eprintln!(rt; "error: a user is a number from 1001 to 1064");
             2
+        }
+        CommandError::Misread => {
+            let _ = eprintln!(rt; "tracehost: internal error: the command line was misread");
+            3
         }
         CommandError::Fault(fault) => {
             let _ = eprintln!(rt; "{fault}");

@@ -6,7 +6,7 @@ use Rattle.tracehost_c.specs.Calls.{StepOf, answered, full, TypedCall, not_open,
 use Rattle.tracehost_c.specs.Laws.{HandleCall, typed_call, line_call, Made, AllMade, answered_call, answered_calls}
 
 -- what a call on an open handle does: nothing, or one call of its session
-data Outcome (c : HandleCall) (code : ℕ) (s : OpenSession) (mid : Option OpenSession) : Type 0 where
+pub data Outcome (c : HandleCall) (code : ℕ) (s : OpenSession) (mid : Option OpenSession) : Type 0 where
   nothing : answered_call c code ≡ None → mid ≡ Some s → Outcome c code s mid
   one : (call : Call) (r : LineReply) (t : OpenSession) → answered_call c code ≡ Some call → mid ≡ Some t → AnswersCall call s r t → Outcome c code s mid
 
@@ -37,7 +37,7 @@ line_outcome text s mid code (line_answered p t is was now room answers) =
     let made : Answers text s t = rw same at answers in
     one (by_line text) made.reply t (line_made text code is) now (made, refl)
 
-outcome : (c : HandleCall) (s : OpenSession) (mid : Option OpenSession) (code : ℕ) → Made c (Some s) mid code → Outcome c code s mid
+pub outcome : (c : HandleCall) (s : OpenSession) (mid : Option OpenSession) (code : ℕ) → Made c (Some s) mid code → Outcome c code s mid
 outcome (typed_call user step) s mid code made = typed_outcome user step s mid made.0 made.1 code made.2
 outcome (line_call text) s mid code made = line_outcome text s mid code made
 

@@ -1,3 +1,4 @@
 pub mod AsBox
 pub mod RowLemmas
 pub mod LawLemmas
+pub mod AllCallLemmas

@@ -1,12 +1,22 @@
 -- What the calls from C do, by the code that they return.
-use Rattle.std.specs.Prelude.{◌≡◌, ◌≢◌, ◌⊎◌, ℕ, Bool, if◌then◌else◌, List, [], Option, Some, None, Ok, Err, IsSome, IsSomeAnd, length, map}
-use Rattle.{pid_blocks.specs.Users.IsUser, requests.specs.View.view, step_types.specs.Plain.{PlainStep, UserStep}, scenario_text.specs.{declared.fault.Fault.Fault, OneStep.IsStep}, scenario_runs.specs.declared.style.Style.{Style, TheVariants.{Text, Json}}}
+use Rattle.std.specs.Prelude.{◌≡◌, ◌≢◌, ◌⊎◌, ℕ, Bool, if◌then◌else◌, List, [], Option, Some, None, Ok, Err, IsSome, IsSomeAnd, length, map, replicate}
+use Rattle.{pid_blocks.specs.Users.IsUser, requests.specs.{Machine.empty, View.view}, step_types.specs.{Plain.{PlainStep, UserStep}, declared.Settings.Settings}, scenario_text.specs.{declared.fault.Fault.Fault, OneStep.IsStep}, scenario_runs.specs.declared.style.Style.{Style, TheVariants.{Text, Json}}}
 use Rattle.tracehost_c.specs.{declared.{replies.FlatReply.FlatReply, rows.{FlatProcess.FlatProcess, FlatLwp.FlatLwp}}, Replies.flat, FlatRows.{flat_process, flat_lwp}}
 use Rattle.json_trace.specs.Rows.{rows_json}
 use Rattle.open_sessions.specs.{Answers.{last_numbers, shown}, Calls.{OpenSession, last_text, state_of, LineOf, Steps, Answers, IsFull, FullFor}}
 
 abbrev pub style_of : Bool → Style
 style_of json = if json then Json else Text
+
+-- ---- handles
+
+-- the session of a handle that was opened just now
+abbrev pub opened : Settings → OpenSession
+opened settings = record { host = empty settings; made = replicate 64 0; last = None; asked = None }
+
+-- a call that puts this session into a handle, if its code is 0, and otherwise leaves the one that is there
+abbrev pub Gets : (session old new : Option OpenSession) → ℕ → Type 0
+Gets session old new code = (code ≡ 0 → new ≡ session) × (code ≢ 0 → new ≡ old)
 
 -- ---- lines
 

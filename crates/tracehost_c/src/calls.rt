@@ -3,7 +3,7 @@ ghost use Rattle.std.specs.Prelude.{ℕ, List, [], ◌≡◌, ◌≢◌, ◌≤�
 ghost use Rattle.requests.specs.View.{view};
 ghost use Rattle.json_trace.specs.Rows.{rows_json};
 ghost use Rattle.open_sessions.specs.Answers.{last_numbers};
-ghost use Rattle.open_sessions.specs.Calls.{last_text, state_of, LineOf};
+ghost use Rattle.open_sessions.specs.Calls.{last_text, state_of, LineOf, NoLine};
 ghost use Rattle.scenario_text.specs.declared.fault.Fault.TheVariants.{Memory as NoMemory};
 ghost use Rattle.tracehost_c.specs.declared.replies.FlatReply.{FlatReply as Flat};
 ghost use Rattle.tracehost_c.specs.Calls.{style_of, Explains, LineCall, Shows, StepOf, TypedCall};
@@ -100,6 +100,7 @@ pub(crate) fn put_step(
     ensures session { session.new ≡ session.old }
     ensures code { (result ≢ 1) × (result ≤ 3) }
     ensures shown { result ≡ 0 → (line : List ℕ) × LineOf session.old.asked line × Shows line out.old out.new whole.new }
+    ensures none { result ≡ 3 → NoLine session.old.asked }
     ensures refused { result ≢ 0 → (out.new ≡ out.old) × (whole.new ≡ whole.old) }
 {
     match session.show_step(alloc, out) {

@@ -5,19 +5,19 @@
 //!
 //! It is apart from `open_sessions`, so that exported names and layouts are in one crate.
 //!
-//! Begin with the header, then with specs/Calls. The main law is `laws::handle_calls_are_private`: of all calls on a
-//! handle, each user's answers are those of the user's own calls.
+//! Begin with the header, then with specs/Calls. The main law is `laws::all_calls_are_private`: of all calls on all
+//! handles, copies among them, each user's answers are those of the user's own calls.
 #![tactic(auto)]
 
-ghost use Rattle.std.specs.Prelude.{◌≡◌, ◌≢◌, ◌≤◌, ◌⊎◌, ◌↔◌, None, Some, IsSome, IsNone, replicate, option_map};
+ghost use Rattle.std.specs.Prelude.{◌≡◌, ◌≢◌, ◌≤◌, ◌⊎◌, ◌↔◌, None, Some, IsSome, IsSomeAnd, IsNone, option_map};
+ghost use Rattle.open_sessions.specs.Calls.{NoLine};
 ghost use Rattle.pid_blocks.specs.Users.{IsUser};
-ghost use Rattle.requests.specs.Machine.{empty};
 ghost use Rattle.step_types.specs.declared.step.Step.TheVariants as op;
 ghost use Rattle.signals.specs.Dispositions.{disposition_numbered};
 ghost use Rattle.step_types.specs.Names.{request_numbered};
 ghost use Rattle.tracehost_c.specs.Numbers.{act_of as numbered_act, options_numbered};
 ghost use Rattle.tracehost_c.specs.Rules.{policy_numbered};
-ghost use Rattle.tracehost_c.specs.Calls.{style_of, Explains, LineCall, ShowsLast, ShowsNumbers, ShowsRows, ShowsState, ShowsStep, ShowsView, TypedCall};
+ghost use Rattle.tracehost_c.specs.Calls.{opened, style_of, Explains, Gets, LineCall, ShowsLast, ShowsNumbers, ShowsRows, ShowsState, ShowsStep, ShowsView, TypedCall};
 
 mod acts;
 mod calls;
@@ -55,12 +55,7 @@ pub extern "C" fn tracehost_open(
     out: &mut Tracehost,
 ) -> u32
     ensures busy { (result ≡ 1) ↔ IsSome out.old.held.session }
-    ensures opened { result ≡ 0 → out.new.held.session ≡ Some (record {
-      host = empty (record { kill_on_debugger_exit = kill_on_debugger_exit });
-      made = replicate 64 0;
-      last = None;
-      asked = None;
-    }) }
+    ensures opened { Gets (Some (opened (record { kill_on_debugger_exit = kill_on_debugger_exit }))) out.old.held.session out.new.held.session result }
     ensures unchanged { result ≢ 0 → out.new ≡ out.old }
     ensures code { result ≤ 2 }
 {
@@ -99,7 +94,7 @@ pub extern "C" fn tracehost_close(alloc: Global, handle: &mut Tracehost) -> u32
 #[unsafe(no_mangle)]
 pub extern "C" fn tracehost_copy(alloc: Global, from: &mut Tracehost, to: &mut Tracehost) -> u32
     ensures source { from.new.held.session ≡ from.old.held.session }
-    ensures copied { result ≡ 0 → to.new.held.session ≡ from.old.held.session }
+    ensures copied { Gets from.old.held.session to.old.held.session to.new.held.session result }
     ensures unchanged { result ≢ 0 → to.new ≡ to.old }
     ensures closed { IsNone from.old.held.session → result ≡ 1 }
     ensures busy { IsSome to.old.held.session → result ≡ 1 }
@@ -135,7 +130,7 @@ pub extern "C" fn tracehost_copy_over(
     to: &mut Tracehost,
 ) -> u32
     ensures source { from.new.held.session ≡ from.old.held.session }
-    ensures copied { result ≡ 0 → to.new.held.session ≡ from.old.held.session }
+    ensures copied { Gets from.old.held.session to.old.held.session to.new.held.session result }
     ensures unchanged { result ≢ 0 → to.new ≡ to.old }
     ensures not_open { (result ≡ 1) ↔ (IsNone from.old.held.session ⊎ IsNone to.old.held.session) }
     ensures code { result ≤ 2 }
@@ -200,7 +195,7 @@ pub extern "C" fn tracehost_last_line(
 }
 
 /// Writes the line of the step that was answered last over the front of `out`, as far as it has room, and the line's
-/// whole length. Read as a line, it is this step.
+/// whole length. Read as a line, it is this step, a PT_TRACE_ME without what it ignores.
 #[unsafe(no_mangle)]
 pub extern "C" fn tracehost_last_step(
     alloc: Global,
@@ -212,6 +207,7 @@ pub extern "C" fn tracehost_last_step(
     ensures closed { (result ≡ 1) ↔ IsNone handle.old.held.session }
     ensures code { result ≤ 3 }
     ensures shown { result ≡ 0 → ShowsStep handle.old.held.session out.old out.new whole.new }
+    ensures none { result ≡ 3 → IsSomeAnd handle.old.held.session (λ s. NoLine s.asked) }
     ensures refused { result ≢ 0 → (out.new ≡ out.old) × (whole.new ≡ whole.old) }
 {
     if !handle.is_open() {

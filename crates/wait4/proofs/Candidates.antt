@@ -1,5 +1,5 @@
 -- The child that is reported, and whether there is a child, by the lists of tracees and of children, and by number.
-use Rattle.wait4.proofs.CommonNames.{None, if◌then◌else◌, SFits, to_z, of_z, w64, ◌≡◌, ◌≢◌, ℕ, zero, suc, ℤ, pos, negsuc, List, [], ◌∷◌, find, Bool, ◌&&◌, ◌||◌, ltb, Some, is_some, refl, sym, ap}
+use Rattle.wait4.proofs.CommonNames.{Option, None, if◌then◌else◌, SFits, to_z, of_z, w64, ◌≡◌, ◌≢◌, ℕ, zero, suc, ℤ, pos, negsuc, List, [], ◌∷◌, find, Bool, ◌&&◌, ◌||◌, ltb, Some, is_some, refl, sym, ap}
 use Rattle.wait4.proofs.CommonNames.{◌∙◌, subst, nat_eq, rules, arith, AllByRecursion, list_any, cases_Bool, nat_tests, ProcData, keep, Rows, Rise, InOwnBlock, LeastOrNone, fun_ext}
 use Rattle.wait4.proofs.CommonNames.{any-found, least_or_none, All-filter, Options, Tracer, Parent, to_z-of_z, Nothing, NoChild, answer, collect, is_child, fits, names_as, numbered, reportable, lesser}
 use Rattle.wait4.proofs.CommonNames.{candidates, reported, ReportedLeast, find-above_zero}
@@ -49,6 +49,10 @@ pub child-any : (caller : ℕ) (ps : List ProcData) → AllByRecursion InOwnBloc
 child-any caller [] in_own_blocks = refl
 child-any caller (p ∷ ps) in_own_blocks = search (rules, child-any caller ps in_own_blocks.1, ltb, nat_tests, cases_Bool)
 
+keep-and : (s t : ProcData → Bool) (o : Option ProcData) → keep (λ p. s p && t p) o ≡ keep t (keep s o)
+keep-and s t None = refl
+keep-and s t (Some p) = grind arith
+
 -- the same of a signed number of 64 bits, as a test of its bits and a call read it
 module _ (caller : ℕ) (which : ℤ) (fit : SFits w64 which) (rows : Rows) where
   pub whole-any : AllByRecursion InOwnBlock rows.processes → of_z w64 which ≡ all_ones → list_any (λ p. is_child caller p && fits which p) rows.processes
@@ -69,8 +73,9 @@ module _ (caller : ℕ) (which : ℤ) (fit : SFits w64 which) (rows : Rows) wher
       (find-filter (λ p. is_child caller p && fits (negsuc zero) p) (reportable options caller) rows.processes ∙ same_find _ (reportable options caller) (λ p. grind arith) rows.processes)
 
   pub report-numbered : (options : Options) → Rise rows.processes → of_z w64 which ≢ all_ones
-      → reported caller which options rows ≡ keep (λ p. is_child caller p && reportable options caller p) (numbered (to_z w64 (of_z w64 which)) rows.processes)
-  report-numbered options up other = rw (to_z-of_z w64 which fit) (reported-numbered caller options rows up which (is_another which fit other))
+      → reported caller which options rows ≡ keep (reportable options caller) (keep (is_child caller) (numbered (to_z w64 (of_z w64 which)) rows.processes))
+  report-numbered options up other = rw (to_z-of_z w64 which fit)
+      (reported-numbered caller options rows up which (is_another which fit other) ∙ keep-and (is_child caller) (reportable options caller) (numbered which rows.processes))
 
 -- what a wait answers that reports no process
 pub answer-unreported : (caller : ℕ) (which : ℤ) → SFits w64 which → (options : Options) (rows : Rows) → reported caller (to_z w64 (of_z w64 which)) options rows ≡ None

@@ -8,4 +8,5 @@ pub mod Unnamed
 pub mod IsolationOfReports
 pub mod IsolationOfWaits
 pub mod News
+pub mod ChildByNumber
 mod LemmaSets

@@ -5,11 +5,12 @@ ghost use Rattle.std.specs.Prelude.{◌≡◌, ℕ, ◌&&◌, ◌==◌, ltb, tru
 ghost use Rattle.std.specs.List.{list_any};
 ghost use Rattle.proc_table.specs.Processes.{process_of, traces};
 ghost use Rattle.proc_table.specs.Kept.{TableInvariant};
+ghost use Rattle.proc_table.specs.Keep.{keep};
 ghost use Rattle.trace_rows.specs.Facts.{IfEnded, IsSound};
 ghost use Rattle.wait4.specs.Collect.{is_child, is_own, fits, numbered, reportable, status_of, stays, names_as, lesser, reported, collect_one, collect, rows_after};
 
 use crate::{Collected, Options, Status};
-use pid_blocks::{Pid, owner_of_pid};
+use pid_blocks::{Pid, Uid, owner_of_pid};
 use proc_table::{ProcData, State, Tables};
 use trace_rows::post_sigchld;
 
@@ -129,17 +130,29 @@ fn lesser(a: Option<ProcData>, b: Option<ProcData>) -> Option<ProcData>
     }
 }
 
-/// Returns the process with this number, if there is one.
+/// Returns the user's process with this number, if there is one. It looks at no other user's row.
 #[tactic(auto, using(crate::proofs::LemmaSets::of_number))]
-fn find_by_number(tables: &Tables, which: i64) -> Option<ProcData>
-    ensures row { result ≡ numbered which tables.now.rows.processes }
+fn own_by_number(tables: &Tables, user: Uid, which: i64) -> Option<ProcData>
+    ensures row { result ≡ keep (λ p. p.uid == user) (numbered which tables.now.rows.processes) }
     ensures kept { TableInvariant tables.now.rows }
 {
     tables.assert_invariant();
     match u32::try_from(which) {
-        Ok(number) => tables.process_by_number(number),
+        Ok(number) => tables.visible_process(user, number),
         Err(_) => None,
     }
+}
+
+/// Returns the caller's child with this number, if there is one. Children are processes of the caller's user.
+fn child_by_number(tables: &Tables, caller: Pid, which: i64) -> Option<ProcData>
+    requires sound { IsSound tables.now.rows }
+    ensures row { result ≡ keep (is_child caller) (numbered which tables.now.rows.processes) }
+    ensures kept { TableInvariant tables.now.rows }
+{
+    tables.assert_invariant();
+    let user = owner_of_pid(caller.get())?;
+    let p = own_by_number(tables, user, which)?;
+    if is_child(caller, &p) { Some(p) } else { None }
 }
 
 /// Returns the child that is reported: the first child that has something to report if `which` is -1, and else the
@@ -159,8 +172,8 @@ fn reported(tables: &Tables, caller: Pid, which: i64, options: Options) -> Optio
         let child = first_report(tables, Relation::Parent, caller, options);
         return lesser(tracee, child);
     }
-    let p = find_by_number(tables, which)?;
-    if is_child(caller, &p) && reportable(options, caller, &p) {
+    let p = child_by_number(tables, caller, which)?;
+    if reportable(options, caller, &p) {
         Some(p)
     } else {
         None
@@ -169,16 +182,14 @@ fn reported(tables: &Tables, caller: Pid, which: i64, options: Options) -> Optio
 
 /// Tests whether the caller has a child that the wait is for.
 fn has_child(tables: &Tables, caller: Pid, which: i64) -> bool
+    requires { IsSound tables.now.rows }
     ensures { result ≡ list_any (λ p. is_child caller p && fits which p) tables.now.rows.processes }
 {
     if which == -1 {
         return first_related(tables, Relation::Tracer, caller).is_some()
             || first_related(tables, Relation::Parent, caller).is_some();
     }
-    match find_by_number(tables, which) {
-        Some(p) => is_child(caller, &p),
-        None => false,
-    }
+    child_by_number(tables, caller, which).is_some()
 }
 
 /// Tests whether a zombie stays for its parent after the caller has collected it.

@@ -8,8 +8,5 @@ returns-then-is_some c = grind (arith, whole-any c.args.caller c.args.which c.ra
 pub returns-else-is_some : goal.returns-else-is_some
 returns-else-is_some c = grind (arith, whole-any c.args.caller c.args.which c.ranges.which c.args.tables.now.rows c.first_related.ensures.kept.in_own_blocks c.if-which-eqminus1.true)
 
-pub returns-in-Some : goal.returns-in-Some
-returns-in-Some c = grind (arith, whole-numbered c.args.caller c.args.which c.ranges.which c.args.tables.now.rows c.find_by_number.ensures.kept.rising c.if-which-eqminus1.false)
-
-pub returns-in-None : goal.returns-in-None
-returns-in-None c = grind (arith, whole-numbered c.args.caller c.args.which c.ranges.which c.args.tables.now.rows c.find_by_number.ensures.kept.rising c.if-which-eqminus1.false)
+pub returns : goal.returns
+returns c = grind (arith, whole-numbered c.args.caller c.args.which c.ranges.which c.args.tables.now.rows c.child_by_number.ensures.kept.rising c.if-which-eqminus1.false)
