@@ -51,7 +51,7 @@ impl Search<'_> {
             let step = with_news(step, news);
             match self.take(hosts, at, (spot, next), (place, news), (step, when))? {
                 Went::On(view) => return Ok(Some((step, view))),
-                Went::Fails(_) => return Ok(None),
+                Went::Fails(_) | Went::Mistakes(_) => return Ok(None),
                 Went::Waits | Went::Gone => (),
             }
         }
@@ -69,7 +69,7 @@ impl Search<'_> {
         if let Step::Wait4(caller, Which::Any, options) = step {
             for pid in hosts.children(at, caller)?.iter() {
                 let (wait, who) = (with_news(step, Some(*pid)), who(spot, (place, Some(*pid))));
-                if !hosts.is_known(at, wait, who) && matches!(hosts.step(at, wait, who)?.0, Ok(Reply::Status { .. })) {
+                if !hosts.is_known(at, wait, who)? && matches!(hosts.step(at, wait, who)?.0, Ok(Reply::Status { .. })) {
                     return Ok(Some(Some(*pid)));
                 }
             }
@@ -77,7 +77,8 @@ impl Search<'_> {
                 return Ok(None);
             }
         }
-        Ok((!hosts.is_known(at, step, who(spot, (place, None)))).then_some(None))
+        let is_known = hosts.is_known(at, step, who(spot, (place, None)))?;
+        Ok((!is_known).then_some(None))
     }
 }
 

@@ -1,6 +1,7 @@
 //! What was asked and answered before. Views, questions and answers are kept as numbers, so that many fit.
 
 use crate::hash::{Hasher, Key};
+use crate::memory::{one_more, room, Refused};
 use crate::set::Part;
 use std::collections::HashMap;
 use std::hash::{BuildHasherDefault, Hash};
@@ -22,15 +23,17 @@ impl<T: Clone + Eq + Hash> Numbered<T> {
         }
     }
 
-    fn number(&mut self, value: &T) -> NonZeroU32 {
+    fn number(&mut self, value: &T) -> Result<NonZeroU32, Refused> {
         if let Some(number) = self.numbers.get(value) {
-            return *number;
+            return Ok(*number);
         }
+        self.numbers.try_reserve(1).map_err(|_| Refused)?;
+        one_more(&mut self.values)?;
         self.values.push(value.clone());
         let count = u32::try_from(self.values.len()).ok().and_then(NonZeroU32::new);
         let number = count.expect("there are about MOST_VALUES");
         self.numbers.insert(value.clone(), number);
-        number
+        Ok(number)
     }
 
     fn value(&self, number: NonZeroU32) -> &T {
@@ -118,15 +121,15 @@ const VIEW: usize = std::mem::size_of::<Key>() + std::mem::size_of::<Row>() + 8;
 
 impl<Q: Clone + Eq + Hash, A: Clone + Eq + Hash> Answers<Q, A> {
     /// At most about so many answers.
-    pub fn new(most: usize) -> Answers<Q, A> {
-        Answers {
+    pub fn new(most: usize) -> Result<Answers<Q, A>, Refused> {
+        Ok(Answers {
             questions: Numbered::new(),
             answers: Numbered::new(),
-            views: Part::new(),
+            views: Part::new()?,
             rows: Vec::new(),
             blocks: Vec::new(),
             most: most.saturating_mul(ANSWER),
-        }
+        })
     }
 
     /// Whether it is time to forget all.
@@ -137,39 +140,42 @@ impl<Q: Clone + Eq + Hash, A: Clone + Eq + Hash> Answers<Q, A> {
     }
 
     /// Forgets all: numbers of views mean nothing any more.
-    pub fn forget(&mut self) {
-        let most = self.most;
-        *self = Answers {
-            most,
-            ..Answers::new(0)
-        };
+    pub fn forget(&mut self) -> Result<(), Refused> {
+        (self.questions, self.answers) = (Numbered::new(), Numbered::new());
+        (self.rows, self.blocks) = (Vec::new(), Vec::new());
+        self.views = Part::new()?;
+        Ok(())
     }
 
     /// The number of a view.
-    fn view(&mut self, key: Key) -> (Seen, bool) {
-        let (number, is_new) = self.views.insert(key);
+    fn view(&mut self, key: Key) -> Result<(Seen, bool), Refused> {
+        let (number, is_new) = self.views.insert(key)?;
         if is_new {
+            one_more(&mut self.rows)?;
             self.rows.push(Row { block: NONE, way: None });
         }
-        (Seen(number), is_new)
+        Ok((Seen(number), is_new))
     }
 
     /// The numbers of views, whose answers are asked for next. What that needs is read for all of them first: so a processor
     /// waits for all as long as for one.
-    pub fn views(&mut self, keys: impl Iterator<Item = Key> + Clone) -> Vec<Seen> {
+    pub fn views(&mut self, keys: impl Iterator<Item = Key> + Clone) -> Result<Vec<Seen>, Refused> {
         black_box(keys.clone().fold(0, |all, key| all ^ self.views.near(key)));
         let places = keys.clone().map(|key| self.views.candidate(key));
         let places: Vec<Option<u32>> = places.collect();
-        let seen = keys.zip(places).map(|(key, place)| match place {
-            Some(place) if self.views.is_at(key, place) => Seen(place),
-            _ => self.view(key).0,
-        });
-        let seen: Vec<Seen> = seen.collect();
+        let mut seen = room(places.len())?;
+        for (key, place) in keys.zip(places) {
+            seen.push(match place {
+                Some(place) if self.views.is_at(key, place) => Seen(place),
+                _ => self.view(key)?.0,
+            });
+        }
+        let seen: Vec<Seen> = seen;
         let last = seen.iter().map(|view| self.row(*view).block);
         let before = |at: u32| self.blocks.get(at as usize).map_or(NONE, |block| block.before);
         let blocks: Vec<u32> = last.map(before).collect();
         black_box(blocks.into_iter().map(before).fold(0, |all, at| all ^ at));
-        seen
+        Ok(seen)
     }
 
     pub fn key(&self, view: Seen) -> Key {
@@ -180,8 +186,8 @@ impl<Q: Clone + Eq + Hash, A: Clone + Eq + Hash> Answers<Q, A> {
         &self.rows[view.0 as usize]
     }
 
-    pub fn question(&mut self, question: &Q) -> Question {
-        Question(self.questions.number(question))
+    pub fn question(&mut self, question: &Q) -> Result<Question, Refused> {
+        Ok(Question(self.questions.number(question)?))
     }
 
     pub fn get(&self, view: Seen, question: Question) -> Option<Known> {
@@ -200,32 +206,34 @@ impl<Q: Clone + Eq + Hash, A: Clone + Eq + Hash> Answers<Q, A> {
     }
 
     /// Keeps an answer that isn't known yet, if there aren't too many.
-    pub fn put(&mut self, view: Seen, question: Question, answer: &A, after: Key) -> Known {
-        let answer = self.answers.number(answer);
-        let (after, is_new) = self.view(after);
+    pub fn put(&mut self, view: Seen, question: Question, answer: &A, after: Key) -> Result<Known, Refused> {
+        let answer = self.answers.number(answer)?;
+        let (after, is_new) = self.view(after)?;
         if is_new {
             self.rows[after.0 as usize].way = Some((question, view));
         }
         let known = Known { answer, after };
         if let Some(entry) = Entry::new(question, known) {
-            self.add(view, entry);
+            self.add(view, entry)?;
         }
-        known
+        Ok(known)
     }
 
-    fn add(&mut self, view: Seen, entry: Entry) {
+    fn add(&mut self, view: Seen, entry: Entry) -> Result<(), Refused> {
         let before = self.row(view).block;
         let block = self.blocks.get_mut(before as usize);
         let free = block.and_then(|block| block.entries.iter_mut().find(|entry| entry.is_none()));
         if let Some(free) = free {
             *free = Some(entry);
-            return;
+            return Ok(());
         }
+        one_more(&mut self.blocks)?;
         let block = u32::try_from(self.blocks.len()).expect("less than 2^32 blocks");
         self.rows[view.0 as usize].block = block;
         let mut entries = [None; ENTRIES];
         entries[0] = Some(entry);
         self.blocks.push(Block { entries, before });
+        Ok(())
     }
 
     pub fn answer(&self, known: Known) -> &A {
@@ -251,17 +259,17 @@ mod tests {
     /// All that was asked is answered as it was, and a view is reached as it was first.
     #[test]
     fn an_answer_is_the_one_that_was_kept() {
-        let mut answers: Answers<u64, u64> = Answers::new(1 << 20);
+        let mut answers: Answers<u64, u64> = Answers::new(1 << 20).expect("memory");
         for n in 0..5000 {
-            let (view, _) = answers.view(key(n / 17));
-            let question = answers.question(&(n % 17));
+            let (view, _) = answers.view(key(n / 17)).expect("memory");
+            let question = answers.question(&(n % 17)).expect("memory");
             assert_eq!(answers.get(view, question), None);
-            let known = answers.put(view, question, &(n % 7), key(n));
+            let known = answers.put(view, question, &(n % 7), key(n)).expect("memory");
             assert_eq!(answers.get(view, question), Some(known));
         }
-        let views = answers.views((0..5000).map(|n| key(n / 17)));
+        let views = answers.views((0..5000).map(|n| key(n / 17))).expect("memory");
         for (n, view) in (0..5000).zip(views) {
-            let question = answers.question(&(n % 17));
+            let question = answers.question(&(n % 17)).expect("memory");
             let known = answers.get(view, question).expect("an answer");
             assert_eq!((answers.answer(known), answers.key(known.after)), (&(n % 7), key(n)));
             let way = answers.way(known.after);
@@ -273,17 +281,17 @@ mod tests {
     /// Until all is forgotten, it is told, and asked for again.
     #[test]
     fn an_answer_of_too_many_is_not_kept() {
-        let mut answers: Answers<u64, u64> = Answers::new(1 << 20);
-        let (view, _) = answers.view(key(0));
-        let question = answers.question(&0);
+        let mut answers: Answers<u64, u64> = Answers::new(1 << 20).expect("memory");
+        let (view, _) = answers.view(key(0)).expect("memory");
+        let question = answers.question(&0).expect("memory");
         for n in 0..MOST_VALUES as u64 {
-            answers.answers.number(&n);
+            answers.answers.number(&n).expect("memory");
         }
         assert!(answers.is_full());
-        let known = answers.put(view, question, &u64::MAX, key(1));
+        let known = answers.put(view, question, &u64::MAX, key(1)).expect("memory");
         assert_eq!((answers.answer(known), answers.key(known.after)), (&u64::MAX, key(1)));
         assert_eq!(answers.get(view, question), None);
-        let known = answers.put(view, question, &7, key(1));
+        let known = answers.put(view, question, &7, key(1)).expect("memory");
         assert_eq!(answers.get(view, question), Some(known));
     }
 
@@ -291,17 +299,17 @@ mod tests {
     #[test]
     fn what_is_too_much_is_forgotten() {
         for (most, values) in [(1 << 20, 3 * MOST_VALUES as u64), (1000, 7)] {
-            let mut answers: Answers<u64, u64> = Answers::new(most);
+            let mut answers: Answers<u64, u64> = Answers::new(most).expect("memory");
             let mut times = 0;
             for n in 0..3 * MOST_VALUES as u64 {
                 if answers.is_full() {
-                    answers.forget();
+                    answers.forget().expect("memory");
                     times += 1;
                     assert!(!answers.is_full());
                 }
-                let (view, _) = answers.view(key(n));
-                let question = answers.question(&(n % 3));
-                let known = answers.put(view, question, &(n % values), key(n));
+                let (view, _) = answers.view(key(n)).expect("memory");
+                let question = answers.question(&(n % 3)).expect("memory");
+                let known = answers.put(view, question, &(n % values), key(n)).expect("memory");
                 assert_eq!(answers.answer(known), &(n % values));
                 assert!(answers.answers.values.len() <= MOST_VALUES && answers.rows.len() * VIEW <= most * ANSWER);
             }

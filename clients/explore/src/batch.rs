@@ -3,7 +3,7 @@
 use crate::answers::Seen;
 use crate::hash::Key;
 use crate::hosts::Hosts;
-use crate::levels::Progress;
+use crate::progress::Progress;
 use crate::search::{Reached, Search};
 use crate::set::part_of;
 use crate::spot::key_of;

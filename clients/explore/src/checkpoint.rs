@@ -2,10 +2,13 @@
 
 use crate::hash::{Hasher, Key};
 use crate::list::List;
+use crate::memory::{room, Refused};
+use crate::packed::{pack, Packing};
 use crate::set::PARTS;
+use crate::spots::Spots;
 use std::fs::{self, File};
 use std::io::{self, BufReader, BufWriter, Error, ErrorKind, Read, Write};
-use std::path::Path;
+use std::path::{Path, PathBuf};
 
 const MAGIC: &[u8; 16] = b"tracehost-search";
 
@@ -17,23 +20,28 @@ pub type Identity = Vec<(&'static str, String)>;
 pub struct SavedPart {
     pub keys: List<Key>,
     pub links: List<u64>,
-    /// The place of the first state of the front, and its spots.
+    /// The place of the first state of the front, and its spots, packed by themselves.
     pub first: usize,
-    pub spots: Vec<u8>,
+    pub spots: Vec<Vec<u8>>,
 }
 
 /// The same, to be written.
 pub struct PartToSave<'a> {
     pub keys: &'a List<Key>,
     pub links: &'a List<u64>,
+    /// How many of them there are. Later ones are of a level that isn't done.
+    pub count: usize,
     pub first: usize,
-    pub spots: Vec<u8>,
+    /// The spots, how they are packed, and their words.
+    pub spots: Option<(&'a Spots, &'a Packing, usize)>,
 }
 
 /// A search between two levels, to be written: one part is there at a time.
 pub struct ToSave<P> {
     pub depth: u64,
     pub transitions: u64,
+    /// What the search has come by.
+    pub notes: Vec<u64>,
     pub parts: P,
 }
 
@@ -42,8 +50,12 @@ pub struct ToSave<P> {
 pub struct Saved {
     pub depth: u64,
     pub transitions: u64,
+    pub notes: Vec<u64>,
     pub parts: Vec<SavedPart>,
 }
+
+/// About how many bytes of spots are written at once.
+const PIECE: usize = 1 << 16;
 
 struct Output<W> {
     to: W,
@@ -56,9 +68,28 @@ impl<W: Write> Output<W> {
         self.to.write_all(&word.to_le_bytes())
     }
 
-    fn words(&mut self, words: &List<u64>) -> io::Result<()> {
-        self.word(words.len() as u64)?;
-        words.iter().try_for_each(|word| self.word(*word))
+    fn words(&mut self, count: usize, mut words: impl Iterator<Item = u64>) -> io::Result<()> {
+        self.word(count as u64)?;
+        words.try_for_each(|word| self.word(word))
+    }
+
+    /// Pieces with whole spots, and one of no bytes.
+    fn spots(&mut self, (spots, packing, width): (&Spots, &Packing, usize)) -> io::Result<()> {
+        let mut piece = Vec::new();
+        spots.each(packing, width, |words| {
+            pack(words, &mut piece);
+            if piece.len() < PIECE {
+                return Ok::<(), Error>(());
+            }
+            self.bytes(&piece)?;
+            piece.clear();
+            Ok(())
+        })?;
+        if piece.is_empty() {
+            Ok(())
+        } else {
+            self.bytes(&piece)
+        }
     }
 
     fn bytes(&mut self, bytes: &[u8]) -> io::Result<()> {
@@ -78,7 +109,13 @@ struct Input<R> {
     left: u64,
 }
 
-fn broken(why: &str) -> Error {
+impl From<Refused> for Error {
+    fn from(Refused: Refused) -> Error {
+        ErrorKind::OutOfMemory.into()
+    }
+}
+
+pub fn broken(why: &str) -> Error {
     Error::new(ErrorKind::InvalidData, why)
 }
 
@@ -101,7 +138,30 @@ impl<R: Read> Input<R> {
     }
 
     fn words(&mut self) -> io::Result<List<u64>> {
-        (0..self.count()?).map(|_| self.word()).collect()
+        let mut words = List::new();
+        for _ in 0..self.count()? {
+            words.push(self.word()?)?;
+        }
+        Ok(words)
+    }
+
+    fn keys(&mut self) -> io::Result<List<Key>> {
+        let mut keys = List::new();
+        for _ in 0..self.count()? {
+            keys.push(Key(self.word()?, self.word()?))?;
+        }
+        Ok(keys)
+    }
+
+    fn spots(&mut self) -> io::Result<Vec<Vec<u8>>> {
+        let mut pieces = Vec::new();
+        loop {
+            let piece = self.bytes()?;
+            if piece.is_empty() {
+                return Ok(pieces);
+            }
+            pieces.push(piece);
+        }
     }
 
     fn bytes(&mut self) -> io::Result<Vec<u8>> {
@@ -109,7 +169,7 @@ impl<R: Read> Input<R> {
         if length > self.left {
             return Err(broken("it is cut off"));
         }
-        let mut bytes = Vec::new();
+        let mut bytes = room(length.next_multiple_of(8) as usize)?;
         for _ in 0..length.div_ceil(8) {
             bytes.extend_from_slice(&self.word()?.to_le_bytes());
         }
@@ -122,13 +182,51 @@ impl<R: Read> Input<R> {
     }
 }
 
+/// The file that a process writes, until it is whole.
+fn unfinished(path: &Path, process: u32) -> PathBuf {
+    let mut name = path.as_os_str().to_owned();
+    name.push(format!(".{process}{UNFINISHED}"));
+    name.into()
+}
+
+const UNFINISHED: &str = ".unfinished";
+
+/// Removes such files of processes that aren't there any more. Another search may write its own at this moment.
+pub fn remove_unfinished(path: &Path) {
+    let (Some(name), Some(folder)) = (path.file_name(), unfinished(path, 0).parent().map(Path::to_owned)) else {
+        return;
+    };
+    let folder = if folder.as_os_str().is_empty() {
+        PathBuf::from(".")
+    } else {
+        folder
+    };
+    for entry in fs::read_dir(folder).into_iter().flatten().flatten() {
+        let found = entry.file_name();
+        let rest = found.as_encoded_bytes().strip_prefix(name.as_encoded_bytes());
+        let process = rest.and_then(|rest| {
+            std::str::from_utf8(rest)
+                .ok()?
+                .strip_prefix('.')?
+                .strip_suffix(UNFINISHED)?
+                .parse::<u32>()
+                .ok()
+        });
+        let is_gone =
+            |process: u32| Path::new("/proc/self").exists() && !Path::new(&format!("/proc/{process}")).exists();
+        if process.is_some_and(is_gone) {
+            let _ = fs::remove_file(entry.path()); // it stays, and is in nobody's way
+        }
+    }
+}
+
 /// Writes a search into the file. If that fails the file is as it was.
 pub fn write<'a>(
     path: &Path,
     identity: &Identity,
     saved: ToSave<impl Iterator<Item = PartToSave<'a>>>,
 ) -> io::Result<()> {
-    let new = crate::found::unfinished(path);
+    let new = unfinished(path, std::process::id());
     let written = write_new(&new, identity, saved).and_then(|()| fs::rename(&new, path));
     if written.is_err() {
         let _ = fs::remove_file(&new);
@@ -154,15 +252,14 @@ fn write_new<'a>(
     }
     output.word(saved.depth)?;
     output.word(saved.transitions)?;
+    output.words(saved.notes.len(), saved.notes.iter().copied())?;
     for part in saved.parts {
-        output.word(part.keys.len() as u64)?;
-        for key in part.keys.iter() {
-            output.word(key.0)?;
-            output.word(key.1)?;
-        }
-        output.words(part.links)?;
+        let keys = part.keys.iter().take(part.count);
+        output.words(part.count, keys.flat_map(|key| [key.0, key.1]))?;
+        output.words(part.count, part.links.iter().take(part.count).copied())?;
         output.word(part.first as u64)?;
-        output.bytes(&part.spots)?;
+        part.spots.map_or(Ok(()), |spots| output.spots(spots))?;
+        output.bytes(&[])?;
     }
     let Key(first, second) = output.sum.key();
     output.word(first)?;
@@ -196,14 +293,14 @@ pub fn read(path: &Path, identity: &Identity) -> io::Result<Saved> {
     }
     check_identity(&mut input, identity)?;
     let (depth, transitions) = (input.word()?, input.word()?);
+    let notes = input.words()?.iter().copied().collect();
     let mut parts = Vec::new();
     for _ in 0..PARTS {
-        let keys = (0..input.count()?).map(|_| Ok(Key(input.word()?, input.word()?)));
         parts.push(SavedPart {
-            keys: keys.collect::<io::Result<_>>()?,
+            keys: input.keys()?,
             links: input.words()?,
             first: input.word()? as usize,
-            spots: input.bytes()?,
+            spots: input.spots()?,
         });
     }
     let sum = input.sum.key();
@@ -216,6 +313,7 @@ pub fn read(path: &Path, identity: &Identity) -> io::Result<Saved> {
     Ok(Saved {
         depth,
         transitions,
+        notes,
         parts,
     })
 }
@@ -240,7 +338,7 @@ fn check_identity(input: &mut Input<impl Read>, identity: &Identity) -> io::Resu
 #[cfg(test)]
 mod tests {
     use super::*;
-    use std::path::PathBuf;
+    use crate::hash::mixed;
 
     fn folder(name: &str) -> PathBuf {
         let folder = std::env::temp_dir().join(format!("tracehost-explore-{name}-{}", std::process::id()));
@@ -248,30 +346,63 @@ mod tests {
         folder
     }
 
+    const WIDTH: usize = 3;
+
+    /// Some have none, and one more than a piece.
+    fn spots(part: usize) -> Vec<[u64; WIDTH]> {
+        let count = if part == 9 { PIECE as u64 / 10 } else { part as u64 % 5 };
+        (0..count).map(|n| [mixed(n), n, mixed(n)]).collect()
+    }
+
     fn saved() -> Saved {
-        let part = |n: u64| SavedPart {
-            keys: (0..n).map(|k| Key(k, n)).collect(),
-            links: (0..n).collect(),
-            first: n as usize / 2,
-            spots: vec![7; n as usize],
+        let part = |part: usize| {
+            let (n, mut bytes) = (part as u64, Vec::new());
+            spots(part).iter().for_each(|words| pack(words, &mut bytes));
+            SavedPart {
+                keys: List::of((0..n).map(|k| Key(k, n))).expect("memory"),
+                links: List::of(0..n).expect("memory"),
+                first: part / 2,
+                spots: bytes.chunks(usize::MAX).map(<[u8]>::to_vec).collect(),
+            }
         };
         Saved {
             depth: 3,
             transitions: 9,
-            parts: (0..PARTS as u64).map(part).collect(),
+            notes: (5..8).collect(),
+            parts: (0..PARTS).map(part).collect(),
         }
     }
 
     fn written(file: &Path, identity: &Identity, saved: &Saved) {
-        let parts = saved.parts.iter().map(|part| PartToSave {
-            keys: &part.keys,
-            links: &part.links,
+        let mut packing = Packing::default();
+        let mut packed = |part: usize| {
+            let mut packed = Spots::default();
+            for words in spots(part) {
+                packed.add(&mut packing, &words).expect("memory");
+            }
+            packed
+        };
+        let packed: Vec<Spots> = (0..PARTS).map(&mut packed).collect();
+        // what comes later in a list is of the next level
+        let lists = saved.parts.iter().map(|part| (part.keys.clone(), part.links.clone()));
+        let lists: Vec<_> = lists
+            .map(|(mut keys, mut links)| {
+                keys.push(Key(1, 1)).and_then(|()| links.push(7)).expect("memory");
+                (keys, links)
+            })
+            .collect();
+        let parts = saved.parts.iter().zip(&packed).zip(&lists);
+        let parts = parts.map(|((part, packed), (keys, links))| PartToSave {
+            keys,
+            links,
+            count: part.keys.len(),
             first: part.first,
-            spots: part.spots.clone(),
+            spots: Some((packed, &packing, WIDTH)),
         });
         let saved = ToSave {
             depth: saved.depth,
             transitions: saved.transitions,
+            notes: saved.notes.clone(),
             parts,
         };
         write(file, identity, saved).expect("a file");
@@ -286,10 +417,37 @@ mod tests {
         let folder = folder("read");
         let file = folder.join("search");
         written(&file, &identity("a"), &saved());
-        assert_eq!(read(&file, &identity("a")).expect("a checkpoint"), saved());
+        let mut found = read(&file, &identity("a")).expect("a checkpoint");
+        assert!(found.parts[9].spots.len() > 1);
+        for part in &mut found.parts {
+            part.spots = part.spots.concat().chunks(usize::MAX).map(<[u8]>::to_vec).collect();
+        }
+        assert!(found == saved());
         let other = read(&file, &identity("b")).expect_err("another model");
         assert_eq!(other.to_string(), "it is of another search: model is b, and was a");
         assert_eq!(fs::read_dir(&folder).expect("the folder").count(), 1);
+        fs::remove_dir_all(folder).expect("removed");
+    }
+
+    /// Those of processes that aren't there any more. No process has the largest number of all, nor a living one this test's.
+    #[test]
+    fn what_a_killed_search_has_not_written_is_removed() {
+        let folder = folder("unfinished");
+        let file = folder.join("search.1001");
+        let (gone, here) = (unfinished(&file, u32::MAX), unfinished(&file, std::process::id()));
+        let others = [
+            "search.1001",
+            "search.1001.7",
+            "search.1002.4294967295.unfinished",
+            "search.1001.x.unfinished",
+        ];
+        let others = others.map(|name| folder.join(name));
+        for path in others.iter().chain([&gone, &here]) {
+            fs::write(path, "half").expect("written");
+        }
+        remove_unfinished(&file);
+        assert!(!gone.exists() && here.exists() && others.iter().all(|path| path.exists()));
+        remove_unfinished(Path::new("no/folder"));
         fs::remove_dir_all(folder).expect("removed");
     }
 
@@ -300,11 +458,12 @@ mod tests {
         let file = folder.join("search");
         written(&file, &identity("a"), &saved());
         let whole = fs::read(&file).expect("bytes");
-        for length in (0..whole.len()).step_by(61) {
+        assert!(whole.len() > 2 * PIECE);
+        for length in (0..whole.len()).step_by(1201) {
             fs::write(&file, &whole[..length]).expect("written");
             assert!(read(&file, &identity("a")).is_err(), "{length} bytes");
         }
-        for place in (0..whole.len()).step_by(53) {
+        for place in (0..whole.len()).step_by(1009) {
             let mut bytes = whole.clone();
             bytes[place] ^= 4;
             fs::write(&file, &bytes).expect("written");

@@ -1,6 +1,8 @@
 //! What a search has found.
 
-use crate::hosts::{checked, Calls};
+use crate::calls::Calls;
+use crate::coverage::Vacuous;
+use crate::hosts::checked;
 use crate::model::Model;
 use crate::process::{Memory, Next, Place};
 use crate::search::Failure;
@@ -32,6 +34,28 @@ impl fmt::Display for Taken {
     }
 }
 
+/// Why a search ends before all states were seen.
+#[derive(Clone, Copy, Debug, PartialEq, Eq)]
+#[non_exhaustive]
+pub enum Unfinished {
+    /// There are more states than [`Options::limit`](crate::Options::limit).
+    Limit,
+    /// They take more memory than [`Options::memory`](crate::Options::memory).
+    Memory,
+    /// The system has refused memory.
+    Refused,
+}
+
+impl fmt::Display for Unfinished {
+    fn fmt(&self, f: &mut fmt::Formatter<'_>) -> fmt::Result {
+        f.pad(match self {
+            Unfinished::Limit => "the limit of states is reached",
+            Unfinished::Memory => "the limit of memory is reached",
+            Unfinished::Refused => "the system has refused memory",
+        })
+    }
+}
+
 /// What a search has found.
 pub struct Found<'m> {
     model: &'m Model,
@@ -40,6 +64,7 @@ pub struct Found<'m> {
     /// A shortest way to the failure.
     pub trace: Vec<Taken>,
     route: Route,
+    is_late: bool,
     /// Different states; of users that were searched by themselves the sum.
     pub states: u64,
     /// Steps from them.
@@ -48,6 +73,10 @@ pub struct Found<'m> {
     pub depth: usize,
     /// Whether all states were seen, or a failure.
     pub is_finished: bool,
+    /// What says nothing of the pass, if all interleavings have passed.
+    pub vacuous: Vec<Vacuous>,
+    /// Why not, if not.
+    pub unfinished: Option<Unfinished>,
     /// Calls of the library.
     pub calls: Calls,
     /// The most bytes of the set of states and the front, without sessions and answers.
@@ -63,27 +92,33 @@ impl<'m> Found<'m> {
             failure: None,
             trace: Vec::new(),
             route: Vec::new(),
+            is_late: false,
             states: 0,
             transitions: 0,
             depth: 0,
             is_finished: true,
+            vacuous: Vec::new(),
+            unfinished: None,
             calls: Calls::default(),
             bytes: 0,
             seconds: 0.0,
         }
     }
 
-    pub(crate) fn add(&mut self, states: u64, transitions: u64, depth: usize, is_finished: bool) {
+    pub(crate) fn add(&mut self, states: u64, transitions: u64, depth: usize, unfinished: Option<Unfinished>) {
         self.states += states;
         self.transitions += transitions;
         self.depth = self.depth.max(depth);
-        self.is_finished &= is_finished;
+        self.is_finished &= unfinished.is_none();
+        self.unfinished = self.unfinished.or(unfinished);
     }
 
-    /// Of the failures of several users the one with the shortest way is told.
-    pub(crate) fn fail(&mut self, failure: Failure, route: Route) {
-        if self.failure.is_none() || route.len() < self.route.len() {
-            (self.failure, self.route) = (Some(failure), route);
+    /// Of the failures of several users the one with the shortest way is told: of those that are found only once all states were
+    /// seen if there are no others, as if the users were searched together.
+    pub(crate) fn fail(&mut self, failure: Failure, route: Route, is_late: bool) {
+        let rank = (is_late, route.len());
+        if self.failure.is_none() || rank < (self.is_late, self.route.len()) {
+            (self.failure, self.route, self.is_late) = (Some(failure), route, is_late);
         }
     }
 
@@ -199,16 +234,16 @@ impl fmt::Display for Found<'_> {
                 .try_for_each(|(place, taken)| write!(f, "\n{:4} {taken}", place + 1));
         }
         let (states, transitions) = (self.states, self.transitions);
-        if self.is_finished {
-            write!(
+        match self.unfinished {
+            None => write!(
                 f,
                 "all interleavings passed: {states} states, {transitions} transitions"
             )
-        } else {
-            write!(
+            .and_then(|()| self.vacuous.iter().try_for_each(|vacuous| write!(f, "\n{vacuous}"))),
+            Some(why) => write!(
                 f,
-                "not all states were seen: {states} states, {transitions} transitions, and no failure among them"
-            )
+                "not all states were seen: {states} states, {transitions} transitions, and no failure among them: {why}"
+            ),
         }
     }
 }

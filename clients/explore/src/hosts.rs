@@ -1,11 +1,17 @@
 //! What the model answers, asked of the library once: a step from a state is answered as it was before, which is proved.
 
+mod way;
+
+use crate::alike::{told_apart, Alike};
 use crate::answers::{Answers, Known, Question, Seen};
+use crate::calls::Calls;
 use crate::hash::{Hasher, Key};
-use crate::model::{killed, Kind, Property};
+use crate::memory::Refused;
+use crate::model::{killed, Kind, Property, Side};
 use crate::process::Answer;
-use crate::sessions::{copied, Sessions};
+use crate::sessions::Sessions;
 use crate::step::Step;
+use crate::symmetry::Symmetry;
 use std::sync::Arc;
 use tracehost::{Caller, Errno, Error, Reply, Session, SignalSet, State, WaitOptions, Which};
 
@@ -27,6 +33,10 @@ enum Ask {
     Live(u32),
     /// The first property that the user's rows break; at an end, or always.
     Broken(u32, bool),
+    /// Whether a side of a property holds of the user's rows.
+    Holds(u32, usize, Side),
+    /// A property that an exchange of equal processes changes; at an end, or always.
+    Apart(u32, bool),
 }
 
 impl Ask {
@@ -37,6 +47,8 @@ impl Ask {
             Ask::Children(caller) | Ask::News(caller, _) => caller.pid,
             Ask::Signal(_, lwp) => lwp,
             Ask::State(user) | Ask::There(user) | Ask::Live(user) | Ask::Broken(user, _) => user,
+            Ask::Holds(user, property, side) => user + 2 * property as u32 + side as u32,
+            Ask::Apart(user, _) => user,
         }
     }
 }
@@ -50,6 +62,8 @@ enum Told {
     Numbers(Arc<[u32]>),
     Met(Met),
     Broken(Broken),
+    Holds(bool),
+    Apart(Option<String>),
 }
 
 /// Whether an LWP meets a signal once it is in user mode.
@@ -67,29 +81,6 @@ pub struct At<'a> {
     pub replay: &'a dyn Fn(&mut Session) -> Result<(), Error>,
 }
 
-/// How often the library was called.
-#[derive(Clone, Copy, Debug, Default, PartialEq, Eq)]
-pub struct Calls {
-    /// For steps.
-    pub steps: u64,
-    /// For copies of a session over another.
-    pub copies: u64,
-    /// Of these, copies of the start, from which the steps were made again.
-    pub replays: u64,
-}
-
-impl std::ops::Add for Calls {
-    type Output = Calls;
-
-    fn add(self, other: Calls) -> Calls {
-        Calls {
-            steps: self.steps + other.steps,
-            copies: self.copies + other.copies,
-            replays: self.replays + other.replays,
-        }
-    }
-}
-
 /// What the hosts of a thread keep.
 pub struct Room<'a> {
     pub answers: usize,
@@ -98,6 +89,8 @@ pub struct Room<'a> {
     pub owns: Box<dyn Fn(Key) -> bool + Send + 'a>,
     /// Whether steps are made ahead of the search. Else a session is kept at each state that a step comes to.
     pub goes_ahead: bool,
+    /// Which processes are equal, if they are exchanged.
+    pub symmetry: Option<&'a Symmetry>,
 }
 
 /// A session that has made so many steps again is kept.
@@ -128,6 +121,8 @@ pub struct Hosts<'a> {
     /// How many steps are made ahead now.
     pub ahead: usize,
     outgoing: Option<(Key, Session)>,
+    symmetry: Option<&'a Symmetry>,
+    pub alike: Alike,
     pub calls: Calls,
 }
 
@@ -165,8 +160,8 @@ impl<'a> Hosts<'a> {
             scratch: None,
             scratch_view: None,
             spare: Vec::new(),
-            sessions: Sessions::new(room.sessions),
-            answers: Answers::new(room.answers),
+            sessions: Sessions::new(room.sessions)?,
+            answers: Answers::new(room.answers)?,
             recent: vec![None; RECENT],
             numbers: Vec::with_capacity(256),
             steps: Vec::new(),
@@ -174,6 +169,8 @@ impl<'a> Hosts<'a> {
             goes_ahead: room.goes_ahead,
             ahead: 0,
             outgoing: None,
+            symmetry: room.symmetry,
+            alike: Alike::default(),
             calls: Calls::default(),
         })
     }
@@ -186,12 +183,20 @@ impl<'a> Hosts<'a> {
     }
 
     /// What the users see in some states, before questions about them. What was seen before may be forgotten.
-    pub fn seen(&mut self, views: impl Iterator<Item = Key> + Clone) -> Vec<Seen> {
+    pub fn seen(&mut self, views: impl Iterator<Item = Key> + Clone) -> Result<Vec<Seen>, Refused> {
         if self.answers.is_full() {
-            self.answers.forget();
+            self.answers.forget()?;
             self.recent.fill(None);
         }
         self.answers.views(views)
+    }
+
+    /// Frees all that can be made again.
+    pub fn free(&mut self) {
+        (self.scratch, self.scratch_view, self.spare) = (None, None, Vec::new());
+        self.alike = Alike::default();
+        self.sessions.free();
+        let _ = self.answers.forget(); // all but a little is free
     }
 
     pub fn key(&self, view: Seen) -> Key {
@@ -222,19 +227,19 @@ impl<'a> Hosts<'a> {
     }
 
     /// Whether the answer to a step is known.
-    pub fn is_known(&mut self, at: &At, step: Step, who: usize) -> bool {
-        let question = self.question(&Ask::Step(step), who);
-        self.answers.get(at.view, question).is_some()
+    pub fn is_known(&mut self, at: &At, step: Step, who: usize) -> Result<bool, Refused> {
+        let question = self.question(&Ask::Step(step), who)?;
+        Ok(self.answers.get(at.view, question).is_some())
     }
 
-    fn question(&mut self, ask: &Ask, who: usize) -> Question {
+    fn question(&mut self, ask: &Ask, who: usize) -> Result<Question, Refused> {
         let recent = &mut self.recent[who % RECENT];
         match recent {
-            Some((known, question)) if known == ask => *question,
+            Some((known, question)) if known == ask => Ok(*question),
             _ => {
-                let question = self.answers.question(ask);
+                let question = self.answers.question(ask)?;
                 *recent = Some((*ask, question));
-                question
+                Ok(question)
             }
         }
     }
@@ -287,18 +292,37 @@ impl<'a> Hosts<'a> {
         }
     }
 
+    /// Whether a side of a property holds of the user's rows.
+    pub fn holds(&mut self, at: &At, user: u32, property: usize, side: Side) -> Result<bool, Error> {
+        match self.told(at, Ask::Holds(user, property, side))? {
+            Told::Holds(holds) => Ok(*holds),
+            told => unreachable!("{told:?}"),
+        }
+    }
+
+    /// A property that an exchange of the user's equal processes changes, in words.
+    pub fn told_apart(&mut self, at: &At, user: u32, at_end: bool) -> Result<Option<String>, Error> {
+        if self.symmetry.is_none() {
+            return Ok(None);
+        }
+        match self.told(at, Ask::Apart(user, at_end))? {
+            Told::Apart(why) => Ok(why.clone()),
+            told => unreachable!("{told:?}"),
+        }
+    }
+
     fn told(&mut self, at: &At, ask: Ask) -> Result<&Told, Error> {
         let known = self.known(at, ask, ask.number() as usize)?;
         Ok(self.answers.answer(known))
     }
 
     fn known(&mut self, at: &At, ask: Ask, who: usize) -> Result<Known, Error> {
-        let question = self.question(&ask, who);
+        let question = self.question(&ask, who)?;
         if let Some(known) = self.answers.get(at.view, question) {
             return Ok(known);
         }
         let (told, after) = self.find_out(at, ask)?;
-        Ok(self.answers.put(at.view, question, &told, after))
+        Ok(self.answers.put(at.view, question, &told, after)?)
     }
 
     /// The answer, and what the users see after it.
@@ -332,6 +356,11 @@ impl<'a> Hosts<'a> {
                 Told::Numbers(rows.iter().map(|row| row.pid).collect())
             }
             Ask::Broken(user, at_end) => Told::Broken(self.find_broken(at, user, at_end)?),
+            Ask::Holds(user, property, side) => {
+                let property = &self.properties[property];
+                Told::Holds(property.holds(&self.session_at(at)?.view(user)?, side))
+            }
+            Ask::Apart(user, at_end) => Told::Apart(self.find_told_apart(at, user, at_end)?),
         };
         Ok((told, self.answers.key(at.view)))
     }
@@ -353,101 +382,6 @@ impl<'a> Hosts<'a> {
             self.scratch_view = Some(after);
         }
         Ok((answer, after))
-    }
-
-    /// Whether the scratch session is at this state.
-    pub fn is_at(&self, view: Seen) -> bool {
-        self.scratch_view == Some(self.answers.key(view))
-    }
-
-    /// Whether a session at this state is to be kept, and isn't yet.
-    fn is_wanted(&self, view: Key) -> bool {
-        !self.goes_ahead && (!(self.owns)(view) || self.sessions.get(view).is_none())
-    }
-
-    /// Keeps a session for the steps that come later, or for the thread that owns its state.
-    fn keep(&mut self, view: Key, session: Session) {
-        let left = if (self.owns)(view) {
-            self.sessions.put(view, session)
-        } else {
-            self.outgoing.replace((view, session)).map(|(_, session)| session)
-        };
-        self.spare.extend(left);
-    }
-
-    /// Takes the scratch session, and brings it to a state.
-    fn come_to(&mut self, at: &At) -> Result<Session, Error> {
-        let is_there = self.is_at(at.view);
-        self.scratch_view = None;
-        match self.scratch.take() {
-            Some(scratch) if is_there => Ok(scratch),
-            unused => {
-                self.spare.extend(unused);
-                self.brought(at)
-            }
-        }
-    }
-
-    /// The session that is kept at a state.
-    fn kept(&self, view: Key) -> Option<&Session> {
-        let session = self.sessions.get(view);
-        session.or_else(|| (view == self.start_view).then_some(&self.start))
-    }
-
-    /// A new session at a state: a copy of the last one on the way there that is kept, which makes the steps from there again.
-    fn brought(&mut self, at: &At) -> Result<Session, Error> {
-        let mut view = at.view;
-        self.steps.clear();
-        while self.kept(self.answers.key(view)).is_none() {
-            let Some((from, Ask::Step(step))) = self.answers.way(view) else {
-                return self.replayed(at);
-            };
-            self.steps.push(*step);
-            view = from;
-        }
-        let mut session = self.copy_of(self.answers.key(view))?;
-        for step in self.steps.iter().rev() {
-            let _ = checked(step.make(&mut session))?; // any answer of the model
-        }
-        if self.steps.len() >= LONG_WAY {
-            self.keep_copy(self.answers.key(at.view), &session)?;
-        }
-        Ok(session)
-    }
-
-    /// The same from the start, if the way was forgotten.
-    fn replayed(&mut self, at: &At) -> Result<Session, Error> {
-        self.calls.replays += 1;
-        let mut session = self.copy_of(self.start_view)?;
-        (at.replay)(&mut session)?;
-        self.keep_copy(self.answers.key(at.view), &session)?;
-        Ok(session)
-    }
-
-    fn keep_copy(&mut self, view: Key, session: &Session) -> Result<(), Error> {
-        let copy = copied(session, &mut self.spare)?;
-        self.calls.copies += 1;
-        self.spare.extend(self.sessions.put(view, copy));
-        Ok(())
-    }
-
-    /// A copy of a session that is kept, or of that at the start.
-    fn copy_of(&mut self, view: Key) -> Result<Session, Error> {
-        self.calls.copies += 1;
-        copied(self.sessions.get(view).unwrap_or(&self.start), &mut self.spare)
-    }
-
-    /// A session at a state, to look at.
-    fn session_at(&mut self, at: &At) -> Result<&Session, Error> {
-        if !self.is_at(at.view) {
-            let view = self.answers.key(at.view);
-            if self.kept(view).is_some() {
-                return Ok(self.kept(view).expect("it is there"));
-            }
-            self.scratch = Some(self.come_to(at)?);
-            self.scratch_view = Some(view);
-        }
-        Ok(self.scratch.as_ref().expect("it has a view"))
     }
 
     fn find_news(&mut self, at: &At, caller: Caller, options: WaitOptions) -> Result<Vec<u32>, Error> {
@@ -490,6 +424,14 @@ impl<'a> Hosts<'a> {
             checked.err().map(|wrong| (place, wrong))
         });
         Ok(broken)
+    }
+
+    fn find_told_apart(&mut self, at: &At, user: u32, at_end: bool) -> Result<Option<String>, Error> {
+        let (properties, symmetry) = (self.properties, self.symmetry);
+        let place = self.users.iter().position(|known| *known == user);
+        let view = self.session_at(at)?.view(user)?;
+        let known = symmetry.zip(place);
+        Ok(known.and_then(|(symmetry, place)| told_apart(symmetry, place, (properties, at_end), &view)))
     }
 }
 

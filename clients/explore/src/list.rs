@@ -1,5 +1,6 @@
 //! A list in pieces: it grows without a copy, for which old and new would take memory at once.
 
+use crate::memory::{one_more, room, Refused};
 use std::mem::size_of;
 use std::ops::{Index, IndexMut};
 
@@ -14,8 +15,8 @@ pub struct List<T> {
 }
 
 /// An empty piece after so many others. The first one has to grow, so that a short list takes little.
-pub fn next_piece<T>(others: usize, length: usize) -> Vec<T> {
-    Vec::with_capacity(if others == 0 { 0 } else { length })
+pub fn next_piece<T>(others: usize, length: usize) -> Result<Vec<T>, Refused> {
+    room(if others == 0 { 0 } else { length })
 }
 
 impl<T> List<T> {
@@ -32,33 +33,52 @@ impl<T> List<T> {
     }
 
     #[inline]
-    pub fn push(&mut self, element: T) {
+    pub fn push(&mut self, element: T) -> Result<(), Refused> {
         match self.pieces.last_mut() {
-            Some(piece) if piece.len() < Self::LENGTH => piece.push(element),
+            Some(piece) if piece.len() < Self::LENGTH => {
+                one_more(piece)?;
+                piece.push(element);
+                Ok(())
+            }
             _ => self.push_piece(element),
         }
     }
 
     /// Adds a piece that begins with this element.
     #[cold]
-    fn push_piece(&mut self, element: T) {
-        let mut piece = next_piece(self.pieces.len(), Self::LENGTH);
+    fn push_piece(&mut self, element: T) -> Result<(), Refused> {
+        let mut piece = next_piece(self.pieces.len(), Self::LENGTH)?;
+        one_more(&mut piece)?;
+        one_more(&mut self.pieces)?;
         piece.push(element);
         self.pieces.push(piece);
+        Ok(())
     }
 
     pub fn iter(&self) -> impl Iterator<Item = &T> {
         self.pieces.iter().flatten()
     }
 
-    /// Takes all elements of another list, whose pieces but the first are freed one by one.
-    pub fn append(&mut self, other: &mut List<T>) {
+    /// Takes all elements of another list, whose pieces but the first are freed one by one. If memory is refused, some are lost.
+    pub fn append(&mut self, other: &mut List<T>) -> Result<(), Refused> {
         let mut pieces = other.pieces.iter_mut();
         if let Some(first) = pieces.next() {
-            self.extend(first.drain(..));
+            first.drain(..).try_for_each(|element| self.push(element))?;
         }
-        pieces.for_each(|piece| self.extend(std::mem::take(piece)));
+        for piece in pieces {
+            std::mem::take(piece)
+                .into_iter()
+                .try_for_each(|element| self.push(element))?;
+        }
         other.pieces.truncate(1);
+        Ok(())
+    }
+
+    #[cfg(test)]
+    pub fn of(elements: impl IntoIterator<Item = T>) -> Result<List<T>, Refused> {
+        let mut list = List::new();
+        elements.into_iter().try_for_each(|element| list.push(element))?;
+        Ok(list)
     }
 
     /// Frees all pieces but the first, which the next elements need.
@@ -88,20 +108,6 @@ impl<T> IndexMut<usize> for List<T> {
     }
 }
 
-impl<T> Extend<T> for List<T> {
-    fn extend<I: IntoIterator<Item = T>>(&mut self, elements: I) {
-        elements.into_iter().for_each(|element| self.push(element));
-    }
-}
-
-impl<T> FromIterator<T> for List<T> {
-    fn from_iter<I: IntoIterator<Item = T>>(elements: I) -> List<T> {
-        let mut list = List::new();
-        list.extend(elements);
-        list
-    }
-}
-
 #[cfg(test)]
 mod tests {
     use super::*;
@@ -109,13 +115,13 @@ mod tests {
     #[test]
     fn elements_stay_in_their_places() {
         let count = 3 * PIECE as u64 / 8 + 5;
-        let mut list: List<u64> = (0..count).collect();
+        let mut list: List<u64> = List::of(0..count).expect("memory");
         assert_eq!(list.len() as u64, count);
         assert!(list.iter().copied().eq(0..count));
         assert!((0..count).all(|n| list[n as usize] == n));
         list[5] = 7;
-        let mut more: List<u64> = (0..count).collect();
-        more.append(&mut list);
+        let mut more: List<u64> = List::of(0..count).expect("memory");
+        more.append(&mut list).expect("memory");
         assert_eq!((list.len(), more.len() as u64), (0, 2 * count));
         assert_eq!((more[count as usize + 4], more[count as usize + 5]), (4, 7));
     }
@@ -125,7 +131,7 @@ mod tests {
     fn it_takes_little_more_than_its_elements() {
         let mut list = List::new();
         for n in 0..PIECE as u64 {
-            list.push(n);
+            list.push(n).expect("memory");
             let most = list.len() * 8 + PIECE.min(list.len() * 8 + 64) + 24 * 10;
             assert!(list.bytes() <= most, "{n}: {}", list.bytes());
         }

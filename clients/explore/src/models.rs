@@ -6,7 +6,7 @@ mod signals;
 mod threads;
 mod waits;
 
-use crate::model::{deadlock, Model, Property};
+use crate::model::Model;
 use crate::process::{Place, Process};
 use crate::script::{Go, Going, Script};
 use std::ops::RangeInclusive;
@@ -34,7 +34,6 @@ pub struct Race {
     pub about: &'static str,
     /// The size of the program.
     pub size: u8,
-    properties: fn() -> Vec<Property>,
     world: World,
 }
 
@@ -44,7 +43,6 @@ impl Race {
             name,
             about,
             size,
-            properties: || vec![deadlock()],
             world,
         }
     }
@@ -65,20 +63,33 @@ impl Race {
 
     /// Its model, or that of its remedy, for so many users from 1001 on, each of whom has all of it.
     pub fn model(&self, right: bool, users: u32, size: u8) -> Model {
+        self.beside(right, users, size, false)
+    }
+
+    /// The same, with a process of each user that computes for ever, if there should be one.
+    pub fn beside(&self, right: bool, users: u32, size: u8, ticker: bool) -> Model {
         let world = self.world;
-        let name = if right {
-            format!("{}, right", self.name)
-        } else {
-            self.name.to_owned()
-        };
-        let model = Model::new(name, move |host| {
-            let mut processes = Vec::new();
+        let right_name = if right { ", right" } else { "" };
+        let ticker_name = if ticker { ", beside a ticker" } else { "" };
+        let model = Model::new(format!("{}{right_name}{ticker_name}", self.name), move |host| {
+            let mut processes = Processes::new();
             for user in 1001..1001 + users {
+                if ticker {
+                    processes.push(Box::new(ticking(host, user)?)); // first: a child gets the number after the others
+                }
                 processes.extend(world(host, Setup { user, right, size })?);
             }
             Ok(processes)
         });
-        model.properties((self.properties)())
+        let size = size.to_string();
+        let arguments = [
+            self.name,
+            if right { "right" } else { "wrong" },
+            if ticker { "ticker" } else { "alone" },
+            &users.to_string(),
+            &size,
+        ];
+        model.arguments(arguments.map(str::to_owned))
     }
 }
 
@@ -209,6 +220,15 @@ fn traced_child(host: &mut Session, user: u32, debugger: New) -> Result<New, Err
 /// A process that isn't there yet: the user's next one. Its script begins once it is there.
 fn next_one(host: &Session, user: u32) -> Result<New, Error> {
     host.try_clone()?.spawn(user)
+}
+
+/// A process that computes for ever.
+fn ticking(host: &mut Session, user: u32) -> Result<Script, Error> {
+    let mut script = Script::new("ticker", user, host.spawn(user)?);
+    script.label("tick");
+    script.act(Act::Compute);
+    script.jump("tick");
+    Ok(script)
 }
 
 /// A process that sleeps until a byte of the memory is 1, and exits.

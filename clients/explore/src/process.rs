@@ -1,5 +1,7 @@
 //! What a search lets run: processes that say at each place which step is next.
 
+use crate::coverage::Coverage;
+use crate::outline::Outline;
 use crate::step::Step;
 use tracehost::{Error, New, Reply};
 
@@ -121,8 +123,18 @@ pub trait Process: Send + Sync {
     }
 
     /// Its numbers, and a number that those equal to it have too: processes of a user with the same script from the same start.
-    /// See [`Options::symmetric`](crate::Options::symmetric).
+    /// See [`Options::symmetric`](crate::Options::symmetric). The process is there at the start.
     fn alike(&self) -> Option<(u8, New)> {
+        None
+    }
+
+    /// Where it notes which of its lines were made, so that a pass tells which weren't. It changes nothing that the process does.
+    fn coverage(&self) -> Option<&Coverage> {
+        None
+    }
+
+    /// What is fixed of its text, if that is known.
+    fn outline(&self) -> Option<&Outline> {
         None
     }
 

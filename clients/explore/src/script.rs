@@ -1,11 +1,12 @@
 //! Processes as lists of calls.
 
+mod calls;
+
+use crate::coverage::Coverage;
+use crate::outline::Outline;
 use crate::process::{Answer, Memory, Next, Place, Process, When};
 use crate::step::Step;
-use tracehost::{
-    Act, Call, Caller, Disposition, Errno, Error, New, Reply, Request, Signal, SignalSet, StopFlags, WaitOptions,
-    WaitStatus, Which,
-};
+use tracehost::{Act, Caller, Error, New, Reply, Signal, StopFlags};
 
 /// Where a script goes on.
 #[derive(Clone, Copy, Debug, PartialEq, Eq)]
@@ -82,6 +83,8 @@ pub struct Script {
     caught: Option<Caught>,
     start: Place,
     alike: Option<u8>,
+    outline: Outline,
+    coverage: Coverage,
 }
 
 const ENDED: u8 = u8::MAX;
@@ -107,6 +110,8 @@ impl Script {
             caught: None,
             start: Place::default(),
             alike: None,
+            outline: Outline::default(),
+            coverage: Coverage::default(),
         }
     }
 
@@ -131,6 +136,7 @@ impl Script {
     /// What the process's signal handler does with a signal that is caught.
     pub fn on_caught(&mut self, handler: impl Fn(&mut Place, Signal) + Send + Sync + 'static) {
         self.caught = Some(Box::new(handler));
+        self.outline.add("handler");
     }
 
     /// Names the place before the next call.
@@ -144,11 +150,26 @@ impl Script {
             "two labels {name:?}"
         );
         self.labels.push((name, self.lines.len() as u8));
+        self.outline.add(name);
+        self.coverage.label(name, self.lines.len() as u8);
     }
 
     fn line(&mut self, line: Line) {
         assert!(self.lines.len() < usize::from(ENDED), "a script has at most 255 lines");
+        self.coverage.expect(self.lines.len() as u8);
+        self.outline.add(match &line {
+            Line::Local(_) => "local",
+            Line::Step(..) => "step",
+            Line::Turns(_) => "turns",
+        });
         self.lines.push(line);
+    }
+
+    /// Adds lines that are told as one.
+    fn as_one(&mut self, add: impl FnOnce(&mut Script)) {
+        let first = self.coverage.count();
+        add(self);
+        self.coverage.expect_only(first + 1);
     }
 
     /// Changes what the process remembers, and goes on from there. It takes no step.
@@ -159,6 +180,7 @@ impl Script {
     /// Goes on at the label.
     pub fn jump(&mut self, label: &'static str) {
         self.local(move |_| Go::To(label));
+        self.outline.note(label);
     }
 
     /// Goes on at the label if the byte is as many.
@@ -170,6 +192,7 @@ impl Script {
                 Go::On
             }
         });
+        self.outline.note(format!("{byte} {number} {label}"));
     }
 
     /// Sets a byte.
@@ -178,11 +201,13 @@ impl Script {
             place.bytes[byte] = number;
             Go::On
         });
+        self.outline.note(format!("{byte} {number}"));
     }
 
     /// Comes to the end.
     pub fn end(&mut self) {
         self.local(|_| Go::End);
+        self.outline.note("end");
     }
 
     /// The last call also changes the memory, in the same step.
@@ -206,6 +231,7 @@ impl Script {
             }),
             Some(Line::Local(_)) | None => panic!("{}: there is no call before this", self.name),
         };
+        self.outline.note("also");
         self.lines.push(line);
     }
 
@@ -225,6 +251,7 @@ impl Script {
             }),
             Some(Line::Local(_)) | None => panic!("{}: there is no call before this", self.name),
         };
+        self.outline.note(format!("once {byte} {number}"));
         self.lines.push(line);
     }
 
@@ -237,160 +264,18 @@ impl Script {
         self.line(Line::Step(Box::new(ask), Box::new(then)));
     }
 
-    /// wait4(2) for a process, until it has news.
-    pub fn wait(&mut self, pid: u32, then: impl Fn(&mut Place, WaitStatus) -> Going + Send + Sync + 'static) {
-        self.wait_for(
-            Which::Process(pid),
-            WaitOptions::empty(),
-            move |place, answer| match answer {
-                Ok(Reply::Status { status, .. }) => then(place, *status),
-                answer => succeeded(answer),
-            },
-        );
-    }
-
-    /// wait4(2), until there is news, or an error.
-    pub fn wait_for(
-        &mut self,
-        which: Which,
-        options: WaitOptions,
-        then: impl Fn(&mut Place, &Answer) -> Going + Send + Sync + 'static,
-    ) {
-        let step = Step::Wait4(self.caller(), which, options);
-        self.step(
-            move |_, _| Next::Step(step, When::News),
-            move |place, _, answer| then(place, answer),
-        );
-    }
-
-    /// wait4(2) with WNOHANG.
-    pub fn poll(&mut self, which: Which, then: impl Fn(&mut Place, &Answer) -> Going + Send + Sync + 'static) {
-        let step = Step::Wait4(self.caller(), which, WaitOptions::WNOHANG);
-        self.step(
-            move |_, _| Next::Step(step, When::Runs),
-            move |place, _, answer| then(place, answer),
-        );
-    }
-
-    /// ptrace(2). An errno is a failure.
-    pub fn ptrace(&mut self, request: Request, target: u32) {
-        self.ptrace_then(request, move |_| target, |_, answer| succeeded(answer));
-    }
-
-    /// ptrace(2), with a target that may depend on what the process remembers.
-    pub fn ptrace_then(
-        &mut self,
-        request: Request,
-        target: impl Fn(&Place) -> u32 + Send + Sync + 'static,
-        then: impl Fn(&mut Place, &Answer) -> Going + Send + Sync + 'static,
-    ) {
-        let caller = self.caller();
-        self.step(
-            move |place, _| Next::Step(Step::Ptrace(caller, request, target(place)), When::Runs),
-            move |place, _, answer| then(place, answer),
-        );
-    }
-
-    /// kill(2). That there is no such process is no failure.
-    pub fn kill(&mut self, pid: u32, signal: Signal) {
-        let step = Step::Kill(self.caller(), Which::Process(pid), Some(signal));
-        self.step(
-            move |_, _| Next::Step(step, When::Runs),
-            |_, _, answer| match answer {
-                Err(Error::Errno(Errno::ESRCH)) => Ok(Go::On),
-                answer => succeeded(answer),
-            },
-        );
-    }
-
-    /// sigaction(2).
-    pub fn sigaction(&mut self, signal: Signal, disposition: Disposition) {
-        let step = Step::Sigaction(self.caller(), signal, disposition);
-        self.step(
-            move |_, _| Next::Step(step, When::Runs),
-            |_, _, answer| succeeded(answer),
-        );
-    }
-
-    /// Turns of the LWP until the act is made: stops and signals may come before it.
-    pub fn act(&mut self, act: Act) {
-        self.act_then(act, |_, _| Ok(Go::On));
-    }
-
-    /// The same, and then what the answer leads to.
-    pub fn act_then(&mut self, act: Act, then: impl Fn(&mut Place, &Reply) -> Going + Send + Sync + 'static) {
-        self.act_with(move |_, _| Some(act), move |place, _, reply| then(place, reply));
-    }
-
-    /// An act that depends on the memory, and may change it. Without an act it sleeps until the memory changes, and meets
-    /// signals meanwhile.
-    pub fn act_with(
-        &mut self,
-        act: impl Fn(&Place, &Memory) -> Option<Act> + Send + Sync + 'static,
-        then: impl Fn(&mut Place, &mut Memory, &Reply) -> Going + Send + Sync + 'static,
-    ) {
-        self.line(Line::Turns(Turns {
-            when: When::Runs,
-            act: Box::new(act),
-            then: Box::new(then),
-            ends: None,
-        }));
-    }
-
-    /// Turns until a fixed act is made.
-    fn turns(&mut self, act: Act, when: When, ends: Option<u8>) {
-        self.line(Line::Turns(Turns {
-            when,
-            act: Box::new(move |_, _| Some(act)),
-            then: Box::new(|_, _, _| Ok(Go::On)),
-            ends,
-        }));
-    }
-
-    /// Enters a call and leaves it.
-    pub fn call(&mut self, call: Call) {
-        self.call_then(call, |_, _| Ok(Go::On));
-    }
-
-    /// The same, and then what the answer to the second turn leads to.
-    pub fn call_then(&mut self, call: Call, then: impl Fn(&mut Place, &Reply) -> Going + Send + Sync + 'static) {
-        self.act(Act::Enter(call));
-        self.act_then(Act::Leave, then);
-    }
-
-    /// raise(3): posts a signal to the LWP itself, and meets it.
-    pub fn raise(&mut self, signal: Signal) {
-        self.act(Act::Raise(signal));
-        self.act(Act::Compute);
-    }
-
-    /// pause(2).
-    pub fn pause(&mut self) {
-        self.act(Act::Enter(Call::Other(29)));
-        self.turns(Act::Leave, When::Signal(self.own.lwp), None);
-        self.act(Act::Compute);
-    }
-
-    /// sigsuspend(2): blocks the signals `asleep` until one that it doesn't block is caught, and then those `after`.
-    pub fn sigsuspend(&mut self, asleep: SignalSet, after: SignalSet) {
-        self.act(Act::Block(asleep));
-        let last = self.lines.len() as u8 + 3;
-        self.turns(Act::Enter(Call::Other(341)), When::Runs, Some(last));
-        self.turns(Act::Leave, When::Signal(self.own.lwp), None);
-        self.act(Act::Compute);
-        self.act(Act::Block(after));
-    }
-
     /// The place after local lines, which is before a step, or the end.
     fn settle(&self, place: &mut Place) {
         for _ in 0..=usize::from(ENDED) {
             match self.lines.get(usize::from(place.at)) {
                 Some(Line::Local(change)) => {
+                    self.coverage.make(place.at);
                     let go = change(place);
                     self.go(place, go);
                 }
                 Some(_) => return,
                 None => {
+                    self.coverage.make(place.at);
                     *place = Place {
                         at: ENDED,
                         ..Place::default()
@@ -460,6 +345,14 @@ impl Process for Script {
         self.alike.map(|group| (group, self.own))
     }
 
+    fn outline(&self) -> Option<&Outline> {
+        Some(&self.outline)
+    }
+
+    fn coverage(&self) -> Option<&Coverage> {
+        Some(&self.coverage)
+    }
+
     fn begin(&self) -> Place {
         let mut place = self.start;
         self.settle(&mut place);
@@ -483,6 +376,7 @@ impl Process for Script {
     }
 
     fn answered(&self, place: &mut Place, memory: &mut Memory, answer: &Answer) -> Result<(), String> {
+        self.coverage.make(place.at);
         let go = match &self.lines[usize::from(place.at)] {
             Line::Step(_, then) => Some(then(place, memory, answer)?),
             Line::Turns(turns) => self.acted(turns, place, memory, answer)?,
@@ -491,6 +385,9 @@ impl Process for Script {
         if let Some(go) = go {
             self.go(place, go);
             self.settle(place);
+            if place.at == ENDED {
+                self.coverage.end(matches!(answer, Err(Error::Errno(_))));
+            }
         }
         Ok(())
     }

@@ -1,6 +1,7 @@
 //! Sessions that are kept, so that steps go on from there.
 
 use crate::hash::Key;
+use crate::memory::{room, Refused};
 use tracehost::{Error, Session};
 
 /// Sessions by what the users see in them, in sets of four.
@@ -16,11 +17,16 @@ struct Ways {
 }
 
 impl Sessions {
-    pub fn new(count: usize) -> Sessions {
-        let sets = (count / 4).next_power_of_two();
-        Sessions {
-            sets: (0..sets).map(|_| Ways::default()).collect(),
-        }
+    pub fn new(count: usize) -> Result<Sessions, Refused> {
+        let count = (count / 4).next_power_of_two();
+        let mut sets = room(count)?;
+        sets.resize_with(count, Ways::default);
+        Ok(Sessions { sets })
+    }
+
+    /// Forgets all sessions.
+    pub fn free(&mut self) {
+        self.sets.iter_mut().for_each(|set| *set = Ways::default());
     }
 
     fn set(&self, view: Key) -> usize {

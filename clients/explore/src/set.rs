@@ -2,6 +2,7 @@
 
 use crate::hash::Key;
 use crate::list::List;
+use crate::memory::{filled, Refused};
 
 /// How many parts a set has, whatever the number of threads. A key's part is given by what the users see.
 pub const PARTS: usize = 64;
@@ -57,11 +58,11 @@ struct Index {
 }
 
 impl Index {
-    fn new(size: usize) -> Index {
-        Index {
-            entries: vec![0; size],
+    fn new(size: usize) -> Result<Index, Refused> {
+        Ok(Index {
+            entries: filled(0, size)?,
             mask: (size.next_power_of_two() - 1) as u32,
-        }
+        })
     }
 
     /// The first slot of a key, in an index of any size.
@@ -115,18 +116,18 @@ pub struct Part {
 const SMALLEST: usize = 16;
 
 impl Part {
-    pub fn new() -> Part {
+    pub fn new() -> Result<Part, Refused> {
         Part::of_keys(List::new())
     }
 
     /// A part with these keys, all different.
-    pub fn of_keys(keys: List<Key>) -> Part {
+    pub fn of_keys(keys: List<Key>) -> Result<Part, Refused> {
         let mut part = Part {
             keys,
-            index: Index::new(0),
+            index: Index::new(0)?,
         };
-        part.index_anew();
-        part
+        part.index_anew()?;
+        Ok(part)
     }
 
     pub fn keys(&self) -> &List<Key> {
@@ -154,30 +155,36 @@ impl Part {
         self.keys[place as usize] == key
     }
 
+    /// The place of a key that is there.
+    pub fn find(&self, key: Key) -> Option<u32> {
+        self.index.find(key, |place| self.is_at(key, place))
+    }
+
     /// The place of a key, and whether it is new.
-    pub fn insert(&mut self, key: Key) -> (u32, bool) {
+    pub fn insert(&mut self, key: Key) -> Result<(u32, bool), Refused> {
         if let Some(place) = self.index.find(key, |place| self.is_at(key, place)) {
-            return (place, false);
+            return Ok((place, false));
         }
         let place = u32::try_from(self.keys.len()).expect("a part has less than 2^32 states");
-        self.keys.push(key);
+        self.keys.push(key)?;
         if self.keys.len() * 4 >= self.index.entries.len() * 3 {
-            self.index_anew();
+            self.index_anew()?;
         } else {
             self.index.add(key, place);
         }
-        (place, true)
+        Ok((place, true))
     }
 
     /// Makes the index anew, half free. It grows by a half: if it doubled, all parts would have too much at about one time.
-    fn index_anew(&mut self) {
+    fn index_anew(&mut self) -> Result<(), Refused> {
         let size = (self.keys.len() * 2).max(SMALLEST);
         self.index.entries = Vec::new(); // before there is another
-        self.index = Index::new(size);
+        self.index = Index::new(size)?;
         let index = &mut self.index;
         (0..)
             .zip(self.keys.iter())
             .for_each(|(place, key)| index.add(*key, place));
+        Ok(())
     }
 }
 
@@ -188,30 +195,30 @@ mod tests {
 
     #[test]
     fn a_key_is_new_once() {
-        let mut part = Part::new();
+        let mut part = Part::new().expect("memory");
         let key = |n: u64| Key(mixed(n), mixed(n % 1000)); // many with the same slot
         for n in 0..5000 {
-            assert_eq!(part.insert(key(n)), (n as u32, true));
+            assert_eq!(part.insert(key(n)), Ok((n as u32, true)));
         }
         for n in 0..5000 {
-            assert_eq!(part.insert(key(n)), (n as u32, false));
+            assert_eq!(part.insert(key(n)), Ok((n as u32, false)));
         }
         for n in 0..6000 {
             let place = part.candidate(key(n)).filter(|place| part.is_at(key(n), *place));
             assert_eq!(place, (n < 5000).then_some(n as u32));
         }
-        let mut again = Part::of_keys(part.keys().clone());
-        assert_eq!(again.insert(key(4999)), (4999, false));
-        assert_eq!(again.insert(key(5000)), (5000, true));
+        let mut again = Part::of_keys(part.keys().clone()).expect("memory");
+        assert_eq!(again.insert(key(4999)), Ok((4999, false)));
+        assert_eq!(again.insert(key(5000)), Ok((5000, true)));
     }
 
     /// At each size, and so while it grows.
     #[test]
     fn the_index_takes_eight_bytes_a_key_at_most() {
-        let mut part = Part::new();
+        let mut part = Part::new().expect("memory");
         let key = |n: u64| Key(mixed(n), mixed(n ^ 0x5eed));
         for n in 0..100_000 {
-            assert_eq!(part.insert(key(n)), (n as u32, true));
+            assert_eq!(part.insert(key(n)), Ok((n as u32, true)));
             let entries = part.index.entries.len();
             assert!(entries <= SMALLEST.max(2 * part.keys.len()), "{n}: {entries}");
             assert!(part.keys.len() * 4 < entries * 3, "{n}: a quarter is free");

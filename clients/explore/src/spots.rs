@@ -1,7 +1,8 @@
 //! Many spots, packed one after another in pieces that are freed one by one.
 
 use crate::list::{next_piece, PIECE};
-use crate::packed::{pack, unpack, Packing};
+use crate::memory::{one_more, Refused};
+use crate::packed::Packing;
 
 /// Packed spots in the order in which they came. Each is whole in a piece.
 #[derive(Debug, Default)]
@@ -14,16 +15,19 @@ const MOST: usize = 10;
 
 impl Spots {
     /// Adds a spot, and returns where it is.
-    pub fn add(&mut self, packing: &mut Packing, words: &[u64]) -> usize {
-        let has_room = |piece: &Vec<u8>| piece.len() + words.len() * MOST <= PIECE;
+    pub fn add(&mut self, packing: &mut Packing, words: &[u64]) -> Result<usize, Refused> {
+        let most = words.len() * MOST;
+        let has_room = |piece: &Vec<u8>| piece.len() + most <= PIECE;
         if !self.pieces.last().is_some_and(has_room) {
-            self.pieces.push(next_piece(self.pieces.len(), PIECE));
+            one_more(&mut self.pieces)?;
+            self.pieces.push(next_piece(self.pieces.len(), PIECE)?);
         }
         let others = self.pieces.len() - 1;
         let piece = &mut self.pieces[others];
+        piece.try_reserve(most).map_err(|_| Refused)?;
         let place = others * PIECE + piece.len();
         packing.pack(words, piece);
-        place
+        Ok(place)
     }
 
     /// The bytes that begin with the spot that is there.
@@ -36,32 +40,27 @@ impl Spots {
         self.pieces.iter().map(Vec::capacity).sum()
     }
 
-    /// The bytes of all spots, which say what they are by themselves.
-    pub fn plain(&self, packing: &Packing, width: usize) -> Vec<u8> {
-        let (mut words, mut plain) = (vec![0; width], Vec::new());
+    /// Tells the words of each spot.
+    pub fn each<E>(
+        &self,
+        packing: &Packing,
+        width: usize,
+        mut tell: impl FnMut(&[u64]) -> Result<(), E>,
+    ) -> Result<(), E> {
+        let mut words = vec![0; width];
         for piece in &self.pieces {
             let mut spots = &piece[..];
             while !spots.is_empty() {
                 spots = packing.unpack(spots, &mut words);
-                pack(&words, &mut plain);
+                tell(&words)?;
             }
         }
-        plain
+        Ok(())
     }
 
-    /// The spots of such bytes.
-    pub fn of_plain(plain: &[u8], packing: &mut Packing, width: usize) -> Spots {
-        let (mut words, mut rest, mut spots) = (vec![0; width], plain, Spots::default());
-        while !rest.is_empty() {
-            rest = unpack(rest, &mut words);
-            spots.add(packing, &words);
-        }
-        spots
-    }
-
-    /// Pieces with whole spots.
-    pub fn into_pieces(self) -> Vec<Vec<u8>> {
-        self.pieces
+    /// Pieces with whole spots. A piece that isn't needed any more may be freed.
+    pub fn pieces(&mut self) -> &mut [Vec<u8>] {
+        &mut self.pieces
     }
 }
 
@@ -76,23 +75,32 @@ mod tests {
         [mixed(n), n, mixed(n) % 3, n % 400, 7, mixed(n) >> 40, 0, n]
     }
 
-    /// Each is whole in a piece, and where `add` said; and they are the same in a file, whose bytes tell no pieces.
+    /// Each is whole in a piece, and where `add` said.
     #[test]
     fn spots_come_out_as_they_went_in() {
         let (mut packing, mut spots) = (Packing::default(), Spots::default());
-        let places: Vec<usize> = (0..30_000).map(|n| spots.add(&mut packing, &spot(n))).collect();
+        let places: Vec<usize> = (0..30_000)
+            .map(|n| spots.add(&mut packing, &spot(n)).expect("memory"))
+            .collect();
         assert!(spots.pieces.len() > 3 && spots.pieces.iter().all(|piece| piece.len() <= PIECE));
         let mut found = [0; WIDTH];
         for (n, place) in (0..).zip(places) {
             packing.unpack(spots.at(place), &mut found);
             assert_eq!(found, spot(n));
         }
-        let plain = spots.plain(&packing, WIDTH);
-        let mut packing = Packing::default();
-        let again = Spots::of_plain(&plain, &mut packing, WIDTH);
-        assert_eq!(again.plain(&packing, WIDTH), plain);
         let mut n = 0;
-        for piece in again.into_pieces() {
+        let count = spots.each(&packing, WIDTH, |words| {
+            assert_eq!(words, spot(n));
+            n += 1;
+            if n == 29_999 {
+                Err(n)
+            } else {
+                Ok(())
+            }
+        });
+        assert_eq!(count, Err(29_999));
+        let mut n = 0;
+        for piece in spots.pieces() {
             let (mut rest, mut words) = (&piece[..], [0; 5 * WIDTH]);
             while !rest.is_empty() {
                 for words in packing.unpack_some(&mut rest, &mut words, WIDTH).chunks_exact(WIDTH) {

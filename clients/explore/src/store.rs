@@ -2,6 +2,7 @@
 
 use crate::hash::Key;
 use crate::list::List;
+use crate::memory::{filled, Refused};
 use crate::packed::Packing;
 use crate::set::{Part, PARTS};
 use crate::spots::Spots;
@@ -28,20 +29,20 @@ pub struct Level {
 }
 
 impl Level {
-    /// The spots of the level, in the order of its states.
-    fn take_spots(&mut self, packing: &mut Packing, width: usize) -> Spots {
-        let spots = std::mem::take(&mut self.spots);
+    /// Brings the spots of the level into the order of its states.
+    fn order_spots(&mut self, packing: &mut Packing, width: usize) -> Result<(), Refused> {
         if self.starts.len() == 0 {
-            return spots;
+            return Ok(());
         }
-        let mut words = vec![0; width];
+        let mut words = filled(0, width)?;
         let mut kept = Spots::default();
         for start in self.starts.iter() {
-            packing.unpack(spots.at(*start), &mut words);
-            kept.add(packing, &words);
+            packing.unpack(self.spots.at(*start), &mut words);
+            kept.add(packing, &words)?;
         }
         self.starts.clear();
-        kept
+        self.spots = kept;
+        Ok(())
     }
 }
 
@@ -65,23 +66,24 @@ pub struct Front {
 }
 
 impl Store {
-    pub fn new(thread: usize, threads: usize, symmetric: bool) -> Store {
-        let count = (thread..PARTS).step_by(threads).count();
-        let level = || Level {
-            set: Part::new(),
-            links: List::new(),
-            orders: List::new(),
-            spots: Spots::default(),
-            starts: List::new(),
-            first: 0,
+    pub fn new(thread: usize, threads: usize, symmetric: bool) -> Result<Store, Refused> {
+        let level = |_| {
+            Ok(Level {
+                set: Part::new()?,
+                links: List::new(),
+                orders: List::new(),
+                spots: Spots::default(),
+                starts: List::new(),
+                first: 0,
+            })
         };
-        Store {
+        Ok(Store {
             thread,
             threads,
             symmetric,
-            levels: (0..count).map(|_| level()).collect(),
+            levels: (thread..PARTS).step_by(threads).map(level).collect::<Result<_, _>>()?,
             packing: Packing::default(),
-        }
+        })
     }
 
     /// The level of a part that this thread owns, and how its spots are packed.
@@ -95,54 +97,77 @@ impl Store {
         &self.levels[part / self.threads].set
     }
 
+    /// How many states of such a part were there before the level that is being made.
+    pub fn before(&self, part: usize) -> usize {
+        self.levels[part / self.threads].first
+    }
+
     /// The part of each level.
     pub fn parts(&self) -> impl Iterator<Item = usize> {
         (self.thread..PARTS).step_by(self.threads)
     }
 
-    /// Adds a state, and returns whether it is new. Of two ways to a state of the level, that of the lower order is kept.
-    pub fn insert(&mut self, part: usize, key: Key, spot: &[u64], (link, order): (u64, u64)) -> bool {
+    /// Adds a state, and returns whether it is new, and of the level that is being made. Of two ways to such a state, that of the
+    /// lower order is kept.
+    pub fn insert(
+        &mut self,
+        part: usize,
+        key: Key,
+        spot: &[u64],
+        (link, order): (u64, u64),
+    ) -> Result<(bool, bool), Refused> {
         let symmetric = self.symmetric;
         let (level, packing) = self.level(part);
-        let (place, is_new) = level.set.insert(key);
+        let (place, is_new) = level.set.insert(key)?;
         if is_new {
-            level.links.push(link);
-            level.orders.push(order);
-            let start = level.spots.add(packing, spot);
+            level.links.push(link)?;
+            level.orders.push(order)?;
+            let start = level.spots.add(packing, spot)?;
             if symmetric {
-                level.starts.push(start);
+                level.starts.push(start)?;
             }
+            Ok((true, true))
         } else {
-            self.meet(part, place, spot, (link, order));
+            Ok((false, self.meet(part, place, spot, (link, order))?))
         }
-        is_new
     }
 
-    /// Adds another way to a state.
-    pub fn meet(&mut self, part: usize, place: u32, spot: &[u64], (link, order): (u64, u64)) {
+    /// Adds another way to a state, and returns whether it is of the level that is being made.
+    pub fn meet(&mut self, part: usize, place: u32, spot: &[u64], (link, order): (u64, u64)) -> Result<bool, Refused> {
         let symmetric = self.symmetric;
         let (level, packing) = self.level(part);
-        if let Some(place) = (place as usize).checked_sub(level.first) {
-            if order < level.orders[place] {
-                level.orders[place] = order;
-                level.links[place] = link;
-                if symmetric {
-                    level.starts[place] = level.spots.add(packing, spot);
-                }
+        let Some(place) = (place as usize).checked_sub(level.first) else {
+            return Ok(false);
+        };
+        if order < level.orders[place] {
+            level.orders[place] = order;
+            level.links[place] = link;
+            if symmetric {
+                level.starts[place] = level.spots.add(packing, spot)?;
             }
         }
+        Ok(true)
     }
 
-    /// Ends the level: its links are told, and its states are to be expanded.
-    pub fn next_level(&mut self, links: &Links, width: usize) -> Vec<Front> {
+    /// Ends the level: its links are told. If memory is refused, it is to be made again.
+    pub fn end_level(&mut self, links: &Links, width: usize) -> Result<(), Refused> {
+        let parts = self.parts();
+        for (part, level) in parts.zip(&mut self.levels) {
+            level.order_spots(&mut self.packing, width)?;
+            let mut known = links[part].write().expect("no thread has panicked");
+            known.append(&mut level.links)?;
+        }
+        Ok(())
+    }
+
+    /// The states of a level that has ended, which are to be expanded.
+    pub fn next_level(&mut self) -> Vec<Front> {
         let parts = self.parts();
         let mut fronts = Vec::new();
         for (part, level) in parts.zip(&mut self.levels) {
-            let mut known = links[part].write().expect("no thread has panicked");
-            known.append(&mut level.links);
             let first = std::mem::replace(&mut level.first, level.set.keys().len());
             level.orders.clear();
-            let (count, spots) = (level.first - first, level.take_spots(&mut self.packing, width));
+            let (count, spots) = (level.first - first, std::mem::take(&mut level.spots));
             if count > 0 {
                 fronts.push(Front {
                     part,
@@ -153,6 +178,14 @@ impl Store {
             }
         }
         fronts
+    }
+
+    /// Frees what belongs to the level that is being made, which isn't ended any more.
+    pub fn free_level(&mut self) {
+        for level in &mut self.levels {
+            (level.links, level.orders, level.starts) = (List::new(), List::new(), List::new());
+            level.spots = Spots::default();
+        }
     }
 
     /// The bytes of the set, with all links, and of the level that is being made.

@@ -4,24 +4,10 @@
 //! processes have exchanged their places and numbers. It is any exchange of them, so that two states with one key are the same
 //! up to an exchange, whichever was chosen. A good choice only makes such states fewer.
 
+use crate::exchange::{rows, Exchange, Member, Rows, State, LWP, PROCESS};
 use crate::hash::{mixed, Hasher, Key};
-use crate::process::{Place, Process};
+use crate::process::Process;
 use crate::spot::Spot;
-use std::sync::Arc;
-use tracehost::New;
-
-/// A process, by its place among those of the search, and its numbers.
-#[derive(Clone, Copy, Debug)]
-struct Member {
-    process: usize,
-    own: New,
-}
-
-impl Member {
-    fn has(&self, number: u32) -> bool {
-        number != 0 && (number == self.own.pid || number == self.own.lwp)
-    }
-}
 
 /// Equal processes of a user.
 #[derive(Debug)]
@@ -30,120 +16,33 @@ struct Group {
     members: Vec<Member>,
 }
 
+impl Group {
+    /// All exchanges of two members.
+    fn pairs(&self) -> impl Iterator<Item = [Member; 2]> + '_ {
+        let members = self.members.iter().enumerate();
+        members.flat_map(|(place, first)| self.members[place + 1..].iter().map(|second| [*first, *second]))
+    }
+
+    /// The members, each with another.
+    fn shuffled(&self, seed: u64) -> impl Iterator<Item = (Member, Member)> + '_ {
+        let mut others = self.members.clone();
+        others.sort_by_key(|member| mixed(mixed(seed) ^ member.process as u64));
+        self.members.iter().copied().zip(others)
+    }
+}
+
 /// All equal processes of a search.
 #[derive(Debug)]
 pub struct Symmetry {
     groups: Vec<Group>,
+    /// Exchanges of neighbours, which make all exchanges.
+    pub neighbours: Vec<Exchange>,
+    /// For each user the exchanges that a property is asked about.
+    pub tried: Vec<Vec<Exchange>>,
 }
 
-/// What a user sees, by `tracehost_state`.
-pub type State = Arc<[u32]>;
-
-/// The words before the rows: a setting and two cursors.
-const HEAD: usize = 3;
-/// The words of a process, and those of them that are numbers of processes or LWPs: its own, its parent's, its tracer's, and
-/// that of the LWP that has stopped.
-const PROCESS: (usize, &[usize]) = (15, &[0, 2, 4, 6]);
-/// The same of an LWP: its own, its process's, and those of the children of its vfork and its last stop.
-const LWP: (usize, &[usize]) = (14, &[0, 1, 5, 12]);
-
-/// The rows of a state.
-struct Rows<'w> {
-    processes: Vec<&'w [u32]>,
-    lwps: Vec<&'w [u32]>,
-    /// Handlers, each after its process's number.
-    rest: &'w [u32],
-}
-
-fn listed(mut words: &[u32], width: usize) -> (Vec<&[u32]>, &[u32]) {
-    let mut rows = Vec::new();
-    while let [1, rest @ ..] = words {
-        rows.push(&rest[..width]);
-        words = &rest[width..];
-    }
-    (rows, &words[1..])
-}
-
-fn rows(state: &[u32]) -> Rows<'_> {
-    let (processes, rest) = listed(&state[HEAD..], PROCESS.0);
-    let (lwps, rest) = listed(rest, LWP.0);
-    Rows { processes, lwps, rest }
-}
-
-/// Where the handlers' processes are in these words: each is after a 1, and before its rules of five words.
-fn owners(rest: &[u32]) -> Vec<usize> {
-    let (mut owners, mut at) = (Vec::new(), 0);
-    while rest[at] == 1 {
-        owners.push(at + 1);
-        at += 2;
-        while rest[at] == 1 {
-            at += 6;
-        }
-        at += 1;
-    }
-    owners
-}
-
-/// The members of all groups, and those whose numbers each has after an exchange.
-struct Exchange(Vec<(Member, Member)>);
-
-impl Exchange {
-    fn number(&self, number: u32) -> u32 {
-        let found = self.0.iter().find(|(from, _)| from.has(number));
-        found.map_or(
-            number,
-            |(from, to)| {
-                if number == from.own.pid {
-                    to.own.pid
-                } else {
-                    to.own.lwp
-                }
-            },
-        )
-    }
-
-    fn row<const N: usize>(&self, row: &[u32], numbers: &[usize]) -> [u32; N] {
-        let mut row: [u32; N] = row.try_into().expect("as many words");
-        numbers.iter().for_each(|place| row[*place] = self.number(row[*place]));
-        row
-    }
-
-    fn place(&self, place: Place) -> Place {
-        Place {
-            numbers: place.numbers.map(|number| self.number(number)),
-            ..place
-        }
-    }
-
-    fn is_member(&self, lwp: u32) -> bool {
-        self.0.iter().any(|(from, _)| from.own.lwp == lwp)
-    }
-
-    /// What a user sees after the exchange: processes by rising number, and equal LWPs, where some of them were, by rising number.
-    fn state(&self, state: &[u32], hasher: &mut Hasher) {
-        let Rows { processes, lwps, rest } = rows(state);
-        hasher.numbers(&state[..HEAD]);
-        let mut processes: Vec<[u32; PROCESS.0]> = processes.iter().map(|row| self.row(row, PROCESS.1)).collect();
-        processes.sort_unstable_by_key(|row| row[0]);
-        processes.iter().for_each(|row| hasher.numbers(row));
-        let lwps: Vec<[u32; LWP.0]> = lwps.iter().map(|row| self.row(row, LWP.1)).collect();
-        let mut equal: Vec<_> = lwps.iter().filter(|row| self.is_member(row[0])).collect();
-        equal.sort_unstable_by_key(|row| row[0]);
-        let mut equal = equal.into_iter();
-        for row in &lwps {
-            let row = match self.is_member(row[0]) {
-                true => equal.next().expect("there are as many"),
-                false => row,
-            };
-            hasher.numbers(row);
-        }
-        let mut rest = rest.to_vec();
-        for owner in owners(&rest) {
-            rest[owner] = self.number(rest[owner]);
-        }
-        hasher.numbers(&rest);
-    }
-}
+/// The most exchanges that a property is asked about: all of six equal processes.
+const MOST: usize = 720;
 
 /// A row, or numbers, as a member sees them: which are its own.
 fn seen(member: &Member, row: &[u32], numbers: &[usize], members: &[Member]) -> u64 {
@@ -203,6 +102,74 @@ impl Group {
     }
 }
 
+/// Why two processes that should be equal can't be exchanged, if they can't.
+fn unlike(pair: [Member; 2], processes: &[&dyn Process]) -> Option<String> {
+    let [first, second] = pair.map(|member| processes[member.process]);
+    let names = format!("{} and {}", first.name(), second.name());
+    if pair[0].own.pid == pair[1].own.pid {
+        return Some(format!(
+            "{names} are LWPs of one process, whose first one isn't like others"
+        ));
+    }
+    let line = first
+        .outline()
+        .zip(second.outline())
+        .and_then(|(first, second)| first.differs(second, &Exchange::of(pair)));
+    line.map(|line| format!("{names} have different scripts, from line {line} on"))
+}
+
+/// Exchanges of the groups of a user: all, or if there are too many, pairs and random ones.
+fn tried<'g>(groups: impl Iterator<Item = &'g Group> + Clone) -> Vec<Exchange> {
+    let pairs = groups.clone().flat_map(Group::pairs).map(Exchange::of);
+    let orders = groups.clone().flat_map(|group| 1..=group.members.len());
+    if orders.fold(1, usize::saturating_mul) > MOST {
+        let random = (0..).map(|seed| Exchange(groups.clone().flat_map(|group| group.shuffled(seed)).collect()));
+        return pairs.take(MOST / 2).chain(random).take(MOST).collect();
+    }
+    let members = groups.clone().flat_map(|group| &group.members);
+    let mut all = vec![Exchange(members.map(|member| (*member, *member)).collect())];
+    let (mut at, pairs) = (0, pairs.collect::<Vec<_>>());
+    while at < all.len() {
+        for pair in &pairs {
+            let exchange = all[at].then(pair);
+            if !all.contains(&exchange) {
+                all.push(exchange);
+            }
+        }
+        at += 1;
+    }
+    all
+}
+
+/// Groups of processes that say that they are equal.
+fn grouped(processes: &[&dyn Process], user_of: &[usize], states: &[State]) -> Result<Vec<Group>, String> {
+    let mut groups: Vec<(u8, Group)> = Vec::new();
+    for (process, known) in processes.iter().enumerate() {
+        let Some((group, own)) = known.alike() else { continue };
+        let (user, member) = (user_of[process], Member { process, own });
+        if !rows(&states[user]).have(own) {
+            return Err(format!(
+                "{} isn't there at the start, and can't be exchanged",
+                known.name()
+            ));
+        }
+        match groups
+            .iter_mut()
+            .find(|(name, known)| (*name, known.user) == (group, user))
+        {
+            Some((_, known)) => known.members.push(member),
+            None => groups.push((
+                group,
+                Group {
+                    user,
+                    members: vec![member],
+                },
+            )),
+        }
+    }
+    Ok(groups.into_iter().map(|(_, group)| group).collect())
+}
+
 impl Symmetry {
     /// The groups of at least two equal processes.
     ///
@@ -215,34 +182,28 @@ impl Symmetry {
         start: &Spot,
         states: &[State],
     ) -> Result<Symmetry, String> {
-        let mut groups: Vec<(u8, Group)> = Vec::new();
-        for (process, known) in processes.iter().enumerate() {
-            let Some((group, own)) = known.alike() else { continue };
-            let (user, member) = (user_of[process], Member { process, own });
-            match groups
-                .iter_mut()
-                .find(|(name, known)| (*name, known.user) == (group, user))
-            {
-                Some((_, known)) => known.members.push(member),
-                None => groups.push((
-                    group,
-                    Group {
-                        user,
-                        members: vec![member],
-                    },
-                )),
-            }
+        let groups = grouped(processes, user_of, states)?;
+        if let Some(why) = groups
+            .iter()
+            .flat_map(Group::pairs)
+            .find_map(|pair| unlike(pair, processes))
+        {
+            return Err(why);
         }
-        let groups: Vec<Group> = groups.into_iter().map(|(_, group)| group).collect();
-        let symmetry = Symmetry { groups };
-        for group in &symmetry.groups {
-            for pair in group.members.windows(2) {
-                let exchange = Exchange(vec![(pair[0], pair[1]), (pair[1], pair[0])]);
-                let nothing = Exchange(Vec::new());
-                if symmetry.exchanged(&exchange, start, states) != symmetry.exchanged(&nothing, start, states) {
-                    let [first, second] = [pair[0], pair[1]].map(|member| processes[member.process].name());
-                    return Err(format!("{first} and {second} aren't alike at the start"));
-                }
+        let pairs = groups.iter().flat_map(|group| group.members.windows(2));
+        let neighbours = pairs.map(|pair| Exchange::of([pair[0], pair[1]])).collect();
+        let users = 0..states.len();
+        let symmetry = Symmetry {
+            tried: users
+                .map(|user| tried(groups.iter().filter(|group| group.user == user)))
+                .collect(),
+            groups,
+            neighbours,
+        };
+        for exchange in &symmetry.neighbours {
+            let nothing = Exchange(Vec::new());
+            if symmetry.exchanged(exchange, start, states) != symmetry.exchanged(&nothing, start, states) {
+                return Err(format!("{} aren't alike at the start", exchange.names(processes)));
             }
         }
         Ok(symmetry)
@@ -261,6 +222,23 @@ impl Symmetry {
             hasher.words(&exchange.place(place).words());
         }
         hasher.key()
+    }
+
+    /// The processes of each group.
+    pub fn groups(&self) -> Vec<Vec<usize>> {
+        let of = |group: &Group| group.members.iter().map(|member| member.process).collect();
+        self.groups.iter().map(of).collect()
+    }
+
+    /// For each process the one whose place it has in the key.
+    pub fn slots(&self, spot: &Spot, states: &[State]) -> Vec<usize> {
+        let mut slots: Vec<usize> = (0..spot.places.len()).collect();
+        for group in &self.groups {
+            for (from, to) in group.exchange(spot, &states[group.user]) {
+                slots[from.process] = to.process;
+            }
+        }
+        slots
     }
 
     /// The same key for states that differ by an exchange, if their members can be told apart.

@@ -162,9 +162,10 @@ fn another_search_is_refused() {
     let larger = refusal(&model("lost_wakeup", true, 3), &options);
     assert!(larger.contains("it is of another search: the start is "), "{larger}");
     let property = model("lost_wakeup", true, 2).property(tracehost_explore::unreported_stop());
-    let properties = "the properties is deadlock, unreported_stop, and was deadlock";
+    let default = "deadlock, stuck, no_progress";
+    let properties = format!("the properties is {default}, unreported_stop, and was {default}");
     assert!(
-        refusal(&property, &options).ends_with(properties),
+        refusal(&property, &options).ends_with(&properties),
         "{}",
         refusal(&property, &options)
     );

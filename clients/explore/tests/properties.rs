@@ -4,8 +4,8 @@ use tracehost::{
     Act, Call, Errno, Error, New, Reply, Request, Session, Settings, Signal, State, WaitOptions, WaitStatus, Which,
 };
 use tracehost_explore::{
-    deadlock, ended_by_signal, explore, unreported_stop, Error as Why, Found, Go, Model, Options, Process, Property,
-    Script,
+    deadlock, ended_by_signal, explore, unreported_stop, Error as Why, Found, Go, Model, Next, Options, Process,
+    Property, Script, Step, When,
 };
 
 const USER: u32 = 1001;
@@ -274,9 +274,6 @@ fn a_world_that_cannot_be_set_up() {
         explore(&model, &Options::default()),
         Err(Why::Session(Error::Errno(Errno::ESRCH)))
     ));
-    let nobody = Model::new("nobody", |_| Ok(Vec::new()));
-    assert_eq!(search(&nobody).states, 0);
-    assert!(search(&nobody).passed());
 }
 
 #[test]
@@ -290,6 +287,47 @@ fn a_script_of_256_processes() {
 }
 
 /// A property that panics ends the search, whichever thread has asked it.
+#[test]
+fn a_model_without_processes() {
+    let model = Model::new("nobody", |_| Ok(Vec::new()));
+    let refused = explore(&model, &Options::default()).err().map(|why| why.to_string());
+    assert_eq!(refused.as_deref(), Some("a model has a process at least"));
+}
+
+/// A search looks at the rows of its processes' user, which a step of another user doesn't change.
+#[test]
+fn a_step_of_another_user() {
+    const OTHER: u32 = 1002;
+    for together in [false, true] {
+        let model = Model::new("foreign", |host| {
+            let (own, foreign) = (host.spawn(USER)?, host.spawn(OTHER)?);
+            let turn = move |act| Next::Step(Step::Turn(OTHER, foreign.lwp, act), When::Runs);
+            let other = Script::new("other", OTHER, foreign);
+            let first = script("first", own, |script| {
+                script.step(move |_, _| turn(Act::Raise(Signal::SIGUSR1)), |_, _, _| Ok(Go::On));
+                script.step(
+                    move |_, _| turn(Act::Compute),
+                    |_, _, answer| match answer {
+                        Ok(Reply::Ended(_)) => Err("it has ended".to_owned()),
+                        _ => Ok(Go::On),
+                    },
+                );
+            });
+            Ok(vec![first, Box::new(other)])
+        });
+        for threads in [1, 2] {
+            let options = Options {
+                together,
+                threads,
+                ..Options::default()
+            };
+            let refused = explore(&model, &options).err().map(|why| why.to_string());
+            let why = "first: 104000 Raise(SIGUSR1) is a step of user 1002, and it is a process of 1001";
+            assert_eq!(refused.as_deref(), Some(why));
+        }
+    }
+}
+
 #[test]
 fn a_panic_ends_the_search() {
     let race = tracehost_explore::models::Race::named("stop_lost_at_detach").expect("a race");

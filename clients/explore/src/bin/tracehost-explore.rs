@@ -18,6 +18,7 @@ Searches all interleavings of a debugger that has a race.
   --right             its remedy
   --size N            how many signals, threads or targets
   --users N           so many users, each with all of it
+  --ticker            beside a process of each user that computes for ever
   --together          searches the users together, and not each by itself
   --symmetric         takes states that differ only by an exchange of equal processes as one
   --threads N         threads; as many as the machine runs at once
@@ -45,6 +46,7 @@ struct Asked {
     right: bool,
     size: Option<u8>,
     users: u32,
+    ticker: bool,
     save: Option<PathBuf>,
     options: Options,
 }
@@ -97,13 +99,14 @@ fn list() -> String {
 }
 
 fn asked(mut words: impl Iterator<Item = OsString>) -> Result<Asked, Stop> {
-    let (mut race, mut right, mut size, mut users, mut save) = (None, false, None, 1, None);
+    let (mut race, mut right, mut size, mut users, mut ticker, mut save) = (None, false, None, 1, false, None);
     let mut options = Options::default();
     while let Some(word) = words.next() {
         let word = word.to_string_lossy();
         let (option, words) = (&*word, &mut words);
         match option {
             "--right" => right = true,
+            "--ticker" => ticker = true,
             "--size" => size = Some(number(option, words)?),
             "--users" => users = number(option, words)?,
             "--save" => save = Some(value(option, words)?.into()),
@@ -132,6 +135,7 @@ fn asked(mut words: impl Iterator<Item = OsString>) -> Result<Asked, Stop> {
             right,
             size,
             users,
+            ticker,
             save,
             options,
         }),
@@ -152,9 +156,8 @@ fn tell(found: &Found) -> io::Result<()> {
 }
 
 fn run(asked: &Asked) -> Result<ExitCode, String> {
-    let model = asked
-        .race
-        .model(asked.right, asked.users, asked.size.unwrap_or(asked.race.size));
+    let size = asked.size.unwrap_or(asked.race.size);
+    let model = asked.race.beside(asked.right, asked.users, size, asked.ticker);
     let found = explore(&model, &asked.options).map_err(|error: Error| error.to_string())?;
     tell(&found).map_err(|error| format!("standard output: {error}"))?;
     if let (Some(path), true) = (&asked.save, found.failure.is_some()) {

@@ -141,11 +141,12 @@ fn continuing(setup: Setup, own: New, target: u32) -> Script {
     script.kill(target, Signal::SIGCONT);
     if right {
         script.jump("wait");
+    } else {
+        script.wait(target, |_, status| match status {
+            WaitStatus::Exited(7) => Ok(Go::End),
+            status => Err(format!("{status} in place of exit 7")),
+        });
     }
-    script.wait(target, |_, status| match status {
-        WaitStatus::Exited(7) => Ok(Go::End),
-        status => Err(format!("{status} in place of exit 7")),
-    });
     script
 }
 

@@ -90,7 +90,9 @@ pub fn chld_coalesced(host: &mut Session, setup: Setup) -> Result<Processes, Err
     script.label("end");
     let mut scripts: Processes = vec![Box::new(script)];
     for target in targets {
-        scripts.push(Box::new(raising(user, target, 0)));
+        let mut script = Script::new(format!("target {}", target.pid), user, target);
+        script.call(Call::Exit(7));
+        scripts.push(Box::new(script));
     }
     Ok(scripts)
 }

@@ -241,18 +241,19 @@ pub fn unannounced_child(host: &mut Session, setup: Setup) -> Result<Processes, 
     });
     look_at_stop(&mut script, setup.right, debugger.pid);
     resume_at_hand(&mut script, "wait");
-    script.label("announced");
-    // the child, whose number is beside that of the process at hand
-    script.ptrace_then(
-        Request::Continue(None),
-        |place| place.numbers[1],
-        |place, _| {
-            place.numbers[1] = 0;
-            Ok(Go::To("resume"))
-        },
-    );
-    script.label("resume");
-    resume_at_hand(&mut script, "wait");
+    if !setup.right {
+        script.label("announced");
+        // the child, whose number is beside that of the process at hand
+        script.ptrace_then(
+            Request::Continue(None),
+            |place| place.numbers[1],
+            |place, _| {
+                place.numbers[1] = 0;
+                Ok(Go::On)
+            },
+        );
+        resume_at_hand(&mut script, "wait");
+    }
     let mut watching = Script::new("watchdog", user, watchdog);
     watching.kill(target.pid, Signal::SIGKILL);
     watching.call(Call::Exit(0));
