@@ -58,6 +58,12 @@ BODY(enter_only);
 BODY(leave_only);
 BODY(again);
 
+/* reported_calls.c */
+BODY(begin_call);
+BODY(replace_call);
+BODY(end_call);
+void not_reported(const struct lwp *l, const char *call);
+
 /* event_calls.c */
 enum { FORKED = 1, EXECED, ENDED, SIGNALLED };
 BODY(watch_call);
@@ -70,6 +76,7 @@ void close_all_described(struct process *p);
 void tell_fork(const struct process *p, const struct process *child);
 
 /* of more than one file */
+int send_to_lwp(struct lwp *l, int64_t tid, int64_t signal);
 void ring(struct lwp *timer);
 int find_described(const struct process *p, int pid);
 void bare_call(struct lwp *l, int code); /* into a call that never waits, and out of it */

@@ -1,5 +1,6 @@
 /* Ends of LWPs and processes. */
 #include <errno.h>
+#include <signal.h>
 #include <stdlib.h>
 #include <sys/socket.h>
 #include <time.h>
@@ -35,8 +36,10 @@ void forget_lwp(struct lwp *l)
 		ssize_t got = recv(l->fd, line, sizeof line, 0);
 		if (got == 0 || (got < 0 && errno != EAGAIN && errno != EINTR))
 			break;
-		if (got < 0)
+		if (got < 0) {
+			take_notices();
 			end_if_python_is_gone();
+		}
 	}
 	close_socket(l);
 	remove_lwp(l);
@@ -67,9 +70,13 @@ const struct process *process_that_ended(int real)
 	return NULL;
 }
 
+/* One that waits for a program without the runtime hears nothing. */
 static void tell_end(struct process *p, struct lwp *exits)
 {
 	struct lwp *told = exits;
+	for (size_t i = 0; i < p->lists.lwps.count; i++)
+		if (p->lists.lwps.at[i]->foreign)
+			kill(p->real, SIGKILL);
 	for (size_t i = p->lists.lwps.count; exits == NULL && i-- > 0;)
 		if (p->lists.lwps.at[i]->fd >= 0)
 			told = p->lists.lwps.at[i];

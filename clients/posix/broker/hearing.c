@@ -74,10 +74,12 @@ static enum reading receive(struct lwp *l, bool amid, struct question *q)
 	struct watch watch;
 	watch_begin(&watch);
 	for (;;) {
-		ssize_t got = recv(l->fd, line, sizeof line - 1, 0);
+		bool waits = l->foreign && !compute_foreign(l);
+		ssize_t got = recv(l->fd, line, sizeof line - 1, waits ? MSG_DONTWAIT : 0);
 		if (got < 0 && errno == EINTR)
 			continue;
 		if (got < 0 && errno == EAGAIN) {
+			take_notices();
 			end_if_python_is_gone();
 			limits(l);
 			if (watch_look(&watch, l))
@@ -93,6 +95,10 @@ static enum reading receive(struct lwp *l, bool amid, struct question *q)
 			foreign_text(l->process, copy, got);
 		if (reading == BROKEN)
 			broken("told %d %s", l->process->pid, q->words);
+		if (reading == REMARKS) {
+			remark("%s", q->words);
+			continue;
+		}
 		if (!amid || reading != ASKS || q->call->body != poke)
 			return reading;
 		send_line(l, "ok");
@@ -187,8 +193,12 @@ static void meet(struct lwp *l)
 static void act(struct lwp *l)
 {
 	int64_t arguments[ARGUMENTS];
+	jmp_buf *outer = l->act, here;
 	memcpy(arguments, l->arguments, sizeof arguments); /* a handler's questions have their own */
-	l->call->body(l, l->call, arguments);
+	l->act = &here;
+	if (setjmp(here) == 0)
+		l->call->body(l, l->call, arguments);
+	l->act = outer;
 	l->level--;
 	l->waits = false, l->until = NEVER;
 	if (!l->in_table)
@@ -198,11 +208,17 @@ static void act(struct lwp *l)
 /* The LWP's question is answered, and it asks the next one: false if its handler is over. */
 static bool reply_to(struct lwp *l)
 {
-	static char line[ANSWER + 8];
+	static char line[ANSWER + 16];
+	if (l->anew) {
+		l->anew = false;
+		return hear(l, false);
+	}
 	struct lwp *born = l->bears;
 	bool lands = l->lands, steps = l->traps && l->level < l->depth; /* not in a handler that runs meanwhile */
 	l->lands = false, l->bears = NULL;
-	snprintf(line, sizeof line, "%s%s", lands ? "land " : steps ? "step " : "", answer);
+	bool reports = l->process->reports && l->process->tracer != 0;
+	const char *under = l->begun ? "begun " : reports ? "calls " : "", *then = lands ? "land " : steps ? "step " : "";
+	snprintf(line, sizeof line, "%s%s%s", under, then, answer);
 	if (born != NULL)
 		send_socket(l, line, born);
 	else
@@ -215,7 +231,7 @@ static bool reply_to(struct lwp *l)
 		meet(l);
 		longjmp(l->base, 1);
 	}
-	bool asks = hear(l, born != NULL || l->entered >= 0 || lands);
+	bool asks = hear(l, born != NULL || (l->entered >= 0 && !l->begun) || lands);
 	if (born != NULL)
 		meet(born);
 	return asks;
@@ -223,7 +239,7 @@ static bool reply_to(struct lwp *l)
 
 static void wait_for_turn(struct lwp *l)
 {
-	if (l->call->at_once)
+	if (l->call->at_once || l->begun)
 		l->before = run.kept.count;
 	else
 		give_way(l);
@@ -244,6 +260,38 @@ void run_handler(struct lwp *l, struct info info)
 		act(l);
 	}
 	give_way(l);
+}
+
+/* The LWP asks this in the midst of its computation, which isn't in the runtime: an errno of the host's, or 0. */
+int64_t ask_for(struct lwp *l, const char *format, ...)
+{
+	char line[ASKED], asked[ASKED];
+	struct question q;
+	int error = 0;
+	va_list arguments;
+	va_start(arguments, format);
+	vsnprintf(line, sizeof line, format, arguments);
+	va_end(arguments);
+	memcpy(asked, l->asked, sizeof asked);
+	if (read_question(line, &q) != ASKS)
+		broken("ask_for %s", line);
+	run.questions++;
+	limits(l);
+	count_busy(l);
+	note_question(l, &q, false);
+	change(SYNC);
+	l->call = q.call;
+	memcpy(l->arguments, q.arguments, sizeof l->arguments);
+	l->level++;
+	wait_for_turn(l);
+	act(l);
+	if (l->lands)
+		user(l);
+	l->lands = false;
+	touch_host();
+	memcpy(l->asked, asked, sizeof asked);
+	sscanf(answer, "error %d", &error);
+	return error;
 }
 
 /* An LWP's life, in its coroutine. */
@@ -277,16 +325,22 @@ void live(struct lwp *l)
 const char *aside(struct lwp *l, const char *line)
 {
 	static char text[MESSAGE];
+	static const char remarks[] = "0 remark ";
 	send_line(l, line);
 	for (int looks = 0; looks < ENDING_S * 1000 / LOOK_MS; looks++) {
 		ssize_t got = recv(l->fd, text, sizeof text - 1, 0);
 		if (got < 0 && (errno == EAGAIN || errno == EINTR)) {
+			take_notices();
 			end_if_python_is_gone();
 			continue;
 		}
 		if (got <= 0)
 			gone(l->process);
 		text[got] = 0;
+		if (strncmp(text, remarks, strlen(remarks)) == 0) {
+			remark("%s", text + strlen(remarks));
+			continue;
+		}
 		const char *last = strrchr(text, ' ');
 		return last != NULL ? last + 1 : text;
 	}

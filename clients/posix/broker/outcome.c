@@ -4,7 +4,7 @@
 #include <unistd.h>
 #include "run.h"
 
-static LIST(char) notes, plain; /* plain: the last line of the plain schedule */
+static LIST(char) notes, remarks, plain; /* plain: what the plain schedule has come to */
 static char failure[MESSAGE + 64]; /* its kind, and what Python makes a sentence of; empty if there is none */
 static bool is_failure;
 static int gone_real; /* of a process that has ended outside of the model */
@@ -93,6 +93,7 @@ void outcome_begin(void)
 	failure[0] = 0;
 	is_failure = false;
 	gone_real = 0;
+	remarks.count = 0;
 }
 
 bool has_failed(void) { return is_failure; }
@@ -211,11 +212,36 @@ static void note_steps(void)
 		}
 }
 
+/* Each one once. */
+void remark(const char *format, ...)
+{
+	char text[2048];
+	va_list arguments;
+	va_start(arguments, format);
+	vsnprintf(text, sizeof text, format, arguments);
+	va_end(arguments);
+	for (size_t at = 0; at < remarks.count; at += strlen(remarks.at + at) + 1)
+		if (strcmp(remarks.at + at, text) == 0)
+			return;
+	for (size_t i = 0; i <= strlen(text); i++)
+		APPEND(&remarks, text[i]);
+}
+
+static void note_remarks(void)
+{
+	for (size_t at = 0; at < remarks.count; at += strlen(remarks.at + at) + 1) {
+		note("remark\t");
+		note_text(remarks.at + at);
+		note("\n");
+	}
+}
+
 /* The run's last line: how it has ended, figures, its switches, what has failed. */
 void note_outcome(void)
 {
 	note_steps();
 	size_t first = notes.count;
+	note_remarks();
 	note("%s %ld %ld %ld %ld %ld %ld %llu ",
 		is_failure    ? "failed"
 		: run.repeats ? "repeats"
@@ -235,7 +261,7 @@ void note_outcome(void)
 		APPEND(&plain, notes.at[i]);
 }
 
-/* The same line as of the last plain schedule. */
+/* The same lines as of the last plain schedule. */
 void note_plain_outcome(void) { put(plain.at, plain.count); }
 
 void forget_notes(void) { notes.count = 0; }

@@ -102,7 +102,7 @@ static int fork_of(struct lwp *l, const struct call *call, int kind)
 	struct lwp *born = new_lwp(child, number_of(number_lwp(), &r, r.lwp), l->mask);
 	child->vforked = kind == TRACEHOST_VFORK;
 	if (r.kind == TRACEHOST_STOPPED && r.flags & TRACEHOST_PL_FLAG_FORKED) {
-		child->tracer = p->tracer, child->reporting = born;
+		child->tracer = p->tracer, child->reporting = born, child->reports = p->reports;
 		child_news(child, BSD_CLD_TRAPPED, STOP);
 	}
 	tell_fork(p, child);
@@ -213,6 +213,7 @@ BODY(foreign)
 BODY(exit_process)
 {
 	(void)call;
+	l->foreign = false;
 	enter_call(l, TRACEHOST_EXIT, arguments[0], NULL);
 	l->process->told = arguments[0];
 	ended(l, leave(l).status);
@@ -251,7 +252,8 @@ BODY(poke)
 		AWAIT(l, NEVER, SYNC, IO, pid, -pid);
 		l->hosted = false;
 	}
-	user(l);
+	if (!l->begun)
+		user(l);
 	say("ok");
 }
 

@@ -49,12 +49,18 @@ bool send_with(int to, const char *text, int fd)
 	return sent >= 0;
 }
 
-/* The server's message: its length. A server that the program has stopped goes on. */
-static ssize_t hear_server(char *line, size_t room)
+/* The server's message: its length. A descriptor may be `given` with it. A server that the program has stopped goes on. */
+static ssize_t hear_server(char *line, size_t room, int *given)
 {
+	char space[CMSG_SPACE(sizeof *given)];
+	struct iovec part = {line, room};
 	double patience = options.patience > ENDING_S ? options.patience : ENDING_S;
 	for (long looks = (long)(patience * 1000 / LOOK_MS) + 1; looks > 0; looks--) {
-		ssize_t got = recv(control, line, room, 0);
+		struct msghdr message = {.msg_iov = &part, .msg_iovlen = 1, .msg_control = space, .msg_controllen = sizeof space};
+		ssize_t got = recvmsg(control, &message, MSG_CMSG_CLOEXEC);
+		struct cmsghdr *header = got > 0 && given != NULL ? CMSG_FIRSTHDR(&message) : NULL;
+		if (header != NULL && header->cmsg_type == SCM_RIGHTS)
+			memcpy(given, CMSG_DATA(header), sizeof *given);
 		if (got >= 0 || (errno != EAGAIN && errno != EINTR))
 			return got;
 		end_if_python_is_gone();
@@ -121,7 +127,7 @@ static _Noreturn void refused(void)
 void program_start(char **argv)
 {
 	char line[4097];
-	int given;
+	int given, listener = -1;
 	control = socket_pair(&given);
 	personality(ADDR_NO_RANDOMIZE); /* addresses are the same in each run */
 	int error = spawn(argv, given);
@@ -130,10 +136,11 @@ void program_start(char **argv)
 		flush_notes();
 		exit(0);
 	}
-	ssize_t got = hear_server(line, sizeof line - 1);
+	ssize_t got = hear_server(line, sizeof line - 1, &listener);
 	line[got > 0 ? got : 0] = 0;
 	if (strncmp(line, "ready", 5) != 0)
 		refused();
+	notices_of(listener);
 	for (char *at = strchr(line, '\n'); at != NULL;) {
 		char *next = strchr(at + 1, '\n');
 		if (next != NULL)
@@ -164,7 +171,7 @@ void program_sweep(struct ends *ends)
 	ends->count = 0;
 	if (send(control, "sweep", 5, MSG_NOSIGNAL) < 0)
 		broken("server");
-	ssize_t got = hear_server(line, sizeof line - 1);
+	ssize_t got = hear_server(line, sizeof line - 1, NULL);
 	if (got <= 0)
 		broken("server");
 	line[got] = 0;

@@ -64,11 +64,15 @@ static const struct call calls[] = {
 		"PT_READ_D, PT_WRITE_D, PT_IO, PT_VM_ENTRY and their kin"},
 	{"registers", registers_call,  26, 1, 1, "",                             0, 0, false,
 		"PT_GETREGS and its kin, PT_GET_SC_ARGS, PT_GET_SC_RET"},
-	{"apply",     apply,           26, 2, 2, "",                             0, 0, false, "PT_SETREGS and its kin"},
+	{"apply",     apply,           26, 3, 3, "",                             0, 0, false, "PT_SETREGS and its kin"},
 	{"setstep",   setstep,         26, 2, 2, "",                             0, 0, false, "PT_SETSTEP, PT_CLEARSTEP"},
 	{"thread",    thread,          26, 1, 1, "",                             0, 0, false, "PT_LWPINFO's pl_tdname"},
 	{"wait",      wait_call,       7,  2, 2, "enter wait4 leave compute",    NEWS, NEWS, false,
 		"wait, waitpid, wait3, wait4, wait6, waitid"},
+	{"begin",     begin_call,      0,  1, 1, "enter",                        0, 0, false,
+		"a call under PT_SYSCALL, before its function"},
+	{"replace",   replace_call,    0,  2, 2, "",                             0, 0, true, "another call, by a debugger"},
+	{"end",       end_call,        0,  1, 1, "leave compute",                0, FILES, true, "a call of the host's under PT_SYSCALL: end"},
 	{"enter",     enter_only,      0,  1, 1, "enter",                        0, 0, false,
 		"read, readv, write, writev, poll, select, kevent: begin"},
 	{"leave",     leave_only,      0,  0, 0, "leave compute",                0, FILES, false, "these: end"},
@@ -206,7 +210,7 @@ static enum reading read_text(struct question *q, const char *name_end)
 	static const struct {
 		const char *name;
 		enum reading reading;
-	} names[] = {{"broken", BROKEN}, {"refused", REFUSED}, {"outside", OUTSIDE}};
+	} names[] = {{"broken", BROKEN}, {"refused", REFUSED}, {"outside", OUTSIDE}, {"remark", REMARKS}};
 	for (size_t i = 0; i < sizeof names / sizeof names[0]; i++)
 		if (is_word(q->text, name_end, names[i].name))
 			return *name_end == ' ' && name_end[1] != 0 && strchr(name_end, '\n') == NULL ? names[i].reading : FOREIGN_TEXT;

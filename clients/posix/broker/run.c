@@ -301,6 +301,7 @@ static void begin(void)
 	run.inside = !options.calls;
 	run.last_look = UINT64_MAX;
 	outcome_begin();
+	notices_begin();
 	table_begin();
 	legs_begin();
 	coverage_begin();

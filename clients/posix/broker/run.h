@@ -95,7 +95,7 @@ struct question {
 	const struct call *call; /* NULL for `handled` */
 	int64_t arguments[ARGUMENTS];
 };
-enum reading { ASKS, HANDLED, BROKEN, REFUSED, OUTSIDE, FOREIGN_TEXT, UNKNOWN };
+enum reading { ASKS, HANDLED, BROKEN, REFUSED, OUTSIDE, REMARKS, FOREIGN_TEXT, UNKNOWN };
 enum reading read_question(char *line, struct question *q);
 void leg_asks(const struct question *q, const char *text); /* of legs.c */
 
@@ -103,6 +103,14 @@ void live(struct lwp *l);
 void run_handler(struct lwp *l, struct info info);
 const char *aside(struct lwp *l, const char *line);
 void close_socket(struct lwp *l);
+int64_t ask_for(struct lwp *l, const char *format, ...) __attribute__((format(printf, 2, 3)));
+
+/* ---- notices.c: what programs without the runtime call */
+
+void notices_of(int listener);
+void notices_begin(void);
+void take_notices(void);
+bool compute_foreign(struct lwp *l);
 
 /* ---- ends.c */
 
@@ -135,6 +143,7 @@ void note_outcome(void);
 void note_plain_outcome(void);
 void forget_notes(void);
 void verdict(void);
+void remark(const char *format, ...) __attribute__((format(printf, 1, 2))); /* the run says so at its end */
 
 /* ---- program.c */
 

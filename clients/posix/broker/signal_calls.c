@@ -51,7 +51,7 @@ static struct lwp *lwp_of_process(const struct process *p, int64_t tid)
 	return NULL;
 }
 
-static int send_to_lwp(struct lwp *l, int64_t tid, int64_t signal)
+int send_to_lwp(struct lwp *l, int64_t tid, int64_t signal)
 {
 	struct process *p = l->process;
 	struct lwp *other = lwp_of_process(p, tid);
@@ -105,6 +105,9 @@ BODY(trace_call)
 BODY(fault_call)
 {
 	(void)call;
+	if (l->begun) /* an address of its arguments */
+		leave(l);
+	l->begun = false;
 	send_info_to_lwp(l, (struct info){.signal = arguments[0], .code = arguments[1], .address = arguments[2]});
 	turn(l, act_of(l, TRACEHOST_RAISE, arguments[0]), (struct how){.at_once = true});
 	user(l);
@@ -263,12 +266,13 @@ static void accept_no_longer(struct lwp *l, signals wanted)
 }
 
 /* Waits for a signal that the LWP accepts: its number, or an errno by its negative. */
-static int first_accepted(struct lwp *l, int64_t until)
+static int first_accepted(struct lwp *l, int64_t until, struct info *info)
 {
 	int pid = l->process->pid;
 	for (;;) {
 		struct met met = {0};
 		user_met(l, &met);
+		*info = met.info;
 		if (met.accepted != 0)
 			return met.accepted;
 		if (met.all != 0 || l->cancelled)
@@ -286,11 +290,12 @@ BODY(sigwait_call)
 	signals wanted = (signals)arguments[0] & every_signal & ~UNBLOCKABLE, old = l->mask;
 	int64_t until = arguments[1] < 0 ? NEVER : later(now(), arguments[1]);
 	(void)call;
+	not_reported(l, "sigwait, sigwaitinfo, sigtimedwait");
 	accept_signals(l, wanted);
 	turn(l, act_of(l, TRACEHOST_BLOCK, (old & ~wanted) >> 1), (struct how){0});
 	l->mask = old & ~wanted;
-	int got = first_accepted(l, until);
-	struct info info = got > 0 ? info_of(l, got, (struct info){0}) : (struct info){0};
+	struct info info;
+	int got = first_accepted(l, until, &info);
 	block(l, old);
 	accept_no_longer(l, wanted);
 	back(l);
@@ -307,6 +312,7 @@ BODY(pending)
 	struct process *p = l->process;
 	signals wanted = l->mask, old = l->mask, found = 0, got;
 	(void)call, (void)arguments;
+	not_reported(l, "sigpending");
 	if (p->tracer != 0) {
 		say_error(ENOSYS);
 		return;

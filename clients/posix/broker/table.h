@@ -84,6 +84,7 @@ struct process {
 	bool examines; /* a debugger that has asked for registers, or set a byte: its steps are instructions */
 	bool stops; /* it has been stopped, or sent a signal that stops */
 	bool vforked; /* its parent waits for its exec or end */
+	bool reports; /* its tracer has asked for stops at calls */
 	bool chld_due, chld_spurious; /* a SIGCHLD has come since the last one was caught; one of a stop that was passed over */
 	int told; /* the exit code that the model has, or -1 */
 	struct lwp *reporting; /* of its last stop */
@@ -104,6 +105,7 @@ struct process {
 };
 
 enum { TOUCHED = 24 };
+enum { MEMORY = 1, REGISTERS = 2 }; /* of `altered` */
 struct touches {
 	bool all;
 	size_t count;
@@ -127,7 +129,7 @@ struct lwp {
 	bool yields, stepping, leaves, foreign;
 	struct touches asleep; /* of the leg that was due when it was preempted: it sleeps until another leg touches that */
 	bool traps; /* it steps by an instruction */
-	bool to_step; /* by PT_SETSTEP */
+	bool to_step; /* by PT_SETSTEP or PT_STEP: the mark stays until it has stepped */
 	bool lands; /* its call is over: it asks `user` after the call has returned */
 	bool hosted; /* it waits in a call of the host's */
 	bool lost; /* a debugger has let it go on at address 0 */
@@ -139,6 +141,10 @@ struct lwp {
 	LIST(int) injected; /* that other threads have sent it */
 	int64_t polling; /* when its poll(2) is over */
 	int entered; /* the code of the call that it is in, or -1 */
+	bool at_entry, begins, begun; /* stopped at a call's entry; by `begin`; in a call that its next step would enter */
+	int altered; /* at its entry, by a debugger */
+	bool anew; /* its question is void: it makes the call anew */
+	int replaced; /* by its debugger: the code of the call that it makes; 0 if that is the one it has entered */
 	int pokes;
 	/* its question */
 	uint64_t where;
@@ -155,6 +161,7 @@ struct lwp {
 	bool started;
 	ucontext_t context;
 	jmp_buf base; /* an exec comes back here */
+	jmp_buf *act; /* and a void question here */
 };
 
 struct table {

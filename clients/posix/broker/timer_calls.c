@@ -22,6 +22,7 @@ BODY(sleep_call)
 BODY(clock_call)
 {
 	(void)call, (void)arguments;
+	not_reported(l, "clock_gettime, gettimeofday");
 	table.now = later(now(), 1000);
 	others(l);
 	stay(l);

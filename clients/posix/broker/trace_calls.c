@@ -11,17 +11,21 @@ static bool resumes(int64_t request)
 		   (request >= TRACEHOST_PT_TO_SCE && request <= TRACEHOST_PT_SYSCALL);
 }
 
-/* What PT_CONTINUE is after PT_SETSTEP. */
-static void set_to_step(const struct lwp *l, int64_t *request, int64_t *target)
+struct request {
+	int64_t number, target, data;
+	bool lost; /* the target is to go on at address 0 */
+};
+
+/* What the model is asked: to continue is to step, if an LWP is marked. It has one that steps at a time. */
+static struct request made_of(const struct lwp *l, struct request asked)
 {
-	const struct process *p = process_of(*target);
-	if (p == NULL || p->tracer != l->process->pid)
-		return;
+	const struct process *p = process_of(asked.target);
+	if (asked.number != TRACEHOST_PT_CONTINUE || p == NULL || p->tracer != l->process->pid)
+		return asked;
 	for (size_t i = 0; i < p->lists.lwps.count; i++)
-		if (p->lists.lwps.at[i]->to_step) {
-			*request = TRACEHOST_PT_STEP, *target = p->lists.lwps.at[i]->tid;
-			return;
-		}
+		if (p->lists.lwps.at[i]->to_step)
+			return (struct request){TRACEHOST_PT_STEP, p->lists.lwps.at[i]->tid, asked.data, asked.lost};
+	return asked;
 }
 
 static struct step step_of(const struct lwp *l, int64_t request, int64_t target, int64_t data)
@@ -37,73 +41,89 @@ static struct step step_of(const struct lwp *l, int64_t request, int64_t target,
 	return s;
 }
 
-static void resumed(struct process *p, int64_t request, int64_t target, int64_t data, bool by_instruction)
+/* Its next instruction stops the LWP, as the processor's trap flag does: the mark stays until then. */
+static void mark_step(struct lwp *l, bool to_step)
+{
+	l->to_step = to_step;
+	l->depth = l->level;
+}
+
+static bool is_named(const struct process *p, const struct lwp *l, int64_t target)
+{
+	return l->tid == target || (target == p->pid && l == p->reporting);
+}
+
+static void resumed(struct process *p, const struct request *asked, const struct request *made, bool by_instruction)
 {
 	struct lwp *reporting = p->reporting;
+	int64_t data = asked->data;
 	forget_news(p->pid);
 	for (size_t i = 0; i < p->lists.lwps.count; i++) {
 		struct lwp *l = p->lists.lwps.at[i];
-		bool named = l->tid == target || (target == p->pid && l == reporting);
-		l->stepping = request == TRACEHOST_PT_STEP && named;
-		l->traps = l->stepping && by_instruction;
-		l->depth = l->level, l->to_step = false;
-		run.examined += l->traps;
+		if (asked->number == TRACEHOST_PT_DETACH)
+			l->to_step = false;
+		if (asked->number == TRACEHOST_PT_STEP && is_named(p, l, asked->target))
+			mark_step(l, !options.strict); /* in the model a step is over as the process goes on without one */
+		l->lost |= asked->lost && is_named(p, l, asked->target);
+		l->stepping = made->number == TRACEHOST_PT_STEP && is_named(p, l, made->target);
+		l->traps = l->to_step && by_instruction;
+		run.examined += l->traps || (l->to_step && asked->number != TRACEHOST_PT_STEP);
 	}
 	bool is_caught = data > 0 && data < 32 && is_of(p, reporting) && (p->catches | reporting->accepting) & BIT(data);
 	if (is_caught && !options.strict)
 		reporting->passed |= BIT(data); /* the model says no more of it; a kernel runs the handler */
-	if (request == TRACEHOST_PT_DETACH)
+	if (asked->number == TRACEHOST_PT_DETACH)
 		p->tracer = 0;
 	change(p->pid);
 }
 
 /* What a request that was done changes here. */
-static void changed_by(struct process *caller, int64_t request, int64_t target, int64_t data, bool lost)
+static void changed_by(struct process *caller, const struct request *asked, const struct request *made)
 {
-	if (request == TRACEHOST_PT_TRACE_ME) {
-		caller->tracer = caller->parent;
+	int64_t number = asked->number, data = asked->data;
+	if (number == TRACEHOST_PT_TRACE_ME) {
+		caller->tracer = caller->parent, caller->reports = false;
 		return;
 	}
-	struct process *p = process_of(target);
+	struct process *p = process_of(asked->target);
 	if (p == NULL)
 		return;
 	change(-p->pid);
-	if (request == TRACEHOST_PT_ATTACH) {
-		p->tracer = caller->pid, p->reporting = p->lists.lwps.at[0];
+	if (number == TRACEHOST_PT_ATTACH) {
+		p->tracer = caller->pid, p->reporting = p->lists.lwps.at[0], p->reports = false;
 		child_news(p, BSD_CLD_TRAPPED, STOP);
-	} else if (resumes(request)) {
-		if (lost && p->reporting != NULL)
-			p->reporting->lost = true;
-		resumed(p, request, target, data, caller->examines);
-	}
-	if (request == TRACEHOST_PT_KILL)
+	} else if (resumes(number))
+		resumed(p, asked, made, caller->examines);
+	p->reports |= number >= TRACEHOST_PT_TO_SCE && number <= TRACEHOST_PT_SYSCALL;
+	if (number == TRACEHOST_PT_SET_EVENT_MASK)
+		p->reports = data & (TRACEHOST_PTRACE_SCE | TRACEHOST_PTRACE_SCX);
+	if (number == TRACEHOST_PT_KILL)
 		reap(&p, 1, KILL);
-	else if (resumes(request) && data != 0)
+	else if (resumes(number) && data != 0)
 		reap(&p, 1, data);
 }
 
 /* A request that the model has. The last argument: the target is to go on at address 0. */
 BODY(ptrace_call)
 {
-	int64_t request = arguments[0], target = arguments[1], data = arguments[2];
+	struct request asked = {arguments[0], arguments[1], arguments[2], arguments[3]}, made = made_of(l, asked);
 	struct numbers numbers = {0};
 	reply r = {.kind = TRACEHOST_ERROR, .error = EINVAL};
-	bool is_known = is_request(request);
-	if (request == TRACEHOST_PT_CONTINUE)
-		set_to_step(l, &request, &target);
-	struct step s = step_of(l, request, target, data);
+	struct step s = step_of(l, made.number, made.target, made.data);
 	enter(l, call->code, NULL);
-	if (is_known) {
+	if (is_request(asked.number)) {
 		r = step_of_call(l, s, true);
 		if (r.kind == TRACEHOST_LWPS)
 			numbers_of_last(&numbers);
 		if (r.kind == TRACEHOST_OK)
-			changed_by(l->process, request, target, data, arguments[3]);
+			changed_by(l->process, &asked, &made);
 		else if (s.bare && r.kind == TRACEHOST_MASK)
 			r = (reply){.kind = TRACEHOST_ERROR, .error = EINVAL}; /* what the model refuses first comes first */
 	}
 	finish(l);
 	const struct lwp *other = r.kind == TRACEHOST_INFO && r.event == 1 && !options.strict ? lwp_of(r.lwp) : NULL;
+	if (other != NULL && other->replaced != 0 && r.flags & TRACEHOST_PL_FLAG_SCX)
+		r.code = other->replaced;
 	say_requested(&r, other != NULL ? &other->info : &(struct info){0}, &numbers);
 }
 
@@ -119,6 +139,8 @@ BODY(memory)
 	}
 	const struct process *p = process_of(arguments[0]);
 	l->process->examines |= arguments[1] != 0 && !options.strict;
+	for (size_t i = 0; p != NULL && arguments[1] != 0 && i < p->lists.lwps.count; i++)
+		p->lists.lwps.at[i]->altered |= MEMORY;
 	if (p != NULL)
 		say("ok %d", p->real);
 	else
@@ -143,6 +165,8 @@ static struct lwp *stopped_lwp(struct lwp *l, int64_t target, reply *r)
 	return NULL;
 }
 
+enum { GENERAL }; /* of the kinds of registers, as the runtime has them */
+
 static struct lwp *examined_lwp(struct lwp *l, int64_t target, reply *r)
 {
 	if (!options.strict)
@@ -166,7 +190,7 @@ BODY(registers_call)
 		snprintf(line, sizeof line, "registers %u", r.code);
 	else
 		snprintf(line, sizeof line, "registers -1");
-	say("ok %d %s", other->process->real, aside(other, line));
+	say("ok %d %s %d", other->process->real, aside(other, line), other->lost);
 }
 
 /* PT_SETREGS and its kin: the thread takes over what is there now. */
@@ -180,10 +204,13 @@ BODY(apply)
 		return;
 	snprintf(line, sizeof line, "apply %lld", (long long)arguments[1]);
 	aside(other, line);
+	if (arguments[1] == GENERAL)
+		other->lost = false; /* what it has now counts */
+	other->altered |= arguments[2] ? REGISTERS : 0;
 	say("ok");
 }
 
-/* PT_SETSTEP, PT_CLEARSTEP: whether the next PT_CONTINUE is a step. */
+/* PT_SETSTEP, PT_CLEARSTEP. */
 BODY(setstep)
 {
 	reply r;
@@ -191,7 +218,8 @@ BODY(setstep)
 	(void)call;
 	if (other == NULL)
 		return;
-	other->to_step = arguments[1];
+	l->process->examines = true;
+	mark_step(other, arguments[1]);
 	say("ok");
 }
 

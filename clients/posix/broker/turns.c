@@ -1,4 +1,5 @@
 #include "turns.h"
+#include <signal.h>
 #include <string.h>
 #include "run.h"
 
@@ -48,10 +49,12 @@ bool is_discarded(const struct process *p, int signal)
 	return has(p->ignored, signal) || (has(DISCARDED, signal) && !has(p->catches, signal));
 }
 
-/* What is known of a signal that is met; if nobody has sent it, the kernel has. */
-struct info info_of(struct lwp *l, int signal, struct info otherwise)
+static struct info of_kernel(int signal) { return (struct info){.signal = signal, .code = BSD_SI_KERNEL}; }
+
+/* What is known of a signal that is met, as it is met; if nobody has sent it, the kernel has. */
+static struct info info_of(struct lwp *l, int signal)
 {
-	struct info known = otherwise;
+	struct info known = of_kernel(signal);
 	if (has(l->has_sent, signal)) {
 		known = l->sent[signal];
 		l->has_sent &= ~BIT(signal);
@@ -59,7 +62,7 @@ struct info info_of(struct lwp *l, int signal, struct info otherwise)
 		known = l->process->sent[signal];
 		l->process->has_sent &= ~BIT(signal);
 	}
-	return known.signal == signal ? known : (struct info){.signal = signal, .code = BSD_SI_KERNEL};
+	return known;
 }
 
 /* The tracer takes the stop and lets the process go on, before anybody else may look. */
@@ -67,7 +70,7 @@ static void pass_over(struct lwp *l, int signal)
 {
 	struct process *p = l->process, *tracer = live_process(p->tracer);
 	int64_t stepping = 0;
-	info_of(l, signal, (struct info){0}); /* nobody gets it */
+	info_of(l, signal); /* nobody gets it */
 	if (tracer == NULL)
 		return;
 	for (size_t i = p->lists.lwps.count; i-- > 0;)
@@ -131,7 +134,7 @@ static void stopped(struct lwp *l, const reply *r)
 {
 	struct process *p = l->process;
 	met_signal(p, r->signal);
-	l->info = r->flags == 0 ? info_of(l, r->signal, (struct info){0}) : (struct info){0};
+	l->info = r->flags == 0 ? info_of(l, r->signal) : (struct info){0};
 	p->reporting = l;
 	p->stops = true;
 	p->maybe &= ~BIT(r->signal);
@@ -166,8 +169,9 @@ void block(struct lwp *l, signals mask)
 	l->mask = mask;
 }
 
-/* The program's handler runs, with its mask. */
-static void caught_signal(struct lwp *l, int signal, struct met *met)
+/* The program's handler runs, with its mask. What is known of the signal comes along: of the same number another one may be
+ * sent before the handler begins. */
+static void caught_signal(struct lwp *l, int signal, struct info info, struct met *met)
 {
 	struct process *p = l->process;
 	signals old = l->mask;
@@ -175,7 +179,7 @@ static void caught_signal(struct lwp *l, int signal, struct met *met)
 	if (met != NULL) {
 		met->all |= BIT(signal);
 		if (met->accepted == 0 && l->accepting & BIT(signal))
-			met->accepted = signal;
+			met->accepted = signal, met->info = info;
 	}
 	if (!(p->catches & BIT(signal)) || l->accepting & BIT(signal))
 		return;
@@ -183,19 +187,24 @@ static void caught_signal(struct lwp *l, int signal, struct met *met)
 	if (action.reset)
 		dispose(l, signal, TRACEHOST_DEFAULT, NULL);
 	block(l, old | action.mask | (action.no_defer ? 0 : BIT(signal)));
-	run_handler(l, info_of(l, signal, l->info));
+	run_handler(l, info);
 	block(l, old);
 }
 
 /* ---- turns */
 
-/* There is nothing at address 0; a fault's signal can't be ignored or blocked. */
-static void fault(struct lwp *l)
+/* A fault's signal can't be ignored or blocked. */
+static void let_fault(struct lwp *l, int signal)
 {
-	if (l->process->ignored & BIT(SEGV))
-		dispose(l, SEGV, TRACEHOST_DEFAULT, NULL);
-	block(l, l->mask & ~BIT(SEGV));
-	turn(l, act_of(l, TRACEHOST_RAISE, SEGV), (struct how){0});
+	if (l->process->ignored & BIT(signal))
+		dispose(l, signal, TRACEHOST_DEFAULT, NULL);
+	block(l, l->mask & ~BIT(signal));
+}
+
+/* Whether it would go on at address 0 now. */
+static bool is_lost(const struct lwp *l, const struct step *wanted)
+{
+	return l->lost && (wanted->act == TRACEHOST_COMPUTE || (wanted->act == TRACEHOST_RAISE && wanted->a == 0));
 }
 
 /* What other threads and the debugger have left for the LWP's next turn in user mode. */
@@ -206,10 +215,10 @@ static void before_turn(struct lwp *l, const struct step *wanted, struct met *me
 		int signal = __builtin_ctz(l->passed);
 		l->passed &= ~BIT(signal);
 		run.passed++;
-		caught_signal(l, signal, met);
+		caught_signal(l, signal, l->info.signal == signal ? l->info : of_kernel(signal), met);
 	}
-	if (l->lost && (wanted->act == TRACEHOST_COMPUTE || (raises && wanted->a == 0)))
-		fault(l);
+	if (is_lost(l, wanted))
+		let_fault(l, SEGV);
 	while (l->injected.count > 0 && !raises) {
 		int signal = l->injected.at[0];
 		TAKE_OUT(&l->injected, 0);
@@ -232,7 +241,7 @@ static bool is_over(struct lwp *l, const reply *r, const struct how *how)
 	case TRACEHOST_CAUGHT:
 		met_signal(l->process, r->signal);
 		if (!is_spurious(l->process, r->signal))
-			caught_signal(l, r->signal, how->met);
+			caught_signal(l, r->signal, info_of(l, r->signal), how->met);
 		return false;
 	case TRACEHOST_ENDED: ended(l, r->status);
 	case TRACEHOST_ERROR:
@@ -243,8 +252,18 @@ static bool is_over(struct lwp *l, const reply *r, const struct how *how)
 	}
 }
 
+/* What the LWP does at its turn: nothing is at address 0; and if it steps by an instruction, that comes before its act. */
+static struct step present_act(struct lwp *l, const struct step *wanted, bool defers)
+{
+	if (is_lost(l, wanted)) {
+		send_info_to_lwp(l, (struct info){.signal = SEGV, .code = SEGV_MAPERR});
+		return act_of(l, TRACEHOST_RAISE, SEGV);
+	}
+	return defers && l->traps ? act_of(l, TRACEHOST_RAISE, 0) : *wanted;
+}
+
 /* A turn, until its act was done, or ended in a stop that `done` takes; `met` gets the signals met before. One that steps
- * by an instruction only looks if it `defers`: the instruction comes first. */
+ * by an instruction only looks if it `defers`. */
 reply turn(struct lwp *l, struct step wanted, struct how how)
 {
 	bool leaves = wanted.act == TRACEHOST_LEAVE_CALL;
@@ -256,12 +275,13 @@ reply turn(struct lwp *l, struct step wanted, struct how how)
 		how.at_once = false;
 		if (l->passed && !leaves)
 			continue; /* a debugger has let it go on with a signal since */
-		struct step s = how.defers && l->traps ? act_of(l, TRACEHOST_RAISE, 0) : wanted;
+		bool faults = is_lost(l, &wanted);
+		struct step s = present_act(l, &wanted, how.defers);
 		bool probe = s.act == TRACEHOST_RAISE && s.a == 0;
 		reply r = make(s, !probe);
 		if (probe && (r.kind == TRACEHOST_STOPPED || r.kind == TRACEHOST_CAUGHT || r.kind == TRACEHOST_ENDED))
 			keep_step(s, &r);
-		if (is_over(l, &r, &how))
+		if (is_over(l, &r, &how) && !faults)
 			return r;
 	}
 }
@@ -281,21 +301,47 @@ static bool always(struct lwp *l, const reply *r)
 static bool by_call(struct lwp *l, const reply *r)
 {
 	bool over = l->stepping && !l->traps && r->signal == TRAP && r->flags == 0;
-	l->stepping = l->stepping && !over;
+	l->stepping = l->stepping && !over, l->to_step = l->to_step && !over;
 	return over;
 }
 
 static bool by_instruction(struct lwp *l, const reply *r)
 {
 	bool over = l->stepping && r->signal == TRAP && r->flags == 0;
-	l->stepping = l->stepping && !over, l->traps = l->traps && !over;
+	l->stepping = l->stepping && !over, l->traps = l->traps && !over, l->to_step = l->to_step && !over;
 	return over;
+}
+
+/* Nothing of a call is done before the debugger that has seen its entry lets the LWP go on. In a call that is no act. */
+static void stay_at_entry(struct lwp *l)
+{
+	l->at_entry = true, l->altered = 0;
+	do
+		AWAIT(l, NEVER, -l->process->pid);
+	while (make(act_of(l, TRACEHOST_RAISE, 0), false).kind == TRACEHOST_HELD);
+	l->at_entry = false;
+	if (l->altered == 0 || l->begins)
+		return;
+	if (strcmp(aside(l, "anew"), "1") == 0) { /* the thread makes the call anew, and asks for it */
+		l->anew = l->begun = true;
+		longjmp(*l->act, 1);
+	}
+	if (l->altered & REGISTERS)
+		remark("calls that don't take the registers that a debugger sets at their entry: %s", l->call->of);
 }
 
 /* Into a call; a stop with PL_FLAG_SCE is at its entry. */
 void enter_call(struct lwp *l, int call, uint32_t argument, struct met *met)
 {
-	turn(l, entry_of(l, call, argument), (struct how){.done = at_entry, .met = met});
+	bool is_in = l->begun && call == TRACEHOST_OTHER;
+	if (l->begun && !is_in)
+		leave(l);
+	l->begun = false;
+	if (is_in)
+		return;
+	l->replaced = 0;
+	if (turn(l, entry_of(l, call, argument), (struct how){.done = at_entry, .met = met}).kind == TRACEHOST_STOPPED)
+		stay_at_entry(l);
 }
 
 /* Into a call that the model knows only by its number. */
@@ -312,12 +358,25 @@ reply leave(struct lwp *l)
 	return turn(l, act_of(l, TRACEHOST_LEAVE_CALL, 0), (struct how){.done = always});
 }
 
+/* The LWP has made its step, and isn't the one that steps in the model: it meets the signal of a trap. */
+static void trap(struct lwp *l)
+{
+	l->to_step = l->traps = false;
+	if (l->process->tracer == 0)
+		return;
+	let_fault(l, TRAP);
+	turn(l, act_of(l, TRACEHOST_RAISE, TRAP), (struct how){.at_once = true});
+	turn(l, act_of(l, TRACEHOST_RAISE, 0), (struct how){.at_once = true});
+}
+
 /* Back in user mode, where signals are met. */
 void user_met(struct lwp *l, struct met *met)
 {
 	reply r = turn(l, act_of(l, TRACEHOST_COMPUTE, 0), (struct how){.done = by_call, .met = met, .defers = true});
 	if (r.kind == TRACEHOST_STOPPED)
 		turn(l, act_of(l, TRACEHOST_RAISE, 0), (struct how){.met = met}); /* no act: does it go on? */
+	else if (l->to_step && !l->traps)
+		trap(l);
 }
 
 signals user(struct lwp *l)
@@ -328,7 +387,13 @@ signals user(struct lwp *l)
 }
 
 /* One that steps by an instruction has made it. */
-void stepped(struct lwp *l) { turn(l, act_of(l, TRACEHOST_COMPUTE, 0), (struct how){.done = by_instruction, .at_once = true}); }
+void stepped(struct lwp *l)
+{
+	if (l->stepping)
+		turn(l, act_of(l, TRACEHOST_COMPUTE, 0), (struct how){.done = by_instruction, .at_once = true});
+	if (l->to_step)
+		trap(l);
+}
 
 /* In user mode, and no call is made: the LWP stays here while its process is stopped. */
 void stay(struct lwp *l)

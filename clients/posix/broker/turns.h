@@ -58,7 +58,8 @@ struct step entry_of(const struct lwp *l, int call, uint32_t argument);
 struct met {
 	signals all;
 	int accepted;
-}; /* signals that were caught; the first one that a sigwait(2) takes */
+	struct info info;
+}; /* signals that were caught; the first one that a sigwait(2) takes, and what is known of it */
 typedef bool done(struct lwp *l, const reply *r); /* whether the act ends in this stop */
 struct how {
 	done *done;
@@ -85,8 +86,6 @@ void block(struct lwp *l, signals mask);
 bool linger(struct lwp *l, int64_t topic, bool restarts, int64_t until);
 bool interrupts(const struct process *p, signals met, bool restarts);
 bool is_due(const struct lwp *l);
-
-struct info info_of(struct lwp *l, int signal, struct info otherwise);
 
 /* ---- news.c: who hears of what */
 

@@ -149,6 +149,7 @@ static void wait_for_descriptors(struct lwp *l, bool polls, int64_t number)
 
 static void wait_for_lock(struct lwp *l, bool is_semaphore, int64_t end)
 {
+	not_reported(l, "_umtx_op");
 	if (!is_due(l))
 		AWAIT(l, end, SYNC, l->process->pid);
 	if (is_due(l)) {

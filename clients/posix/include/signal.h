@@ -106,7 +106,11 @@
 #define SIGDELSET(set, n) sigdelset(&(set), n)
 #define SIGEMPTYSET(set) sigemptyset(&(set))
 
-/* Codes of siginfo_t. Those of faults and traps are the host's, by the same names. */
+/* Codes of siginfo_t. The other ones of faults and traps have the host's numbers, by the same names. */
+#undef FPE_INTOVF
+#undef FPE_INTDIV
+#define FPE_INTOVF 1
+#define FPE_INTDIV 2
 #undef SI_USER
 #undef SI_QUEUE
 #undef SI_TIMER

@@ -8,6 +8,7 @@
 #define AT_TOP 8
 #define AT_INSIDE 16
 #define AT_LANDS 20
+#define AT_REPORTS 24
 
 #define ENTRY(name) \
 	.globl tracehost_##name; \
@@ -19,8 +20,23 @@
 	.cfi_endproc; \
 	.size tracehost_##name, . - tracehost_##name;
 
+/* A function of the host's comes in only if PT_SYSCALL reports calls. The program may have one of that name. */
+#define HOST(name, code, count) \
+	.weak tracehost_host_##name; \
+	.type tracehost_host_##name, @function; \
+	tracehost_host_##name: \
+	.cfi_startproc; \
+	movq tracehost_own@gottpoff(%rip), %r11; \
+	cmpl $0, %fs:AT_REPORTS(%r11); \
+	movq name@GOTPCREL(%rip), %r11; \
+	jne enter; \
+	jmp *%r11; \
+	.cfi_endproc; \
+	.size tracehost_host_##name, . - tracehost_host_##name;
+
 	.section tracehost_entry, "ax", @progbits
 #include "entries.inc"
+#include "hosts.inc"
 
 	.type enter, @function
 enter:
@@ -60,14 +76,17 @@ enter:
 	.cfi_escape 0x10, 0x06, 0x03, 0x76, 0xd0, 0x00 /* rbp is at rbp + 80 */
 	movq %rsp, %fs:AT_FRAME(%r10)
 	movl $1, %fs:AT_INSIDE(%r10)
+	cmpl $0, %fs:AT_REPORTS(%r10)
+	jne 5f
 	call *128(%rbp)
-	movq tracehost_own@gottpoff(%rip), %r10
+4:	movq tracehost_own@gottpoff(%rip), %r10
 	movq 144(%rbp), %r11
 	cmpl $0, 152(%rbp)
 	cmoveq %rbp, %r11
 	movq %r11, %fs:AT_FRAME(%r10)
 	movl 152(%rbp), %r11d
 	movl %r11d, %fs:AT_INSIDE(%r10)
+	.cfi_remember_state
 	movq 136(%rbp), %rsp
 	movq 80(%rbp), %rbp
 	.cfi_def_cfa %rsp, 8
@@ -81,6 +100,10 @@ enter:
 	.globl tracehost_landing
 tracehost_landing:
 	ud2
+	.cfi_restore_state
+5:	movq %rbp, %rdi
+	call tracehost_reported_call
+	jmp 4b
 	.cfi_endproc
 	.size enter, . - enter
 

@@ -25,6 +25,7 @@ enum { BSD_WNOHANG = 1, BSD_WUNTRACED = 2, BSD_WCONTINUED = 4, BSD_WNOWAIT = 8, 
 
 /* Codes of siginfo_t. */
 enum { BSD_SI_USER = 0x10001, BSD_SI_TIMER = 0x10003, BSD_SI_KERNEL = 0x10006, BSD_SI_LWP = 0x10007 };
+enum { BSD_FPE_INTOVF = 1, BSD_FPE_INTDIV = 2 };
 
 /* Numbers of system calls, as <sys/syscall.h> has them: what PL_FLAG_SCE reports. */
 enum {

@@ -1,10 +1,10 @@
 /* The socket of a thread: one question at a time, and its answer.
  *
  * A message is a line without a line feed: `WHERE NAME ARGUMENT..`, WHERE being the address of the program's call. The
- * answer is `ok [N..]` or `error ERRNO [N]`. `step` comes in front if the thread goes on by one instruction, and `land` if it asks
- * `user` as its call returns. Before it there may come `handler SIGNAL CODE SENDER STATUS ADDRESS`
- * (the program's handler runs, and `handled` is sent), `registers CODE` (`at ADDRESS` is sent: of the record) and `apply
- * KIND` (`done` is sent). Other answers are `end` (the process has ended in the model; its last handlers may run in the host) and
+ * answer is `ok [N..]` or `error ERRNO [N]`. In front there may be `calls` (PT_SYSCALL reports them) or `begun` (and this one
+ * isn't over), `step` (the thread goes on by one instruction) and `land` (it asks `user` as its call returns). Before it there may come `handler SIGNAL CODE SENDER STATUS ADDRESS`
+ * (the program's handler runs, and `handled` is sent), `registers CODE` (`at ADDRESS` is sent: of the record), `apply
+ * KIND` (`done` is sent) and `anew` (`anew 1` is sent, and then the question of the call anew, or `anew 0`). Other answers are `end` (the process has ended in the model; its last handlers may run in the host) and
  * `die`. No answer comes before this thread may run: between two questions no other thread of any process runs. */
 #define _GNU_SOURCE
 #include <fcntl.h>
@@ -23,7 +23,7 @@ static char no_answer[1];
 static char first_stack[16384]; /* of a thread that isn't the runtime's */
 __thread struct own own = {.now = {.top = first_stack + sizeof first_stack}, .fd = -1, .passed = -1, .at = no_answer};
 _Static_assert(offsetof(struct now, top) == 8 && offsetof(struct now, inside) == 16 && offsetof(struct now, lands) == 20 &&
-				   offsetof(struct own, now) == 0 && sizeof(struct frame) == 160,
+				   offsetof(struct now, reports) == 24 && offsetof(struct own, now) == 0 && sizeof(struct frame) == 160,
 	"as entry.S has them");
 int own_pid;
 pid_t own_real;
@@ -54,6 +54,20 @@ void tracehost_broken(const char *what)
 	else
 		send(own.fd, line, (size_t)length < sizeof line ? (size_t)length : sizeof line - 1, MSG_NOSIGNAL);
 	_exit(EXIT_REFUSED);
+}
+
+void tracehost_remark(const char *format, ...)
+{
+	char line[2048] = "0 remark ";
+	size_t head = strlen(line);
+	int fd = own.fd;
+	va_list arguments;
+	va_start(arguments, format);
+	vsnprintf(line + head, sizeof line - head, format, arguments);
+	va_end(arguments);
+	for (int i = 0; i < THREADS && fd < 0; i++) /* a library's own thread has none */
+		fd = own_fds[i] != 0 ? own_fds[i] : -1;
+	send(fd, line, strlen(line), MSG_NOSIGNAL);
 }
 
 void tracehost_die(void)
@@ -205,6 +219,10 @@ int tracehost_ask(const void *where, const char *format, ...)
 	va_end(arguments);
 	if ((size_t)length >= sizeof line)
 		length = sizeof line - 1;
+	jmp_buf *anew = own.anew; /* of a call's first question */
+	own.anew = NULL;
+	if (tracehost_has_loaded)
+		tracehost_look_at_loaded();
 	int may_end = is_cancellation_point(question);
 	if (may_end)
 		tracehost_cancel_point();
@@ -214,8 +232,16 @@ int tracehost_ask(const void *where, const char *format, ...)
 	send_line(line, length);
 	for (;;) {
 		receive_line();
+		if (strcmp(own.answer, "anew") == 0) {
+			send_line(anew != NULL ? "0 anew 1" : "0 anew 0", 8);
+			if (anew == NULL)
+				continue;
+			own.busy = 0;
+			_longjmp(*anew, 1);
+		}
 		if (in_between())
 			continue;
+		own.begun = takes("begun "), own.now.reports = own.begun || takes("calls ");
 		steps = takes("step "), lands = takes("land ");
 		if (strncmp(own.answer, "ok", 2) == 0) {
 			own.at = own.answer + 2;

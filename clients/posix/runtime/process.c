@@ -160,26 +160,57 @@ static int has_runtime(const char *path)
 	return found;
 }
 
-/* A program without the runtime runs as a child, as one long computation of this LWP; its end is this one's. */
+/* ---- a program without the runtime */
+
+enum { FIRST_NUMBER = 1000, NUMBERS = 1000 }; /* of the model's processes */
+
+static void __attribute__((noreturn)) become_foreign(const char *path, char *const argv[], char *const envp[])
+{
+	prctl(PR_SET_PDEATHSIG, SIGKILL);
+	personality(personality(~0UL) & ~ADDR_NO_RANDOMIZE); /* its calls come from other addresses than ours */
+	signal(SIGPIPE, SIG_DFL);
+	execve(path, argv, envp);
+	_exit(127);
+}
+
+static int is_a_number(pid_t pid) { return pid >= FIRST_NUMBER && pid < FIRST_NUMBER + NUMBERS; }
+
+/* A child whose number of the host's isn't one of the model's: others may be named by it. */
+static pid_t fork_foreign(void)
+{
+	pid_t child, tried[NUMBERS];
+	int count = 0;
+	own.forking = 1;
+	while (is_a_number(child = fork()) && count < NUMBERS)
+		tried[count++] = child;
+	own.forking = 0;
+	if (child == 0 && is_a_number(getpid()))
+		_exit(0);
+	if (child < 0 || is_a_number(child))
+		tracehost_broken("fork");
+	while (count > 0)
+		waitpid(tried[--count], NULL, 0);
+	return child;
+}
+
+/* It runs as a child, as one long computation of this LWP; its end is this one's. What it leaves is a child of this one too:
+ * so the broker knows whose a process is. */
 static void run_foreign(const char *path, char *const argv[], char *const envp[])
 {
 	int status;
-	pid_t child;
 	tracehost_ask(NULL, "foreign");
 	signal(SIGCHLD, SIG_DFL);
-	own.forking = 1;
-	if ((child = fork()) == 0) {
-		prctl(PR_SET_PDEATHSIG, SIGKILL);
-		personality(personality(~0UL) & ~ADDR_NO_RANDOMIZE); /* its calls come from other addresses than ours */
-		signal(SIGPIPE, SIG_DFL);
-		execve(path, argv, envp);
-		_exit(127);
-	}
+	prctl(PR_SET_CHILD_SUBREAPER, 1);
+	pid_t child = fork_foreign();
+	if (child == 0)
+		become_foreign(path, argv, envp);
 	for (int fd = 3; fd < FIRST_FD; fd++)
 		if (fcntl(fd, F_GETFD) == FD_CLOEXEC)
 			close(fd);
 	while (waitpid(child, &status, 0) < 0 && errno == EINTR)
 		;
+	if (WIFSIGNALED(status) && WTERMSIG(status) == SIGSYS)
+		tracehost_ask(NULL, "outside held %s", path);
 	if (!WIFEXITED(status))
 		tracehost_say("%s: ended by the host's signal %d, which counts as exit code 126 here", path, WTERMSIG(status));
 	tracehost_ask(NULL, "exit %d", WIFEXITED(status) ? WEXITSTATUS(status) : 126);
@@ -208,9 +239,9 @@ static int replace(const void *where, const char *path, char *const argv[], char
 	if (environment == NULL)
 		tracehost_broken(path);
 	for (size_t i = 0; i < count; i++)
-		environment[i] = envp[i];
+		environment[i + 1] = envp[i];
 	snprintf(socket_of, sizeof socket_of, "TRACEHOST_LWP=%d %d %d %lx", own.fd, own_pid, own.tid, tracehost_held);
-	environment[count] = socket_of;
+	environment[0] = socket_of; /* the program may have given one of that name */
 	own.busy = 1; /* no poke comes between */
 	fcntl(own.fd, F_SETFD, 0);
 	execve(path, argv, environment);

@@ -8,7 +8,6 @@
 #include <asm/prctl.h>
 #include <stdio.h>
 #include <string.h>
-#include <sys/resource.h>
 #include <sys/syscall.h>
 #include <ucontext.h>
 #include <unistd.h>
@@ -78,46 +77,35 @@ static void from_frame(struct reg *to, const struct frame *frame)
 
 /* ---- what a debugger asks of a stopped thread, which fills the record, and takes it over */
 
+/* At a call's entry they are as a system call has them. */
+static void fetch_of_entry(struct reg *to, int code)
+{
+	to->r_rax = code, to->r_r10 = to->r_rcx;
+	if (own.reported == own.now.frame) {
+		const long *a = own.arguments;
+		to->r_rdi = a[0], to->r_rsi = a[1], to->r_rdx = a[2], to->r_rcx = to->r_r10 = a[3], to->r_r8 = a[4], to->r_r9 = a[5];
+	}
+}
+
 static void fetch_of_call(struct record *to, int code)
 {
 	if (own.now.lands & LANDS_SET)
 		to->general = own.later.general;
-	else {
+	else
 		from_frame(&to->general, own.now.frame);
-		if (code >= 0) /* as a system call has them */
-			to->general.r_rax = code, to->general.r_r10 = to->general.r_rcx;
-	}
+	if (code >= 0 && !own.set_at_entry)
+		fetch_of_entry(&to->general, code);
 	if (own.now.lands & LANDS_SET_FLOATS)
 		to->floats = own.later.floats;
 	else
 		__asm__ volatile("fxsave %0" : "=m"(to->floats));
 }
 
-pid_t tracehost_wait(int *status);
-pid_t tracehost_wait3(int *status, int options, struct rusage *usage);
-int tracehost_raise(int number);
-
-/* The arguments of the system call that FreeBSD's function makes: most often its own. */
-static void find_arguments(long to[6], const struct frame *frame)
-{
-	const void *of = frame->function;
-	const long given[6] = {
-		(long)frame->rdi, (long)frame->rsi, (long)frame->rdx, (long)frame->rcx, (long)frame->r8, (long)frame->r9};
-	memcpy(to, given, sizeof given);
-	if (of == (void *)(size_t)tracehost_waitpid)
-		to[3] = 0;
-	else if (of == (void *)(size_t)tracehost_wait)
-		to[0] = -1, to[1] = given[0], to[2] = to[3] = 0;
-	else if (of == (void *)(size_t)tracehost_wait3)
-		to[0] = -1, to[1] = given[0], to[2] = given[1], to[3] = given[2];
-	else if (of == (void *)(size_t)tracehost_raise)
-		to[0] = own.tid, to[1] = given[0];
-}
-
 void tracehost_fetch(int code)
 {
 	struct record *to = &own.record;
 	memset(to, 0, sizeof *to);
+	own.at_entry = code >= 0;
 	syscall(SYS_arch_prctl, ARCH_GET_FS, &to->fs);
 	syscall(SYS_arch_prctl, ARCH_GET_GS, &to->gs);
 	if (own.now.context != NULL) {
@@ -129,7 +117,7 @@ void tracehost_fetch(int code)
 		fetch_of_call(to, code);
 	memset(to->floats.fpr_spare, 0, sizeof to->floats.fpr_spare);
 	if (own.now.frame != NULL)
-		find_arguments(to->arguments, own.now.frame);
+		tracehost_find_arguments(to->arguments, own.now.frame);
 	to->error = own.error, to->debug = own.debug;
 }
 
@@ -144,7 +132,7 @@ void tracehost_apply(int kind)
 	else if (own.now.context != NULL)
 		floats_to_context(own.now.context, &own.record.floats);
 	else if (own.now.inside && kind == GENERAL)
-		own.later.general = own.record.general, own.now.lands |= LANDS_SET;
+		own.later.general = own.record.general, own.now.lands |= LANDS_SET, own.set_at_entry = own.at_entry;
 	else if (own.now.inside)
 		own.later.floats = own.record.floats, own.now.lands |= LANDS_SET_FLOATS;
 }

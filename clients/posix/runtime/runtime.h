@@ -4,10 +4,12 @@
 
 #include <errno.h>
 #include <pthread.h>
+#include <setjmp.h>
 #include <signal.h>
 #include <stddef.h>
 #include <stdlib.h>
 #include <sys/types.h>
+#include <sys/wait.h>
 #include <time.h>
 #include "../include/machine/reg.h"
 
@@ -39,12 +41,13 @@ struct frame {
 /* What is due as the call returns: the first four are a landing's. */
 enum { LANDS_ASKING = 1, LANDS_STEPPED = 2, LANDS_STEPPING = 4, LANDS_SET = 8, LANDS_SET_FLOATS = 16 };
 
-/* Where a thread is; entry.S knows the first four. */
+/* Where a thread is; entry.S knows the first five. */
 struct now {
 	struct frame *frame; /* of the call that is under way, or of the last one */
 	char *top; /* of the stack that the next call runs on */
 	int inside; /* a call is under way */
 	int lands;
+	int reports; /* a debugger has asked for stops at calls */
 	char *signals; /* where the host's signals begin */
 	void *context; /* of the program, which a signal of the host's has interrupted; NULL in a call */
 	void *interrupted; /* the same, in a call too */
@@ -86,6 +89,11 @@ struct own {
 	struct birth *birth; /* of a thread whose routine hasn't begun */
 	int error; /* of the last call that landed */
 	struct record record, later; /* of a stopped thread; and what is set as its call returns */
+	const struct frame *reported; /* the call that PT_SYSCALL reports, and the arguments of its system call */
+	long arguments[6];
+	int at_entry, set_at_entry; /* as a debugger has last read its registers; and set them */
+	jmp_buf *anew; /* where it begins again, until its first question was answered */
+	int begun; /* it is under way, and no question of it has ended it */
 	struct dbreg debug;
 	void *hardware[4]; /* the host's breakpoints (hardware.c) */
 	int cancelled, uncancellable, cancels_at_once; /* pthread_cancel(3) */
@@ -147,6 +155,10 @@ void tracehost_handle(int number);
 void tracehost_describe(siginfo_t *info); /* by the next four numbers of the answer */
 void tracehost_say_hello(void *context);
 
+/* Calls under PT_SYSCALL (reports.c): in place of the call's function; and the arguments of its system call. */
+long tracehost_reported_call(struct frame *frame);
+void tracehost_find_arguments(long to[6], const struct frame *frame);
+
 /* Debug registers (hardware.c), and that one was hit. */
 int tracehost_set_hardware(const struct dbreg *new);
 void tracehost_drop_hardware(void);
@@ -193,15 +205,43 @@ void tracehost_fill_spare(void);
 /* This thread has ended in the model, and lets its socket go. */
 void tracehost_let_go(void);
 
-/* Adds a line for each library that calls what the runtime has, and wasn't compiled for it; not the system's. And one if
- * calls past the runtime aren't held. */
+/* Libraries (libraries.c). Adds a line for each that calls what the runtime has, and wasn't compiled for it; not the system's.
+ * And one if calls past the runtime aren't held. */
+void tracehost_report_libraries(char *text, size_t room);
 void tracehost_report(char *text, size_t room);
+void tracehost_look_at_loaded(void);
+extern int tracehost_has_loaded;
+void *tracehost_host_dlopen(void);
+void tracehost_remark_library(const char *file, const char *call);
+void *tracehost_found(const char *name); /* a function of by_name.S, or NULL */
 
-/* Calls past the runtime (outside.c): they are held from now on, unless the image that is `known` by this number has done so; the one that was is told; and the runtime's own. */
+/* The run says so at its end. */
+void tracehost_remark(const char *format, ...) __attribute__((format(printf, 1, 2)));
+
+/* Calls past the runtime (filter.c): they are held from now on, unless the image that is `known` by this number has done so.
+ * Of the first image's filter there is a listener, or -1. And the runtime's own calls of these. */
+struct dl_phdr_info;
 void tracehost_hold_calls(unsigned long known);
-extern unsigned long tracehost_held;
-void tracehost_tell_call(int number, const void *from) __attribute__((noreturn));
+void tracehost_hold_library(const struct dl_phdr_info *info);
+extern unsigned long tracehost_held; /* whose addresses are held; 0 for none */
+extern int tracehost_listener;
+long tracehost_host_call(long number, const long arguments[6]);
 int tracehost_host_kill(pid_t pid, int number);
+
+/* The same (outside.c): one that is held is told; and functions that are held by their names. */
+void tracehost_held_call(const siginfo_t *info, void *context);
+void *tracehost_by_name(const char *name, const void *from);
+void tracehost_before_fork(void);
+const void *tracehost_libc(void);
+const void *tracehost_base_of(const void *address);
+int tracehost_is_of_the_system(const char *file);
+int tracehost_is_sanitizer(const struct dl_phdr_info *info);
+int tracehost_host_sigaction(int number, const struct sigaction *new, struct sigaction *old);
+void tracehost_host_signal(int number, void (*handler)(int));
+pid_t tracehost_host_waitpid(pid_t which, int *status, int options);
+#define sigaction(number, new, old) tracehost_host_sigaction(number, new, old)
+#define signal(number, handler) tracehost_host_signal(number, handler)
+#define waitpid(which, status, options) tracehost_host_waitpid(which, status, options)
 
 /* Before the first thread is noted. */
 void tracehost_make_key(void);

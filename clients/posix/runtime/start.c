@@ -15,6 +15,7 @@
 #include <ucontext.h>
 #include <unistd.h>
 #include "freebsd.h"
+#include "held.h"
 #include "runtime.h"
 
 enum {
@@ -69,36 +70,68 @@ static void on_poke(int number, siginfo_t *info, void *context)
 		tracehost_ask_between(place_of(context), info->si_code == SI_TIMER ? "poke 0" : "poke 1", context);
 }
 
-/* FreeBSD's code of a fault. Those of memory and arithmetic have the host's numbers, by the same names. */
-static int code_of(int number, const siginfo_t *info)
+/* A fault as FreeBSD reports it: sys/amd64/amd64/trap.c. */
+struct fault {
+	int number, code;
+	const void *address;
+};
+
+/* The host tells a page fault by its address, and all else by SI_KERNEL: an address that isn't canonical, a privileged
+ * instruction. */
+static struct fault fault_of_memory(int number, const siginfo_t *info, const void *at)
 {
-	if (number == SIGTRAP)
-		return info->si_code == HOST_TRAP_PERF ? TRAP_TRACE : TRAP_BRKPT;
-	return info->si_code == SI_TKILL ? BSD_SI_LWP : info->si_code == SI_KERNEL ? BSD_SI_KERNEL : info->si_code;
+	if (info->si_code == SI_KERNEL)
+		return (struct fault){BSD_SIGBUS, BUS_OBJERR, at};
+	if (number == SIGSEGV)
+		return (struct fault){BSD_SIGSEGV, info->si_code, info->si_addr};
+	if (info->si_code == BUS_ADRALN)
+		return (struct fault){BSD_SIGBUS, BUS_ADRALN, at};
+	return (struct fault){BSD_SIGBUS, BUS_OBJERR, info->si_addr}; /* behind the end of a file */
+}
+
+/* Both arithmetic codes for integers have each other's numbers. */
+static int code_of_arithmetic(int code) { return code == FPE_INTDIV ? BSD_FPE_INTDIV : code == FPE_INTOVF ? BSD_FPE_INTOVF : code; }
+
+static struct fault fault_of(int number, const siginfo_t *info, const void *at)
+{
+	switch (number) {
+	case SIGFPE: return (struct fault){BSD_SIGFPE, code_of_arithmetic(info->si_code), at};
+	case SIGILL: return (struct fault){BSD_SIGILL, ILL_PRVOPC, at};
+	case SIGTRAP: return (struct fault){BSD_SIGTRAP, info->si_code == HOST_TRAP_PERF ? TRAP_TRACE : TRAP_BRKPT, at};
+	case SIGSYS: return (struct fault){BSD_SIGSYS, info->si_code, at};
+	default: return fault_of_memory(number, info, at);
+	}
+}
+
+/* The host's signal of a fault as FreeBSD has it. */
+static int freebsd_number(int number)
+{
+	static const int table[][2] = {{SIGSEGV, BSD_SIGSEGV}, {SIGBUS, BSD_SIGBUS}, {SIGFPE, BSD_SIGFPE}, {SIGILL, BSD_SIGILL},
+		{SIGTRAP, BSD_SIGTRAP}, {SIGSYS, BSD_SIGSYS}};
+	for (size_t i = 0; i < sizeof table / sizeof table[0]; i++)
+		if (table[i][0] == number)
+			return table[i][1];
+	return BSD_SIGABRT;
 }
 
 static void on_fault(int number, siginfo_t *info, void *context)
 {
-	static const struct {
-		int host, bsd;
-	} table[] = {{SIGSEGV, BSD_SIGSEGV}, {SIGBUS, BSD_SIGBUS}, {SIGFPE, BSD_SIGFPE}, {SIGILL, BSD_SIGILL}, {SIGTRAP, BSD_SIGTRAP},
-		{SIGABRT, BSD_SIGABRT}, {SIGSYS, BSD_SIGSYS}};
-	if (number == SIGSYS && info->si_code == HELD_CALL)
-		tracehost_tell_call(info->si_syscall, info->si_call_addr);
+	char question[64];
+	const char *at = (const char *)((ucontext_t *)context)->uc_mcontext.gregs[REG_RIP];
+	if (number == SIGSYS && info->si_code == HELD_CALL) {
+		tracehost_held_call(info, context);
+		return;
+	}
 	if (number == SIGTRAP && tracehost_trap(info, context))
 		return;
 	if (own.busy || own.fd < 0 || is_in_entry(context)) { /* the runtime's own fault; or no stack is left for a handler */
 		signal(number, SIG_DFL);
 		return;
 	}
-	for (size_t i = 0; i < sizeof table / sizeof table[0]; i++)
-		if (table[i].host == number) {
-			char question[64];
-			const char *at = (const char *)((ucontext_t *)context)->uc_mcontext.gregs[REG_RIP];
-			snprintf(question, sizeof question, "fault %d %d %ld", table[i].bsd, code_of(number, info),
-				number == SIGTRAP ? (long)at : (long)info->si_addr);
-			tracehost_ask_between(number == SIGTRAP ? at : own.now.inside ? HERE : at + 1, question, context);
-		}
+	const struct fault sent = {freebsd_number(number), BSD_SI_LWP, NULL};
+	const struct fault fault = info->si_code <= 0 ? sent : fault_of(number, info, at);
+	snprintf(question, sizeof question, "fault %d %d %ld", fault.number, fault.code, (long)fault.address);
+	tracehost_ask_between(number == SIGTRAP ? at : own.now.inside ? HERE : at + 1, question, context);
 }
 
 void tracehost_host_signals(void)
@@ -276,9 +309,43 @@ static void set_descriptors(void)
 	}
 }
 
+/* What the broker is told as the server is there; the listener of the filter comes with it. */
+static int send_ready(int fd)
+{
+	char text[4096] = "ready", space[CMSG_SPACE(sizeof(int))] = "";
+	tracehost_report(text, sizeof text);
+	struct iovec part = {text, strlen(text)};
+	struct msghdr message = {.msg_iov = &part, .msg_iovlen = 1};
+	if (tracehost_listener >= 0) {
+		message.msg_control = space, message.msg_controllen = sizeof space;
+		struct cmsghdr *header = CMSG_FIRSTHDR(&message);
+		header->cmsg_level = SOL_SOCKET, header->cmsg_type = SCM_RIGHTS, header->cmsg_len = CMSG_LEN(sizeof(int));
+		memcpy(CMSG_DATA(header), &tracehost_listener, sizeof tracehost_listener);
+	}
+	ssize_t sent = sendmsg(fd, &message, MSG_NOSIGNAL);
+	if (tracehost_listener >= 0)
+		close(tracehost_listener);
+	return sent < 0 ? -1 : 0;
+}
+
+static void remark_lines(char *text)
+{
+	for (char *save = NULL, *line = strtok_r(text, "\n", &save); line != NULL; line = strtok_r(NULL, "\n", &save))
+		tracehost_remark("%s", line);
+}
+
 static void refuse_to_start(const char *why)
 {
 	tracehost_say("%s: %s", program_invocation_name, why);
+	_exit(EXIT_REFUSED);
+}
+
+/* In a run a program without the runtime, such as a shell, has started it: the broker hears of that by a call that does
+ * nothing, and ends the run. */
+static void refuse_alone(void)
+{
+	tracehost_say("%s: this program is run by tracehost-run, or by an exec in a program that is", program_invocation_name);
+	syscall(SYS_pidfd_send_signal, -1, 0, NULL, BEHIND_ANOTHER);
 	_exit(EXIT_REFUSED);
 }
 
@@ -288,7 +355,7 @@ __attribute__((constructor(101))) void tracehost_start(void)
 	unsigned long held;
 	const char *lwp = getenv("TRACEHOST_LWP"), *control = getenv("TRACEHOST_CONTROL");
 	if (lwp == NULL && control == NULL)
-		refuse_to_start("this program is run by tracehost-run");
+		refuse_alone();
 	if (&__start_tracehost_units[0] == &__stop_tracehost_units[0])
 		refuse_to_start("it was compiled without <tracehost/posix.h>: compile its files with tracehost-cc too");
 	set_descriptors();
@@ -299,18 +366,19 @@ __attribute__((constructor(101))) void tracehost_start(void)
 	if (lwp != NULL) { /* this image comes of an exec */
 		if (sscanf(lwp, "%d %d %d %lx", &fd, &pid, &tid, &held) != 4)
 			refuse_to_start("its environment has another TRACEHOST_LWP than the runtime sets");
+		char text[4096] = "";
+		tracehost_report_libraries(text, sizeof text);
 		tracehost_hold_calls(held);
 		unsetenv("TRACEHOST_LWP");
 		fcntl(fd, F_SETFD, FD_CLOEXEC);
 		become_process(fd, pid, tid);
+		remark_lines(text);
 		return;
 	}
 	tracehost_hold_calls(0);
 	fd = atoi(control);
 	unsetenv("TRACEHOST_CONTROL");
-	char ready[4096] = "ready";
-	tracehost_report(ready, sizeof ready);
-	if (send(fd, ready, strlen(ready), MSG_NOSIGNAL) < 0)
+	if (send_ready(fd) < 0)
 		refuse_to_start("this program is run by tracehost-run");
 	become_process(serve(fd), 0, 0);
 }

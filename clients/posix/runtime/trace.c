@@ -63,7 +63,10 @@ static int read_record(const void *where, pid_t target, struct found *found)
 		return -1;
 	}
 	found->real = tracehost_number(), found->at = (unsigned long)tracehost_number();
+	int lost = (int)tracehost_number();
 	ssize_t got = transfer(found->real, found->at, &found->record, sizeof found->record, 0);
+	if (lost) /* it goes on at address 0 */
+		found->record.general.r_rip = 0;
 	return got == sizeof found->record ? 0 : -1;
 }
 
@@ -101,7 +104,7 @@ static int set_debug(const void *where, pid_t target, const struct dbreg *from)
 		return -1;
 	found.record.debug = *from;
 	if (!is_debug(from) || transfer(found.real, found.at, &found.record, sizeof found.record, 1) != sizeof found.record ||
-		tracehost_ask(where, "apply %d %d", target, DEBUG) != 0 || was_refused(&found)) {
+		tracehost_ask(where, "apply %d %d 0", target, DEBUG) != 0 || was_refused(&found)) {
 		errno = EINVAL;
 		return -1;
 	}
@@ -124,6 +127,13 @@ static int get_registers(const void *where, pid_t target, int request, void *to)
 	return 0;
 }
 
+/* Registers that a system call takes: its number and its arguments. */
+static int changes_call(const struct reg *new, const struct reg *old)
+{
+	return new->r_rax != old->r_rax || new->r_rdi != old->r_rdi || new->r_rsi != old->r_rsi || new->r_rdx != old->r_rdx ||
+		   new->r_rcx != old->r_rcx || new->r_r8 != old->r_r8 || new->r_r9 != old->r_r9;
+}
+
 static int set_registers(const void *where, pid_t target, const void *from, int kind)
 {
 	struct found found;
@@ -134,6 +144,7 @@ static int set_registers(const void *where, pid_t target, const void *from, int 
 		errno = EINVAL;
 		return -1;
 	}
+	int changes = kind == GENERAL && changes_call(from, &record->general);
 	if (kind == GENERAL)
 		memcpy(&record->general, from, sizeof record->general);
 	else if (kind == FLOATS)
@@ -142,7 +153,7 @@ static int set_registers(const void *where, pid_t target, const void *from, int 
 		memcpy(&record->gs, from, sizeof record->gs);
 	if (transfer(found.real, found.at, record, sizeof *record, 1) != sizeof *record)
 		return -1;
-	return tracehost_ask(where, "apply %d %d", target, kind);
+	return tracehost_ask(where, "apply %d %d %d", target, kind, changes);
 }
 
 /* The target goes on there. */
@@ -157,20 +168,23 @@ static int set_counter(const void *where, pid_t target, const char *address)
 
 /* ---- what is known of an LWP */
 
-/* How many arguments FreeBSD's call of this number has. */
+/* clang-format off */
+/* Of FreeBSD's calls: their numbers, and how many arguments they have. */
+static const unsigned short argument_counts[][2] = {
+	{1, 1}, {3, 3}, {4, 3}, {6, 1}, {7, 4}, {26, 4}, {37, 2}, {41, 1}, {53, 2}, {59, 3}, {83, 3}, {86, 2}, {90, 2}, {93, 5},
+	{120, 3}, {121, 3}, {135, 4}, {202, 6}, {207, 1}, {209, 3}, {232, 2}, {235, 3}, {236, 1}, {237, 4}, {238, 2}, {239, 1},
+	{240, 2}, {310, 1}, {340, 3}, {341, 1}, {343, 1}, {345, 3}, {416, 3}, {431, 1}, {432, 1}, {433, 2}, {454, 5}, {455, 2},
+	{519, 2}, {520, 2}, {522, 6}, {542, 2}, {544, 4}, {545, 4}, {560, 6}, {575, 3},
+#define HOST(name, code, count) {code, count},
+#include "hosts.inc"
+};
+/* clang-format on */
+
 static unsigned arguments_of(unsigned code)
 {
-	static const unsigned char counts[][2] = {{1, 1}, {3, 3}, {4, 3}, {5, 3}, {6, 1}, {7, 4}, {10, 1}, {26, 4}, {33, 2}, {37, 2},
-		{41, 1}, {53, 2}, {59, 3}, {81, 0}, {83, 3}, {86, 2}, {90, 2}, {92, 3}, {93, 5}, {120, 3}, {121, 3}, {135, 4}, {202, 6},
-		{207, 1}, {209, 3}, {232, 2}, {235, 3}, {236, 1}, {237, 4}, {238, 2}, {240, 2}};
-	static const unsigned short more[][2] = {{310, 1}, {340, 3}, {341, 1}, {343, 1}, {345, 3}, {416, 3}, {431, 1}, {432, 1},
-		{433, 2}, {454, 5}, {455, 2}, {499, 4}, {522, 6}, {542, 2}, {545, 4}, {575, 3}};
-	for (size_t i = 0; i < sizeof counts / sizeof counts[0]; i++)
-		if (counts[i][0] == code)
-			return counts[i][1];
-	for (size_t i = 0; i < sizeof more / sizeof more[0]; i++)
-		if (more[i][0] == code)
-			return more[i][1];
+	for (size_t i = 0; i < sizeof argument_counts / sizeof argument_counts[0]; i++)
+		if (argument_counts[i][0] == code)
+			return argument_counts[i][1];
 	return 0;
 }
 

@@ -244,6 +244,7 @@ def _tell(option: str, page: str, trouble: str | None) -> None:
 
 def _added(sums: Sums) -> Iterator[str]:
     """What took place that the model doesn't have."""
+    yield from sums.remarks
     if sums.passed:
         yield f"handlers ran {sums.passed} times for signals that a debugger passed on, which the model doesn't have (--strict: none)"
     if sums.skipped:

@@ -58,6 +58,8 @@ class Block:
             "new": "".join("01"[new] for new in self.new),
             "different": " ".join(f"{legs:x}" for legs in self.different),
         }
+        if sums.remarks:
+            fields["remarks"] = list(sums.remarks)
         return json.dumps(fields)
 
 
@@ -72,6 +74,7 @@ def block_of(line: str, first: int) -> Block:
         block.different = [int(legs, 16) for legs in fields["different"].split()]
         sums = block.sums
         sums.runs, sums.questions, sums.steps, sums.passed, sums.skipped, sums.examined, sums.most = fields["sums"]
+        sums.remarks = dict.fromkeys(fields.get("remarks", []))
         sums.failures = {why: Failures(*failures) for why, failures in fields["failures"].items()}
     except (KeyError, TypeError, AttributeError) as why:
         raise ValueError(line) from why

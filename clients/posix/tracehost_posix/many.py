@@ -260,6 +260,7 @@ class Search:
             "questions": sums.questions,
             "steps": sums.steps,
             "failures": failures,
+            "remarks": list(sums.remarks),
             "status": status,
         }
         with writing():

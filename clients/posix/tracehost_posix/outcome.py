@@ -53,6 +53,8 @@ class Result(NamedTuple):
     points: tuple[Choice, ...] = ()
     covered: tuple[tuple[Met, bool], ...] = ()
     """Calls at which others could go on, and whether one did."""
+    remarks: tuple[str, ...] = ()
+    """Sentences on what wasn't the model's."""
 
     @property
     def switches(self) -> tuple[Switch, ...]:
@@ -98,7 +100,16 @@ def unheard_of(name: str, words: list[str]) -> str:
     """What a question of the names `refused` and `outside` says."""
     if name == "refused":
         return f"calls {words[0]}, which isn't among the calls of this runtime (docs/POSIX.md lists them)"
+    if words[0] == "held":
+        return f"{' '.join(words[1:])}, which has no runtime, was ended by the host's SIGSYS: it calls kill, or its kin"
+    if words[0] == "posix_spawn":
+        words[0] = "posix_spawn, as system, popen and wordexp do,"
     return f"calls {words[0]} past the runtime, in {' '.join(words[1:])}, which tracehost-cc hasn't compiled, or by an instruction of its own"
+
+
+def behind(pid: str, file: str) -> str:
+    """A program with the runtime that one without it has started."""
+    return f"{pid}: a program without the runtime, such as a shell, has started {file}, for which the model has no process: exec it without the shell"
 
 
 def endless(limit: int) -> str:
@@ -144,6 +155,8 @@ def server_silent(patience: float) -> str:
 def failure(text: str, all_waiting: Sequence[Waiting], options: Options) -> str:
     """The sentence of the broker's words for a failure."""
     name, *words = text.split(" ")
+    if name == "behind":
+        return behind(words[0], " ".join(words[1:]))
     numbers = [int(word) for word in words] if name not in ("refused", "outside") else [int(word) for word in words[:2]]
     if name == "endless":
         return endless(options.limit)
@@ -179,6 +192,8 @@ def fault(text: str) -> str:
     if name == "silent":
         tid, _, line = last.partition(" ")
         return f"{first}/{tid} doesn't answer {line!r}"
+    if name == "both":
+        return f"{first} is a number of the model's, and of a process that {last} has started"
     if name == "server":
         return server_silent(float(rest)) if rest else SERVER_ENDED
     return rest if name == "host" else text
@@ -207,12 +222,15 @@ class Answer:
         self.last: list[Place] = []
         self.waiting: list[Waiting] = []
         self.met: dict[Met, bool] = {}
+        self.remarks: list[str] = []
 
     def take(self, line: str) -> None:
         """A line before the last one."""
         name, *fields = line.split("\t")
         if name == "step":
             self.kept.append((fields[0], fields[1]))
+        elif name == "remark":
+            self.remarks.append(unquote(fields[0]))
         elif name.startswith("point "):
             tid, point, forced, state, *others = map(int, name.split(" ")[1:])
             self.points.append(Choice(Switch(tid, point, 0), bool(forced), tuple(others), state))
@@ -251,6 +269,7 @@ class Answer:
             legs,
             tuple(self.points),
             tuple(self.met.items()),
+            tuple(self.remarks),
         )
 
 

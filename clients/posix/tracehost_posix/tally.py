@@ -30,6 +30,8 @@ class Sums:
         self.most = 0
         """Questions of a run."""
         self.failures: dict[str, Failures] = {}
+        self.remarks: dict[str, None] = {}
+        """Sentences on what wasn't the model's."""
 
     def add(self, other: Sums) -> None:
         self.runs += other.runs
@@ -39,6 +41,7 @@ class Sums:
         self.skipped += other.skipped
         self.examined += other.examined
         self.most = max(self.most, other.most)
+        self.remarks.update(other.remarks)
         for why, failures in other.failures.items():
             self.fail(why, failures)
 
@@ -52,6 +55,7 @@ def sums_of(seed: int | None, result: Result) -> Sums:
     sums = Sums()
     sums.runs, sums.questions, sums.steps, sums.most = 1, result.questions, result.steps, result.questions
     sums.passed, sums.skipped, sums.examined = result.passed, result.skipped, result.examined
+    sums.remarks = dict.fromkeys(result.remarks)
     if result.why is not None:
         sums.fail(result.why, Failures(1, seed))
     return sums

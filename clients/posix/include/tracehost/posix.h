@@ -15,6 +15,11 @@
 
 #ifndef __ASSEMBLER__
 #include <tracehost/names.h>
+#include <tracehost/reported.h>
+/* What a program looks up by name is held too, and what it loads is looked at. */
+#pragma redefine_extname dlsym tracehost_dlsym
+#pragma redefine_extname dlvsym tracehost_dlvsym
+#pragma redefine_extname dlopen tracehost_dlopen
 
 #include <fcntl.h>
 #include <poll.h>
