@@ -42,7 +42,7 @@ typedef struct tracehost { void *session; uint64_t tag; } tracehost;
 #define TRACEHOST_CLOSED {NULL, 0}
 
 /* tools/format version */
-#define TRACEHOST_VERSION "0.18.0"
+#define TRACEHOST_VERSION "0.19.0"
 /* end */
 
 /* What a call returns. After 1, 2, 3 and 5 the session, and all that the call's pointers lead to, are as before. */
@@ -159,8 +159,8 @@ uint32_t tracehost_last_line(tracehost *h, bool json, uint8_t *out, size_t out_s
 /*
  * Stores the line of the step that was answered last, whatever call made it, as tracehost_line stores an answer, but
  * without a line feed. Given to tracehost_line, or as one of a scenario's steps, it is this step. So what a session was
- * asked can be kept and replayed. INVALID before any answer, after a line that was refused, and for a step that no line
- * is: a PT_TRACE_ME that names a target or data, and a PT_SET_EVENT_MASK with bits that no event has.
+ * asked can be kept and replayed. PT_TRACE_ME ignores `pid` and `data`, so its line has neither. INVALID before any answer,
+ * after a line that was refused, and for a PT_SET_EVENT_MASK with bits that no event has, which no line is.
  */
 uint32_t tracehost_last_step(tracehost *h, uint8_t *out, size_t out_size, size_t *length);
 

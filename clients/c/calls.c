@@ -102,7 +102,7 @@ int th_ptrace(th_host *h, th_caller caller, int request, th_pid pid, void *addr,
     if (error != 0)
         return invalid(h, error);
     step.request = request;
-    step.target = request == TH_PT_TRACE_ME ? 0 : pid;
+    step.target = pid;
     switch (request) {
     case TH_PT_TRACE_ME: return call_done(h, &step);
     case TH_PT_LWPINFO: return lwp_info(h, &step, addr, (size_t)data);

@@ -197,7 +197,8 @@ static void recorded(const char *program, const char *folder)
         CHECK(th_spawn(h, 1001, NULL, NULL) == 0 && th_spawn(h, 1002, NULL, NULL) == 0);
         REFUSED(TH_EREFUSED, th_spawn(h, 1065, NULL, NULL));
         REFUSED(ESRCH, th_kill(h, self, 77, 0));
-        has(lines, "1001 1 new 1000 100000\n1002 1 new 2000 104000\n1001 2 error ESRCH 3\n");
+        REFUSED(EPERM, th_ptrace(h, self, TH_PT_TRACE_ME, 1000, NULL, 7));
+        has(lines, "1001 1 new 1000 100000\n1002 1 new 2000 104000\n1001 2 error ESRCH 3\n1001 3 error EPERM 1\n");
         CHECK(system(command) == 0);
         CHECK(th_close(h) == 0);
         CHECK(system(command) == 0);

@@ -214,8 +214,11 @@ static void records()
     copy.call(tracehost_spawn, 1001);
     CHECK(moved.line("spawn").compare(0, 8, "refused ") == 0);
     CHECK(moved.line(spawn) == "1001 2 new 1001 100001" && moved.last_line() == "1001 2 new 1001 100001");
-    CHECK(text_of(scenario) == head + spawn + ",\n" + spawn + "\n]}\n");
-    CHECK(text_of(lines) == "1001 1 new 1000 100000\n1001 2 new 1001 100001\n");
+    // PT_TRACE_ME ignores the process and the data
+    CHECK(moved.call(tracehost_ptrace, 1001, 1001, TRACEHOST_PT_TRACE_ME, 1001, 7).error == 1);
+    const std::string trace_me = "{\"user\":1001,\"op\":\"ptrace\",\"caller\":1001,\"request\":\"PT_TRACE_ME\"}";
+    CHECK(text_of(scenario) == head + spawn + ",\n" + spawn + ",\n" + trace_me + "\n]}\n");
+    CHECK(text_of(lines) == "1001 1 new 1000 100000\n1001 2 new 1001 100001\n1001 3 error EPERM 1\n");
     THROWS(std::errc::device_or_resource_busy, moved.record(scenario));
     THROWS(std::errc::no_such_file_or_directory, tracehost_session().record("/nowhere/s.json"));
 

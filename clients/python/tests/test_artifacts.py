@@ -402,3 +402,31 @@ def test_a_search_that_fails_leaves_its_trace(tmp_path: pathlib.Path, runs: Runs
     trace = [line for line in said.splitlines() if re.match(r"E +\d+ (debug|run): ", line)]
     assert trace and steps(left) == 2 + len(trace)
     assert f"page:     {left / 'session.html'}" in said
+
+
+HALF_TRIED = """
+from tracehost import Compute, Request
+from tracehost.explore import Process
+
+def test_passes(explore):
+    def world(host):
+        process = Process(host.user(1001), host.user(1001).spawn())
+
+        async def debug():
+            try:
+                await process.ptrace(Request.PT_ATTACH, 4711)
+            except ProcessLookupError:
+                return
+            await process.turn(Compute())
+
+        return [debug]
+
+    explore(world)
+"""
+
+
+def test_a_search_that_tries_half_warns(runs: Runs) -> None:
+    said = runs(HALF_TRIED, status=0)
+    assert "1 passed, 2 warnings" in said, said
+    assert re.search(r"UserWarning: debug ends at an errno whenever it ends\n", said)
+    assert re.search(r"UserWarning: no interleaving awaits a step at test_\w+\.py:14\n", said)

@@ -4,6 +4,7 @@ from __future__ import annotations
 
 from collections.abc import Callable
 from concurrent.futures import ThreadPoolExecutor
+from contextlib import suppress
 from pathlib import Path
 from typing import Any
 
@@ -13,6 +14,8 @@ from worlds import Function, World, lost_wakeup, stop_lost_at_detach, traced_chi
 
 from tracehost import Action, Call, Compute, Decision, Enter, Host, Leave, Raise, RecordingFailed, Request, Rule, Signal
 from tracehost.explore import LimitReached, Process, Shared, Unlike, ended_by_signal, explore
+from tracehost.replies import Answered
+from tracehost.typed import TypedCalls
 
 
 def one_process(host: Host) -> Process:
@@ -180,6 +183,27 @@ def test_a_coroutine_that_uses_the_host_itself() -> None:
 
     found = explore(world)
     assert found.why is not None and found.why.startswith("looks: TypeError: this host is that of the world's beginning")
+
+
+def test_a_step_without_memory_ends_the_search(monkeypatch: pytest.MonkeyPatch) -> None:
+    """It is no answer of the model: an equal state may be answered otherwise."""
+
+    def world(host: Host) -> list[Function]:
+        process = one_process(host)
+
+        async def spares() -> None:
+            with suppress(OSError):
+                await process.kill(process.pid, 0)
+
+        return [spares]
+
+    def kill(calls: Any, uid: int, pid: int, which: int, signal: int) -> None:
+        raise Answered("ENOMEM")
+
+    assert explore(world).passed
+    monkeypatch.setattr(TypedCalls, "kill", kill)
+    with pytest.raises(MemoryError, match=r"kill\(1000, 0\) by 1000: ENOMEM"):
+        explore(world)
 
 
 def test_a_full_disk(tmp_path: Path) -> None:

@@ -81,6 +81,17 @@ class Recordings(unittest.TestCase):
         self.assertEqual(json.loads(self.scenario.read_text())["kill_on_debugger_exit"], 0)
         self.assertEqual(self.replayed().splitlines()[-1], "1001 7 pids 1001 1002")
 
+    def test_trace_me_by_its_own_number(self) -> None:
+        """PT_TRACE_ME ignores the target and the data, and so does the recording."""
+        with Host(record=self.scenario, record_lines=self.lines) as host:
+            user = host.user(1001)
+            user.spawn()
+            user.turn(100000, Enter(Call.FORK))
+            child = user.process(user.turn(100000, Leave()).pid)
+            child.ptrace(Request.PT_TRACE_ME, child.pid, 7)
+        self.assertEqual(json.loads(self.scenario.read_text())["steps"][3].get("target"), None)
+        self.assertEqual(self.replayed().splitlines()[3], "1001 4 ok")
+
     def test_a_scenario_after_each_step(self) -> None:
         with Host(record=self.scenario) as host:
             self.assertEqual(self.steps(), 0)

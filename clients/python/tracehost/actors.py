@@ -3,8 +3,9 @@
 from __future__ import annotations
 
 import enum
+import json
 import threading
-from collections.abc import Callable, Generator, Iterable, Sequence
+from collections.abc import Callable, Generator, Iterable, Mapping, Sequence
 from typing import Any, Generic, Optional, TypeVar, Union
 
 from . import host as hosts
@@ -15,6 +16,7 @@ from .names import Action, Request, StopFlag, WaitOption
 from .recording import Recording
 from .replies import NOTHING, Caught, Handled, New, Stopped, Turned, Waited
 from .steps import Act, Block, Compute, Enter, Leave, Raise, Rule, check_act
+from .text import Sent
 
 _T = TypeVar("_T")
 ZOMBIE = 3
@@ -29,6 +31,13 @@ class Gone(Blocked):
     """Its process, or its LWP, has ended."""
 
 
+class Look:
+    """The time in which a function of the world, or one that looks at a state, may use a host and its copies."""
+
+    def __init__(self) -> None:
+        self.is_over = False
+
+
 class Explored(Host):
     """The host in a state of a search: over the library, with the users that are searched."""
 
@@ -38,34 +47,77 @@ class Explored(Host):
         users: Optional[frozenset[int]],
         recording: Optional[Recording] = None,
         explain: bool = False,
+        look: Optional[Look] = None,
     ) -> None:
-        """None for all users."""
+        """None for all users. A host that has a `look` from the beginning may make steps in it."""
         self.session = session
         self._users = users
-        self._is_looked_at = False
-        self.is_open = True
-        """To all calls, as it is to the world's; later only while a step is made."""
+        self._look = look
+        self._is_copy = False
+        self.is_open = look is not None
+        """To steps, as it is to the world's; later only while a step is made."""
+        self.seen: set[int] = set()
+        """Whose rows were looked at in a copy, or here."""
         self._begin(session, recording, explain=explain)
 
-    def looked_at(self, function: Callable[[Host], _T]) -> _T:
+    def searched(self) -> Explored:
+        """This host once the world is made. The world's own takes no more calls."""
+        host = Explored.__new__(Explored)
+        host.__dict__.update(self.__dict__)
+        host._look, host.is_open = None, False
+        if self._look is not None:
+            self._look.is_over = True
+        return host
+
+    def looked_at(self, function: Callable[[Explored], _T]) -> _T:
         """What the function says of this state. Raises ValueError if it makes a step, or looks at a user who isn't searched."""
-        self._is_looked_at = True
+        was_open, self.is_open = self.is_open, False
+        look = self._look = Look()
+        self.seen = set()
         try:
             return function(self)
         finally:
-            self._is_looked_at = False
+            look.is_over, self._look, self.is_open = True, None, was_open
+
+    def copy(self) -> Explored:
+        """A copy that may make steps, of the same users, while the function that has made it runs."""
+        copy = Explored(self._alone(self.session.copy), self._users, explain=self._explains, look=self._look)
+        copy._is_copy, copy.seen = True, self.seen
+        return copy
 
     def _alone(self, function: Callable[..., _T], *arguments: Any) -> _T:
-        if self._is_looked_at and function not in (self._view, self.session.copy):
-            raise ValueError("a function that looks at a state makes no step; host.copy() may")
-        if not (self.is_open or self._is_looked_at or function == self._close):
-            raise TypeError("this host is that of the world's beginning: a coroutine awaits calls of a tracehost.explore.Process")
+        if function != self._close:
+            if self._look.is_over if self._look is not None else not self.is_open:
+                what = "copy is that of another look" if self._is_copy else "host is that of the world's beginning"
+                raise TypeError(f"this {what}: a coroutine awaits calls of a tracehost.explore.Process")
+            if not self.is_open and function not in (self._view, self.session.copy):
+                raise ValueError("a function that looks at a state makes no step; host.copy() may")
         return super()._alone(function, *arguments)
 
+    def _call_alone(self, name: str, arguments: tuple[Any, ...], explains_held: bool = True) -> Any:
+        if self._is_copy:
+            self._sees(arguments[0])
+        return super()._call_alone(name, arguments, explains_held)
+
+    def _send(self, text: str) -> Sent:
+        if self._is_copy:
+            step = json.loads(text)
+            self._sees(step.get("user") if isinstance(step, dict) else None)
+        return super()._send(text)
+
+    def step(self, step: Mapping[str, Any]) -> str:
+        if self._is_copy:
+            self._sees(step.get("user"))
+        return super().step(step)
+
     def _rows(self, uid: int) -> RawRows:
+        self._sees(uid)
+        return super()._rows(uid)
+
+    def _sees(self, uid: Any) -> None:
         if self._users is not None and uid not in self._users:
             raise ValueError(f"{uid} isn't a user of this search: together=True searches all users at once")
-        return super()._rows(uid)
+        self.seen.add(uid)
 
 
 class Step(Generic[_T]):

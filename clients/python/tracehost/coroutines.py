@@ -1,7 +1,8 @@
 """Coroutines by what they were told, and memory that they share.
 
 A coroutine can't be copied. So it is made anew, and told again what its calls have answered and what it has read of shared
-memory. It has to do the same then, which is checked.
+memory. It has to do the same then, which is checked. One that is where it was before, with the same values, is at the same
+place, though it was told more: that it goes on alike is checked for one step.
 """
 
 from __future__ import annotations
@@ -12,6 +13,9 @@ from contextvars import ContextVar
 from typing import Any, Generic, NamedTuple, Optional, TypeVar, Union
 
 from .actors import Step, refuse_forgotten, take_forgotten
+from .awaits import Awaits
+from .frames import Opaque, value_of
+from .host import Host, User
 
 _T = TypeVar("_T")
 MOST_LIVING = 4096
@@ -54,6 +58,8 @@ class Memory:
         self.users: list[set[int]] = []
         """Whose coroutines have looked at each value, or have set it."""
         self.user = 0
+        self.is_read = False
+        """Whether a value was read since this was set."""
         self.run: Union[None, Run, Deaf] = None
         """The coroutine that runs, which is told values again."""
 
@@ -69,6 +75,7 @@ class Memory:
 
     def read(self, place: int) -> Any:
         self._touch(place)
+        self.is_read = True
         return self.values[place] if self.run is None else self.run.read(place)
 
     def write(self, place: int, value: Any) -> None:
@@ -100,6 +107,10 @@ class Doing(NamedTuple):
     writes: tuple[tuple[int, Any], ...]
     """The shared values that it sets before that."""
 
+    @property
+    def is_end(self) -> bool:
+        return self.step is None and self.reads is None
+
     def is_as(self, other: Doing) -> bool:
         """Whether it does the same, as far as it shows."""
         return self._shown() == other._shown()
@@ -121,7 +132,7 @@ class Doing(NamedTuple):
 class Place:
     """How far a coroutine is: what it was told last, behind the place before."""
 
-    __slots__ = ("number", "before", "told", "doing", "next")
+    __slots__ = ("number", "before", "told", "doing", "next", "same")
 
     def __init__(self, number: int, before: Optional[Place], told: Any) -> None:
         self.number = number
@@ -129,6 +140,8 @@ class Place:
         self.told = told
         self.doing: Optional[Doing] = None
         self.next: dict[Told, Place] = {}
+        self.same = self
+        """An earlier place, at which the coroutine is equal: it goes on from there."""
 
     @property
     def known(self) -> Doing:
@@ -145,6 +158,10 @@ class Script:
         self.memory = memory
         self.user: Optional[int] = None
         """Of its steps; None before it has made any."""
+        self.awaits = Awaits()
+        self.opaque: Optional[Opaque] = None
+        """What the coroutine once kept and has no known value. So all that it was told tells its place."""
+        self._values: dict[Hashable, Place] = {}
         self._places = [Place(0, None, None)]
         self._living: dict[int, Live] = {}
         """Coroutines that are at a place, by its number: one of them goes on, and for other answers it is made anew."""
@@ -172,6 +189,12 @@ class Script:
         elif self.user != step.uid:
             raise ValueError(f"{self.name}: a coroutine makes the calls of one user, and not of {self.user} and {step.uid}")
 
+    @property
+    def ends_at_errno(self) -> bool:
+        """Whether the last answer was an errno, whenever the coroutine has ended."""
+        ends = [place for place in self._places if place.doing is not None and place.doing.is_end]
+        return bool(ends) and all(isinstance(_last_answer(place), OSError) for place in ends)
+
     def check(self, again: Script) -> None:
         """Goes to all places with coroutines of the same function in another world, in which no other coroutine has run.
 
@@ -181,6 +204,10 @@ class Script:
             if not place.next and place.doing is not None:
                 live = Live(self.name, again.function)
                 Run(self, live, way_to(place), list(again.memory.values), again.memory).go()
+                again._close(live)
+            for after in place.same.next.values() if place.same is not place else ():
+                live = Live(self.name, again.function)
+                Run(self, live, [after, *way_to(place)], list(again.memory.values), again.memory).go()
                 again._close(live)
 
     def close(self) -> None:
@@ -195,7 +222,10 @@ class Script:
 
     def _make(self, place: Place, values: list[Any]) -> Live:
         """A coroutine at the first step behind this place."""
-        return Run(self, Live(self.name, self.function), way_to(place), values, self.memory).go()
+        live = Live(self.name, self.function)
+        if (code := getattr(live.coroutine, "cr_code", None)) is not None:
+            self.awaits.add(code)
+        return Run(self, live, way_to(place), values, self.memory).go()
 
     def _settled(self, place: Place, values: list[Any]) -> Place:
         while True:
@@ -204,7 +234,7 @@ class Script:
             for where, value in place.known.writes:
                 values[where] = value
             if place.known.reads is None:
-                return place
+                return place.same
             place = self.place(place, values[place.known.reads])
 
     def _explore(self, place: Place, values: list[Any]) -> None:
@@ -216,9 +246,33 @@ class Script:
             Run(self, live, [place], list(values), self.memory).go()
         if live.step is None:
             return
+        self._find_equal(live, live.step)
+        if (number := live.place.number) in self._living:
+            self._close(live)
+            return
         if len(self._living) >= MOST_LIVING:
             self._close(self._living.pop(next(iter(self._living))))
-        self._living[live.place.number] = live
+        self._living[number] = live
+
+    def _find_equal(self, live: Live, step: Step[Any]) -> None:
+        """Puts the coroutine at the first place at which it was equal."""
+        value = value_of(live.coroutine, step, parts_of)
+        if isinstance(value, Opaque):
+            self.opaque = value
+        else:
+            live.place.same = self._values.setdefault(value, live.place)
+        live.place = live.place.same
+
+
+def parts_of(thing: Any) -> Optional[tuple[Any, ...]]:
+    """What tells things of a search apart. Hosts are closed to coroutines."""
+    if isinstance(thing, Step):
+        return thing.uid, thing.pid, thing.asked, thing.make, thing.which, thing.others
+    if isinstance(thing, Shared):
+        return (thing._place,)
+    if isinstance(thing, User):
+        return (thing.uid,)
+    return () if isinstance(thing, Host) else None
 
 
 def way_to(place: Place) -> list[Place]:
@@ -227,6 +281,13 @@ def way_to(place: Place) -> list[Place]:
     while (before := way[-1].before) is not None:
         way.append(before)
     return way
+
+
+def _last_answer(place: Place) -> Any:
+    """What a call has answered last on the way to this place; None before any."""
+    while place.before is not None and place.before.known.step is None:
+        place = place.before
+    return place.told
 
 
 def key_of(told: Any) -> Told:
@@ -240,8 +301,8 @@ class Live:
 
     def __init__(self, name: str, function: Function) -> None:
         self._name = name
-        self._coroutine = function()
-        if not isinstance(self._coroutine, Coroutine):
+        self.coroutine: Any = function()
+        if not isinstance(self.coroutine, Coroutine):
             raise TypeError(f"{name}: a function of a coroutine is expected, one with async def")
         self.step: Optional[Step[Any]] = None
         self.error: Optional[BaseException] = None
@@ -253,9 +314,9 @@ class Live:
         self.step = None
         try:
             if isinstance(told, OSError):
-                step = self._coroutine.throw(type(told)(*told.args))
+                step = self.coroutine.throw(type(told)(*told.args))
             else:
-                step = self._coroutine.send(told)
+                step = self.coroutine.send(told)
         except StopIteration:
             refuse_forgotten(self._name)
             return
@@ -271,7 +332,7 @@ class Live:
 
     def close(self) -> None:
         with contextlib.suppress(Exception):  # of what it does as it is closed
-            self._coroutine.close()
+            self.coroutine.close()
         take_forgotten()  # of those that it has kept for later
 
 
@@ -333,6 +394,8 @@ class Run:
         known = self._place.doing
         if known is None:
             self._place.doing = now
+            if step is not None:
+                self._script.awaits.suspend(self._live.coroutine)
         elif not now.is_as(known) and self._fault is None:
             self._fault = Unlike(
                 f"{self._script.name} was told the same twice, and went on with {known.text()}, then with {now.text()}:"

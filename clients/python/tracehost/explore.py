@@ -20,8 +20,9 @@
     if not found.passed:
         found.save("race.json")         # tracehost race.json --expect race.out replays it
 
-Two states are one if the users see the same, as the library's numbers tell (law `states_tell`), and each coroutine was told
-the same so far: then the host answers alike from there on (law `same_states_answer_alike`), and so do the coroutines. The
+Two states are one if the users see the same, as the library's numbers tell (law `states_tell`), and each coroutine is where it
+was, with equal variables, or was told the same so far (`tracehost.frames`): then the host answers alike from there on (law
+`same_states_answer_alike`), and so do the coroutines. So a coroutine may go round for ever. The
 search is breadth-first, so the trace of a failure is a shortest one. Coroutines of several users are searched user by user,
 since the steps of one change nothing for another (law `calls_are_private`). Proved are these laws of the library. The search
 itself is tested, and tells states apart by digests of 128 bits; a trace needs no trust, since the program replays it.
@@ -35,10 +36,13 @@ from pathlib import Path
 from typing import Optional, Union
 
 from .actors import ZOMBIE, Process
+from .awaits import Awaits
 from .coroutines import Shared, Unlike
 from .host import Host
+from .reaching import can_reach, leads_to
 from .recording import Recording
 from .searching import (
+    Asked,
     Choice,
     Failure,
     Judge,
@@ -50,13 +54,14 @@ from .searching import (
     Taken,
     World,
     replayed,
+    stuck,
     text_of,
     users_of,
 )
 
 __all__ = [
-    "Found", "LimitReached", "Process", "Property", "Shared", "State", "Taken", "Unlike", "deadlock", "ended_by_signal",
-    "explore", "unreported_stop",
+    "Found", "LimitReached", "Process", "Property", "Shared", "State", "Taken", "Unlike", "can_reach", "deadlock",
+    "ended_by_signal", "explore", "leads_to", "stuck", "unreported_stop",
 ]  # fmt: skip
 
 _TRACE_STOP = 1
@@ -84,7 +89,8 @@ def _was_killed(state: State) -> Optional[str]:
 
 
 deadlock = Property("deadlock", True, _in_deadlock)
-"""A user's coroutines end, or one of them can go on. One whose process has ended has ended too."""
+"""A user's coroutines end, or one of them can go on. One whose process has ended has ended too. If a user waits for rows of
+another, or for a shared value, it is asked once none of any user can go on."""
 unreported_stop = Property("unreported_stop", True, _left_unreported)
 """A wait has reported each trace stop once none of the user's coroutines can go on."""
 ended_by_signal = Property("ended_by_signal", False, _was_killed)
@@ -92,10 +98,15 @@ ended_by_signal = Property("ended_by_signal", False, _was_killed)
 
 
 class Found:
-    """What a search has found."""
+    """What a search has found: `why` all is not well, or None, and a shortest `trace`, or what is `vacuous` in a pass."""
 
-    def __init__(self, maker: Maker, failure: Optional[Failure], states: int, transitions: int) -> None:
+    def __init__(
+        self, maker: Maker, failure: Optional[Failure], states: int, transitions: int, vacuous: Sequence[str] = ()
+    ) -> None:
         self.states, self.transitions = states, transitions
+        self.vacuous = tuple(vacuous) if failure is None else ()
+        """What was never tried: awaits at which no interleaving awaits a step, coroutines that end before these at an errno
+        whenever they end, and properties that were asked for in no state."""
         self.why: Optional[str] = None
         """What is wrong at the end of the trace; None if all interleavings pass."""
         self.trace: tuple[Taken, ...] = ()
@@ -120,7 +131,8 @@ class Found:
 
     def __str__(self) -> str:
         if self.why is None:
-            return f"all interleavings pass: {self.states} states, {self.transitions} transitions"
+            passed = f"all interleavings pass: {self.states} states, {self.transitions} transitions"
+            return "\n".join((passed, *self.vacuous))
         steps = "".join(f"\n{number:4} {taken}" for number, taken in enumerate(self.trace, 1))
         return f"{self.why}\nafter {len(self.trace)} steps:{steps}"
 
@@ -146,15 +158,17 @@ def explore(
     world: World,
     *,
     limit: int = 100_000,
-    properties: Iterable[Union[Property, Callable[[Host], object]]] = (deadlock,),
+    properties: Iterable[Asked] = (deadlock, stuck),
     together: bool = False,
     kill_on_debugger_exit: Optional[bool] = None,
 ) -> Found:
     """Searches all interleavings of the coroutines of a world.
 
     `world` gets a `Host`, makes processes and what else comes before, and returns coroutine functions. No coroutine may raise
-    anything, and these `properties` have to hold: `deadlock`, `unreported_stop`, `ended_by_signal`, and functions that look
-    at a host, assert, or return whether all is well. With `together` the coroutines of several users are searched at once.
+    anything, and these `properties` have to hold: `deadlock`, `stuck` (each that waits can still come to a state in which it
+    goes on), `unreported_stop`, `ended_by_signal`, `can_reach`, `leads_to`, and functions that look at a host, assert, or
+    return whether all is well. With `together` the coroutines of several users are searched at once; without it a function
+    that looks at a host, or at a copy of it, sees only the user who is searched (else ValueError).
 
     Raises LimitReached if there are more than `limit` states, and Unlike if the world, or a coroutine, isn't the same when it
     is made again. NotImplementedError, FileNotFoundError and OSError are as of `Host`: the library is needed.
@@ -163,16 +177,23 @@ def explore(
     users = users_of(maker)
     states = transitions = 0
     shortest: Optional[Failure] = None
+    awaits, vacuous = Awaits(), []
     touched: dict[int, set[int]] = {}
     for group in [users] if together or not users else [frozenset([uid]) for uid in sorted(users)]:
         search = Search(maker, group, judge, limit, states)
-        failure = search.run(None if shortest is None else len(shortest.path))
-        shortest = failure or shortest
+        failure = search.run(None if shortest is None or search.memory.values else len(shortest.path))
+        if failure is not None and (shortest is None or len(failure.path) < len(shortest.path)):
+            shortest = failure
         states, transitions = states + search.states, transitions + search.transitions
         for where, others in enumerate(search.memory.users):
             touched.setdefault(where, set()).update(others)
+        for one in search.awaits():
+            awaits.join(one)
+        vacuous += [f"{name} ends at an errno whenever it ends" for name in search.ended_at_errno()]
     if not users and shortest is None:
         raise ValueError("no coroutine of this world awaits a step")
     if not together and any(len(several) > 1 for several in touched.values()):
         raise ValueError("coroutines of several users share a value: together=True searches them at once")
-    return Found(maker, shortest, states, transitions)
+    vacuous += [f"no interleaving awaits a step at {line}" for line in sorted(set(map(str, awaits.left)))]
+    vacuous += [f"{name} was asked for in no state" for name in judge.unasked()]
+    return Found(maker, shortest, states, transitions, vacuous)

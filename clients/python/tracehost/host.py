@@ -408,12 +408,10 @@ class Process:
         - whether PT_FOLLOW_FORK or PT_LWP_EVENTS sets (not 0) or clears (0);
         - the number of LWPs that PT_GETLWPLIST asks for.
 
-        PT_LWPINFO returns an `LwpInfo`, PT_GET_EVENT_MASK an `EventMask`, PT_GETNUMLWPS a number, PT_GETLWPLIST the
+        PT_TRACE_ME ignores both. PT_LWPINFO returns an `LwpInfo`, PT_GET_EVENT_MASK an `EventMask`, PT_GETNUMLWPS a number, PT_GETLWPLIST the
         numbers of LWPs in order of birth, and every other request None. docs/ERRNOS.md explains each errno.
         """
         of_kind("request", Request, request)
-        if request == Request.PT_TRACE_ME:
-            return self._call("ptrace", request, 0, 0)
         if request == Request.PT_SET_EVENT_MASK and whole("data", data, EventMask) & ~ALL_EVENTS:
             # bits without a name: the model is asked for what it refuses first, and EINVAL comes last
             self.ptrace(Request.PT_GET_EVENT_MASK, target)

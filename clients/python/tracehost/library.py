@@ -248,7 +248,7 @@ class Session:
 
     def last_step(self) -> Optional[str]:
         """The line of the step that was answered last; None before any answer, after a refused line, and for a step that
-        no line is: a mask with bits that no event has, PT_TRACE_ME with a target."""
+        no line is: a mask with bits that no event has."""
         return self._text("last_step", self.handle)
 
     def explain(self, line: str, number: int = 1) -> Optional[str]:

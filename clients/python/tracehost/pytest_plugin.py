@@ -4,8 +4,8 @@
   settings.
 - The fixture `new_tracehost` is a function that starts such a host, which is closed at the end of the test. A test with
   ``@given`` starts one for each example.
-- The fixture `explore` is `tracehost.explore.explore`, but a failure is one of the test, and leaves its trace as a session.
-  ``@pytest.mark.interleavings(limit=10**6)`` gives it options.
+- The fixture `explore` is `tracehost.explore.explore`, but a failure is one of the test, and leaves its trace as a session,
+  and what is vacuous in a pass is told by warnings. ``@pytest.mark.interleavings(limit=10**6)`` gives it options.
 - An assertion that compares replies shows statuses, signals and flags by name.
 - A test that fails, in a fixture too, leaves its scenario, its lines and its page in pytest's temporary folder, or in a
   folder of its own below the one that ``--tracehost-artifacts``, or the environment's ``TRACEHOST_ARTIFACTS``, names.
@@ -20,6 +20,7 @@ import os
 import re
 import subprocess
 import sys
+import warnings
 import weakref
 from collections.abc import Callable, Generator, Iterator, Sequence
 from pathlib import Path
@@ -162,6 +163,8 @@ def explore(request: pytest.FixtureRequest, tmp_path_factory: pytest.TempPathFac
             except (OSError, RecordingFailed) as error:
                 print(f"tracehost: not recorded: {error}", file=sys.stderr)
             raise AssertionError(str(found)) from found.error
+        for said in found.vacuous:
+            warnings.warn(said, stacklevel=2)
         return found
 
     return search

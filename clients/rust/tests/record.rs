@@ -69,9 +69,14 @@ fn each_call_is_recorded() -> Result<(), Box<dyn std::error::Error>> {
         session.kill(debugger, Which::Process(9), None),
         Err(Error::Errno(Errno::ESRCH))
     );
+    // PT_TRACE_ME ignores the target
+    assert_eq!(
+        session.ptrace(debugger, Request::TraceMe, debugger.pid),
+        Err(Error::Errno(Errno::EPERM))
+    );
     session.json_line("{\"user\":1002,\"op\":\"spawn\"}")?;
     assert!(session.line("spawn")?.starts_with("refused"));
-    assert_eq!(steps_of(&scenario).len(), 10);
+    assert_eq!(steps_of(&scenario).len(), 11);
     assert_eq!(fs::read_to_string(&lines)?, replayed(&scenario));
     fs::remove_dir_all(folder)?;
     Ok(())
