@@ -9,16 +9,21 @@ nothing is an error. Names of the kit's own libraries are not followed.
 from __future__ import annotations
 
 import re
+import shutil
+import subprocess
+import textwrap
 from collections.abc import Iterable, Iterator
 from functools import cache
 from pathlib import Path
 from typing import NamedTuple
 
-from crates import TOP, listed
+from crates import TOP, Unavailable, listed
 
 CRATES = TOP / "crates"
-# the parts of the headline, each with the files and functions whose contracts state it; a part adds to those before it
+# the parts of the headline, each with the files and functions whose contracts state it, or with some clauses of these; a part
+# adds to those before it
 HEADLINE = {
+    "Isolation alone": "visibility/src/laws.rt two_lists:seen,equal one_step:steps,seen,equal other_step:differ,view",
     "A list of all users' steps on a host": "visibility/src/runs.rt run_list requests/src/host.rt new",
     "Two hosts, and numbers of other users": "visibility/src/laws.rt one_step other_step foreign_number two_lists foreign_numbers",
     "Scripts in threads": "sessions/src/run.rt run_sessions sessions/src/laws.rt every_schedule",
@@ -30,6 +35,11 @@ HEADLINE = {
         tracehost_c/src/lib.rt tracehost_open tracehost_line tracehost_spawn tracehost_list tracehost_sigaction tracehost_kill
         tracehost_wait4 tracehost_install tracehost_handle tracehost_ptrace tracehost_turn tracehost_view
         tracehost_c/src/laws.rt handle_calls_are_private""",
+    "The search: states, and what it calls": """open_sessions/src/laws.rt states_tell same_states_answer_alike
+        tracehost_c/src/laws.rt all_calls_are_private
+        tracehost_c/src/lib.rt tracehost_state tracehost_copy tracehost_copy_over tracehost_numbers tracehost_last_step
+        tracehost_explain tracehost_close""",
+    "Other calls of the C library": "tracehost_c/src/lib.rt tracehost_rows tracehost_last_line",
 }
 
 IMPORT = re.compile(r"^ *(?:pub |ghost )?use (Rattle\..*?)(?: as (\w+))?;?$", re.MULTILINE)
@@ -38,6 +48,7 @@ OTHER = re.compile(r"^ *((pub )?(use|mod) .*|--.*)$", re.MULTILINE)
 DECLARED = re.compile(r"\s*(?:abbrev |unfoldable )?(?:pub )?(record |data )?(\S+)")
 CONSTRUCTOR = re.compile(r"^  (?:pub )?(\S+) :", re.MULTILINE)
 FUNCTION = re.compile(r'^( *)pub (?:extern "C" )?fn (\w+)\b(.*?)^\1\{\}?$', re.DOTALL | re.MULTILINE)
+CLAUSE = re.compile(r"\n +(?:requires|ensures)(?: (\w+))? \{")
 CITED = re.compile(r"(?<![\w'])(?<!\w\.)([A-Za-z_][\w'-]*)")
 TYPE = re.compile(r"^((?:(?:///|#\[).*\n)*)(?:pub(?:\([^)]*\))? )?(?:enum|struct|trait) (\w+)", re.MULTILINE)
 # the constants of a type, the value by which contracts see it, and the blocks that may have more constants or a trait's ghosts
@@ -166,15 +177,28 @@ class Walk:
         return True
 
 
+def only(piece: Piece, names: list[str]) -> Piece:
+    """A contract with no other clauses than these."""
+    clauses = list(CLAUSE.finditer(piece.text))
+    ends = [*(clause.start() for clause in clauses[1:]), len(piece.text)]
+    texts = {clause[1]: piece.text[clause.start() : end] for clause, end in zip(clauses, ends)}
+    if unknown := [name for name in names if name not in texts]:
+        raise LookupError(f"{piece.name} has no clause {', '.join(unknown)}")
+    return piece._replace(text=piece.text[: clauses[0].start()] + "".join(map(texts.__getitem__, names)))
+
+
 def contracts_of(names: str) -> Iterator[tuple[Piece, Source]]:
-    """The contracts of such functions, each after its file; * is all functions of a file."""
+    """The contracts of such functions, each after its file; * is all functions of a file, and `f:a,b` two clauses of one."""
     for word in names.split():
+        name, colon, clauses = word.partition(":")
         if word.endswith(".rt"):
             source = read_contracts(CRATES / word)
-        elif word not in ("*", *source.pieces):
-            raise LookupError(f"{names}: there is no function {word}")
+        elif name not in ("*", *source.pieces):
+            raise LookupError(f"{names}: there is no function {name}")
+        elif colon:
+            yield only(source.pieces[name], clauses.split(",")), source
         else:
-            yield from ((piece, source) for name, piece in source.pieces.items() if word in ("*", name))
+            yield from ((piece, source) for one, piece in source.pieces.items() if name in ("*", one))
 
 
 Listed = dict[Path, list[Piece]]
@@ -230,6 +254,19 @@ def text() -> str:
         for path, pieces in {**defined, **types}.items():
             shown += [f"---- {path.relative_to(TOP)}", *(piece.text for piece in pieces)]
     return "\n\n".join(shown) + "\n"
+
+
+def imports() -> str:
+    """What the released program and library import, by the tables in them."""
+    if shutil.which("nm") is None:
+        raise Unavailable("nm is missing, of Debian's package binutils")
+    text = ""
+    for what, file in (("program", "tracehost"), ("library", "libtracehost.so")):
+        command: list[str | Path] = ["nm", "--dynamic", "--undefined-only", "--format=posix", TOP / "release/x86_64-linux" / file]
+        printed = subprocess.run(command, check=True, stdout=subprocess.PIPE, text=True).stdout
+        names = re.findall(r"^(\w+)\S* U\b", printed, re.MULTILINE)  # those that are weak needn't be there
+        text += textwrap.fill(f"The {what}: {', '.join(f'`{name}`' for name in sorted(names))}.", 120) + "\n\n"
+    return text.removesuffix("\n")
 
 
 def of_the_kit() -> str:

@@ -7,18 +7,22 @@ from __future__ import annotations
 
 import json
 import random
+from collections.abc import Callable
 from ctypes import byref, c_size_t, create_string_buffer
 from pathlib import Path
 
 import pytest
 from by_chance import scenario
-from checking import TOP, accepted_files, for_each_scenario
-from session_ways import Tools, opened
+from checking import TOP, accepted_files, for_each_scenario, run
+from session_ways import Tools, line_answer, opened
 from steps_of_scenario import Object, asked
 from tracehost.blocking import Progress
-from tracehost.names import Request
+from tracehost.names import Call, Request
 from tracehost.replies import Answered
+from tracehost.steps import Enter, Leave
 from tracehost.typed import TypedCalls
+
+MOST = 2**32 - 1
 
 
 @pytest.fixture(scope="module")
@@ -52,17 +56,37 @@ def test_no_step_was_answered(tools: Tools) -> None:
     assert host.last_step() is None
 
 
-@pytest.mark.parametrize(
-    ("request_", "target", "data"),
-    [(Request.PT_SET_EVENT_MASK, 1001, 1 << 6), (Request.PT_TRACE_ME, 1001, 0), (Request.PT_TRACE_ME, 0, 9)],
-)
-def test_a_step_that_no_line_is(tools: Tools, request_: Request, target: int, data: int) -> None:
+def test_a_step_that_no_line_is(tools: Tools) -> None:
     host = opened(tools)
-    try:
-        TypedCalls(host, Progress()).ptrace(1001, 1000, request_, target, data)
-    except Answered:
-        pass
+    with pytest.raises(Answered):
+        TypedCalls(host, Progress()).ptrace(1001, 1000, Request.PT_SET_EVENT_MASK, 1001, 1 << 6)
     assert host.last_step() is None
+
+
+@pytest.mark.parametrize(("target", "data"), [(1001, 0), (0, 9), (1001, 9), (1000, 0), (MOST, MOST)])
+def test_trace_me_ignores_its_target(tools: Tools, tmp_path: Path, target: int, data: int) -> None:
+    """ptrace(2): PT_TRACE_ME ignores pid, addr and data. What the session was asked replays."""
+    host = opened(tools)
+    calls = TypedCalls(host, Progress())
+    steps: list[str | None] = []
+    lines: list[str] = []
+    made: list[Callable[[], object]] = [
+        lambda: calls.spawn(1001),
+        lambda: calls.turn(1001, 100000, Enter(Call.FORK)),
+        lambda: calls.turn(1001, 100000, Leave()),
+        lambda: calls.ptrace(1001, 1001, Request.PT_TRACE_ME, target, data),
+        lambda: calls.list(1001, 1000),
+    ]
+    for make in made:
+        make()
+        steps.append(host.last_step())
+        lines.append(line_answer(host, as_json=False))
+    assert steps[3] == '{"user":1001,"op":"ptrace","caller":1001,"request":"PT_TRACE_ME"}'
+    assert lines[3:] == ["1001 4 ok", "1001 5 pids 1000 1001"]
+    scenario, expected = tmp_path / "s.json", tmp_path / "s.out"
+    scenario.write_text(json.dumps({"steps": [json.loads(step) for step in steps if step]}))
+    expected.write_text("".join(f"{line}\n" for line in lines))
+    assert run(tools.program, scenario, "--expect", expected).status == 0
 
 
 def test_a_copy_has_the_last_step(tools: Tools) -> None:

@@ -14,7 +14,7 @@ from pathlib import Path
 
 import pytest
 
-from checking import TOP, Ended, run
+from checking import TOP, Ended, needs, run
 
 sys.path.insert(0, str(TOP / "tools"))
 from crates import listed  # noqa: E402
@@ -30,7 +30,7 @@ def pages(*words: str, top: Path = TOP) -> Ended:
     return run(sys.executable, top / "tools/pages", *words, seconds=SECONDS)
 
 
-@pytest.mark.parametrize("name", ["crates", "python", "calls", "totals", "kit"])
+@pytest.mark.parametrize("name", ["crates", "python", "calls", "totals", "kit", "imports"])
 def test_a_part_is_no_older_than_the_sources(name: str) -> None:
     checked = pages("check", name)
     if checked.status == 3:
@@ -112,10 +112,10 @@ def test_a_change_makes_a_part_older(whole: Path, change: Change, name: str, fil
 
 
 def lines(top: Path, of: str) -> int:
-    """The number of lines that the list prints for a file or for a part."""
-    found = re.search(rf"^ *(\d+){of}$", pages("print", "definitions", top=top).out, re.MULTILINE)
+    """The number of lines that the list prints for a file, or for all parts."""
+    found = re.findall(rf"^ *(\d+){of}$", pages("print", "definitions", top=top).out, re.MULTILINE)
     assert found
-    return int(found[1])
+    return sum(map(int, found))
 
 
 @pytest.mark.parametrize("more, pattern, new, of", [
@@ -139,6 +139,7 @@ TYPES = r"^((?:pub(?:\(crate\))? )?(?:struct|enum)) {0}\b"
     (r"^(?:abbrev )?(?:pub )?max_lwps :", "pub elsewhere :", "max_lwps leads to no definition of CRATE"),
     ("run_list", "gone", "there is no function gone"),
     (r"machine.rt \*", "machine.rt gone", "there is no function gone"),
+    ("other_step:differ,view", "other_step:differ,gone", "other_step has no clause gone"),
     ("machine.rt", "gone.rt", "No such file or directory: .*gone.rt'"),
 ])  # fmt: skip
 def test_a_cited_name_that_is_gone_is_an_error(whole: Path, change: Change, pattern: str, new: str, error: str) -> None:
@@ -146,6 +147,40 @@ def test_a_cited_name_that_is_gone_is_an_error(whole: Path, change: Change, patt
     change(file, pattern, new)
     error, made = error.replace("CRATE", file.split("/")[1]), pages("print", "definitions", top=whole)
     assert (made.status, made.out) == (1, "") and re.fullmatch(f"pages: .*{error}\n", made.err)
+
+
+def names_of(part: str, top: Path) -> tuple[set[str], int]:
+    """What a part lists, and how many lines that is."""
+    found = re.search(rf"^==== {part}\nlines  of .+\n((?:[^=\n].*\n)+)", pages("print", "definitions", top=top).out, re.MULTILINE)
+    assert found
+    return {name for line in found[1].splitlines() for name in line.partition(": ")[2].split(", ")}, int(found[1].split()[-1])
+
+
+def test_isolation_alone_needs_no_rule_of_the_machine(whole: Path, change: Change) -> None:
+    """What a step does is cited by the other clauses only, and so a clause that is named more brings it."""
+    names, count = names_of("Isolation alone", whole)
+    assert {"view", "View", "Step"} < names and names.isdisjoint({"step", "MakesStep", "Ran"}) and 500 < count < 700
+    change("tools/trust.py", "two_lists:seen,equal", "two_lists:seen,equal,first")
+    names, count = names_of("Isolation alone", whole)
+    assert {"step", "Ran"} < names and count > 1500
+
+
+def test_each_call_of_the_header_is_in_a_part() -> None:
+    header = (TOP / "include/tracehost.h").read_text(encoding="utf-8")
+    calls = {*re.findall(r"^[\w ]+[ *](tracehost_\w+)\(", header, re.MULTILINE)}
+    named = {*re.findall(r"\btracehost_\w+", pages("print", "definitions").out)} - {"tracehost_c"}
+    assert len(calls) > 20 and calls - named == {"tracehost_strerror", "tracehost_version"}  # which aren't proved
+
+
+@needs("objdump")
+@pytest.mark.parametrize("what, file", [("program", "tracehost"), ("library", "libtracehost.so")])
+def test_the_page_has_each_function_that_is_imported(what: str, file: str) -> None:
+    """By another reader of the tables."""
+    page = (TOP / TRUST).read_text(encoding="utf-8").partition("<!-- tools/pages imports -->")[2].partition("<!-- end -->")[0]
+    listed = re.search(rf"^The {what}: ((?:.+\n)+)", page, re.MULTILINE)
+    table = run("objdump", "-T", TOP / "release/x86_64-linux" / file).out
+    imported = re.findall(r"^\w+ +(?! *w)\w* +\w* *\*UND\*\s+\w+(?: +\(?\w[\w.]*\)?)? +(\w+)$", table, re.MULTILINE)
+    assert listed and re.findall(r"`(\w+)`", listed[1]) == sorted(imported) and "malloc" in imported
 
 
 def test_each_module_of_tests_is_printed_with_its_head() -> None:

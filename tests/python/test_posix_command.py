@@ -266,7 +266,8 @@ def test_the_host_itself_is_held(folder: pathlib.Path, call: str) -> None:
 
 def test_a_shell_of_the_c_library_is_held(folder: pathlib.Path) -> None:
     done = run(RUN, folder / "past", "library", "system")
-    assert done.returncode == 1 and "ended by a call past the runtime" in done.stderr
+    assert done.returncode == 1
+    assert re.search(r"calls posix_spawn, as system, popen and wordexp do, past the runtime, in .*/libc", done.stderr), done.stderr
 
 
 def test_an_object_and_a_library_of_another_compiler_are_told(tmp_path: pathlib.Path) -> None:
@@ -279,7 +280,7 @@ def test_an_object_and_a_library_of_another_compiler_are_told(tmp_path: pathlib.
     done = run(CC, "-o", tmp_path / "with_object", main, tmp_path / "own.o")
     assert done.returncode == 0 and "own.o calls fork of the host" in done.stderr
     done = run(CC, "-o", tmp_path / "with_library", main, f"-L{tmp_path}", "-lown", f"-Wl,-rpath,{tmp_path}")
-    assert (done.returncode, done.stderr) == (0, "")
+    assert done.returncode == 0 and "libown.so calls fork of the host" in done.stderr
     done = run(RUN, tmp_path / "with_library")
     assert done.returncode == 0 and "libown.so calls fork of the host" in done.stderr
     done = run(RUN, tmp_path / "with_library", "x")

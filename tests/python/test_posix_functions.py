@@ -52,11 +52,14 @@ def test_each_function_is_as_the_table_has_it(tmp_path: pathlib.Path) -> None:
     assert done.returncode == 0, done.stderr
     output = subprocess.run(["nm", "-u", tmp_path / "functions.o"], capture_output=True, text=True, check=True).stdout
     symbols = set(re.findall(r"U (\S+)", output))
-    redirected = dict(re.findall(r"#pragma redefine_extname (\S+) (\S+)", (POSIX / "include/tracehost/names.h").read_text()))
+    headers = "".join((POSIX / "include/tracehost" / name).read_text() for name in ("names.h", "reported.h"))
+    redirected = dict(re.findall(r"#pragma redefine_extname (\S+) (\S+)", headers))
     redirected["sigpause"] = "tracehost_sigpause"  # a macro of posix.h
     for name in there:
         symbol = redirected.get(name, name)
-        kind = "refused" if symbol.startswith("tracehost_refused_") else "runtime" if symbol != name else "host"
+        kind = "refused" if symbol.startswith("tracehost_refused_") else "runtime"
+        if symbol == name or symbol.startswith("tracehost_host_"):  # the host's, which PT_SYSCALL reports
+            kind = "host"
         assert symbol in symbols and kinds[name] == kind, name
 
 

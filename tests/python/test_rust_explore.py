@@ -3,6 +3,7 @@
 from __future__ import annotations
 
 import os
+import random
 import re
 import signal
 import subprocess
@@ -47,6 +48,17 @@ def test_a_race_and_its_remedy(command: str, program: Path, race: str, tmp_path:
     steps = re.findall(r"^ *\d+ .* -> ", said, re.MULTILINE)
     assert len(steps) == int(re.findall(r"after (\d+) steps", said)[0]) <= len(scenario.read_text().splitlines()) - 2
     assert output(command, race, "--right").startswith("all interleavings passed: ")
+
+
+@pytest.mark.parametrize("race", RACES)
+def test_a_race_beside_a_process_that_computes(command: str, program: Path, race: str, tmp_path: Path) -> None:
+    """It is found too, and replays; its remedy passes, and nothing of that is vacuous."""
+    scenario = tmp_path / "race.json"
+    said = output(command, race, "--ticker", "--save", scenario, status=1)
+    assert said.startswith(("stuck: ", "assertion: "))
+    output(program, scenario, "--expect", tmp_path / "race.out")
+    passed, chance = output(command, race, "--right", "--ticker").splitlines()
+    assert passed.startswith("all interleavings passed: ") and chance.startswith("a state was taken for another")
 
 
 @pytest.mark.parametrize(
@@ -100,19 +112,68 @@ def test_odd_names(command: str, tmp_path: Path) -> None:
     output(command, "lost_wakeup", "--limit", os.fsdecode(b"\xff"), status=2)
 
 
+def test_other_options_go_on(command: str, tmp_path: Path) -> None:
+    """The model's own arguments count, and no others: the file may have another name, too."""
+    words = [command, "stop_lost_at_detach", "--right", "--size", "4"]
+    whole = output(*words)
+    output(*words, "--limit", "50000", "--threads", "1", "--checkpoint", tmp_path / "first", status=3)
+    os.rename(tmp_path / "first.1001", tmp_path / "second.1001")
+    more = ["--threads", "2", "--memory", "2000", "--answers", "1000", "--every", "1", "--progress", "60"]
+    assert output(*words, *more, "--checkpoint", tmp_path / "second", "--resume") == whole
+    wrong = [word for word in words if word != "--right"]
+    output(*wrong, "--checkpoint", tmp_path / "second", "--resume", status=3)
+
+
 def test_a_search_that_is_killed(command: str, tmp_path: Path) -> None:
-    """Its checkpoint is whole, and the rest of the search comes to the same."""
+    """Its checkpoint is whole, what it hasn't written to the end is removed, and the rest of the search comes to the same."""
     words = [command, "stop_lost_at_detach", "--right", "--size", "4"]
     whole = output(*words)
     saved = tmp_path / "search"
-    searching = subprocess.Popen([*words, "--checkpoint", saved, "--every", "0"], stdout=subprocess.DEVNULL)
-    until = time.monotonic() + 60
-    while not Path(f"{saved}.1001").exists():
-        assert time.monotonic() < until and searching.poll() is None
-        time.sleep(0.001)
-    searching.send_signal(signal.SIGKILL)
-    assert searching.wait() == -signal.SIGKILL
-    assert output(*words, "--checkpoint", saved, "--resume") == whole
+    for moment in range(4):
+        left = Path(f"{saved}.1001")
+        left.unlink(missing_ok=True)
+        with subprocess.Popen([*words, "--checkpoint", saved, "--every", "0"], stdout=subprocess.DEVNULL) as searching:
+            until = time.monotonic() + 60
+            while not left.exists():
+                assert time.monotonic() < until and searching.poll() is None
+                time.sleep(0.001)
+            time.sleep(random.Random(moment).uniform(0, 0.5))
+            searching.kill()
+            assert searching.wait() in (0, -signal.SIGKILL)
+        Path(f"{saved}.1001.{searching.pid}.unfinished").write_bytes(b"half")
+        assert output(*words, "--checkpoint", saved, "--resume") == whole
+        assert list(tmp_path.iterdir()) == [left]
+
+
+def limited(kibibytes: int, *words: str | Path) -> subprocess.CompletedProcess[str]:
+    """A run that gets so much memory."""
+    shell = ["sh", "-c", f'ulimit -v {kibibytes}; exec "$@"', "sh"]
+    return subprocess.run([*shell, *words], capture_output=True, text=True, check=False)
+
+
+@pytest.mark.parametrize(
+    ("words", "limits", "most"),
+    [
+        (["--threads", "1"], [24_000, 35_000], 50_000),
+        (["--threads", "2"], [100_000, 200_000, 300_000], 300_000),
+        (["--threads", "1", "--symmetric"], [24_000, 28_000], 40_000),
+    ],
+    ids=["one", "two", "symmetric"],
+)
+def test_refused_memory(command: str, tmp_path: Path, words: list[str], limits: list[int], most: int) -> None:
+    """It ends a search, which can go on from its checkpoint."""
+    model = [command, "tracees", "--size", "5", *words]
+    whole = output(*model)
+    assert whole.startswith("all interleavings passed: ")
+    saved = ["--checkpoint", str(tmp_path / "search")]
+    for limit in [*limits, random.Random(most).randrange(24_000, most)]:
+        ended = limited(limit, *model, *saved)
+        assert ended.returncode == 3 and not ended.stderr, ended.stderr
+        assert "no failure among them: the system has refused memory" in ended.stdout.splitlines()[0]
+        assert output(*model, *saved, "--resume") == whole
+    for limit in range(6_000, 22_000, 4_000):  # too little for the start
+        ended = limited(limit, *model, "--checkpoint", tmp_path / "none")
+        assert ended.returncode in (3, 127) and "passed" not in ended.stdout, ended.stderr
 
 
 def test_the_example(cargo: Cargo, program: Path, tmp_path: Path) -> None:

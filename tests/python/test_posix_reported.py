@@ -1,0 +1,98 @@
+"""What a run says at its end of calls under PT_SYSCALL: those that aren't reported, and registers that take no effect."""
+
+from __future__ import annotations
+
+import pathlib
+import subprocess
+import sys
+
+import pytest
+from posix_kit import CC, RUN
+
+pytestmark = pytest.mark.usefixtures("posix")
+
+PROGRAM = """
+#include <sys/types.h>
+#include <sys/ptrace.h>
+#include <sys/syscall.h>
+#include <sys/wait.h>
+#include <machine/reg.h>
+#include <signal.h>
+#include <time.h>
+#include <unistd.h>
+
+static void set_register(pid_t pid)
+{{
+	struct ptrace_lwpinfo info;
+	struct reg registers;
+	ptrace(PT_LWPINFO, pid, (caddr_t)&info, sizeof info);
+	if (!(info.pl_flags & PL_FLAG_SCE) || info.pl_syscall_code == SYS_exit)
+		return;
+	ptrace(PT_GETREGS, pid, (caddr_t)&registers, 0);
+	registers.{register} = 0;
+	ptrace(PT_SETREGS, pid, (caddr_t)&registers, 0);
+}}
+
+int main(void)
+{{
+	int status;
+	pid_t pid = fork();
+	if (pid == 0) {{
+		struct timespec now = {{0, 0}};
+		sigset_t set;
+		sigemptyset(&set);
+		(void)now;
+		ptrace(PT_TRACE_ME, 0, NULL, 0);
+		raise(SIGSTOP);
+		{call};
+		_exit(0);
+	}}
+	while (waitpid(pid, &status, 0) == pid && WIFSTOPPED(status)) {{
+		set_register(pid);
+		ptrace({request}, pid, (caddr_t)1, 0);
+	}}
+	return 0;
+}}
+"""
+NOT_REPORTED = "calls that PT_SYSCALL doesn't report: "
+NO_EFFECT = "calls that don't take the registers that a debugger sets at their entry: "
+
+
+def run(folder: pathlib.Path, call: str, request: str = "PT_SYSCALL", register: str = "r_rbx") -> str:
+    """What a run of the program says."""
+    (folder / "program.c").write_text(PROGRAM.format(call=call, request=request, register=register))
+    subprocess.run([CC, "-g", "-o", folder / "program", folder / "program.c"], check=True)
+    done = subprocess.run([sys.executable, RUN, folder / "program"], capture_output=True, text=True, timeout=60)
+    assert done.returncode == 0, done.stderr
+    return done.stderr
+
+
+@pytest.mark.parametrize(
+    "call, name",
+    [
+        ("sigtimedwait(&set, NULL, &now)", "sigwait, sigwaitinfo, sigtimedwait"),
+        ("sigpending(&set)", "sigpending"),
+        ("clock_gettime(CLOCK_REALTIME, &now)", "clock_gettime, gettimeofday"),
+    ],
+)
+def test_calls_that_are_not_reported_are_told(call: str, name: str, tmp_path: pathlib.Path) -> None:
+    assert NOT_REPORTED + name in run(tmp_path, call)
+
+
+@pytest.mark.parametrize("call", ["getppid()", 'access("/", 0)', "nanosleep(&now, NULL)"])
+def test_nothing_is_told_of_calls_that_are_reported(call: str, tmp_path: pathlib.Path) -> None:
+    told = run(tmp_path, call, register="r_rsi")
+    assert NOT_REPORTED not in told and NO_EFFECT not in told
+
+
+def test_nothing_is_told_without_pt_syscall(tmp_path: pathlib.Path) -> None:
+    assert NOT_REPORTED not in run(tmp_path, "sigtimedwait(&set, NULL, &now)", request="PT_CONTINUE")
+
+
+def test_registers_that_take_no_effect_are_told(tmp_path: pathlib.Path) -> None:
+    told = run(tmp_path, "sleep(0), usleep(1)", register="r_rdi")
+    assert NO_EFFECT + "sleep, usleep, nanosleep, clock_nanosleep" in told
+
+
+def test_registers_of_no_call_are_not_told(tmp_path: pathlib.Path) -> None:
+    assert NO_EFFECT not in run(tmp_path, "usleep(1)", register="r_rbx")
