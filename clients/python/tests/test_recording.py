@@ -87,8 +87,8 @@ class Recordings(unittest.TestCase):
             user = host.user(1001)
             user.spawn()
             user.turn(100000, Enter(Call.FORK))
-            child = user.process(user.turn(100000, Leave()).pid)
-            child.ptrace(Request.PT_TRACE_ME, child.pid, 7)
+            user.turn(100000, Leave())
+            user.process(1001).ptrace(Request.PT_TRACE_ME, 1001, 7)
         self.assertEqual(json.loads(self.scenario.read_text())["steps"][3].get("target"), None)
         self.assertEqual(self.replayed().splitlines()[3], "1001 4 ok")
 
