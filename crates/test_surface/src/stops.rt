@@ -413,5 +413,8 @@ fn new_lwps_have_no_event(alloc: Global) -> Result<(), TestError> {
         code: 0,
     };
     let is_shown = info(&tables, traced.pid, made) == Some(shown);
-    expect(is_shown, "a debugger reads an event of an LWP that has none")
+    expect(
+        is_shown,
+        "a debugger reads an event of an LWP that has none",
+    )
 }
