@@ -39,29 +39,14 @@ from .actors import ZOMBIE, Process
 from .awaits import Awaits
 from .coroutines import Shared, Unlike
 from .host import Host
+from .judging import Asked, Judge, Property, State, no_progress, stuck
 from .reaching import can_reach, leads_to
 from .recording import Recording
-from .searching import (
-    Asked,
-    Choice,
-    Failure,
-    Judge,
-    LimitReached,
-    Maker,
-    Property,
-    Search,
-    State,
-    Taken,
-    World,
-    replayed,
-    stuck,
-    text_of,
-    users_of,
-)
+from .searching import Choice, Failure, LimitReached, Maker, Search, Taken, World, replayed, text_of, users_of
 
 __all__ = [
     "Found", "LimitReached", "Process", "Property", "Shared", "State", "Taken", "Unlike", "can_reach", "deadlock",
-    "ended_by_signal", "explore", "leads_to", "stuck", "unreported_stop",
+    "ended_by_signal", "explore", "leads_to", "no_progress", "stuck", "unreported_stop",
 ]  # fmt: skip
 
 _TRACE_STOP = 1
@@ -158,7 +143,7 @@ def explore(
     world: World,
     *,
     limit: int = 100_000,
-    properties: Iterable[Asked] = (deadlock, stuck),
+    properties: Iterable[Asked] = (deadlock, stuck, no_progress),
     together: bool = False,
     kill_on_debugger_exit: Optional[bool] = None,
 ) -> Found:
