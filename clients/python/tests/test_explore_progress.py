@@ -293,7 +293,7 @@ def test_a_failure_of_another_kind() -> None:
     assert explore(both(going_round(polls), then_sleeps(0))).why == waits
     assert explore(both(going_round(ignores), then_sleeps(0))).why == waits
     assert str(explore(both(going_round(ignores), lost_wakeup(True))).why).startswith("no_progress: debug goes round")
-    found = explore(both(going_round(polls), then_sleeps(2)), properties=[no_progress])
+    found = explore(both(going_round(polls), then_sleeps(2)))
     assert found.why == why("wait4(-1, WNOHANG)") and not found.trace
 
     def fails(host: Host) -> list[Function]:
@@ -328,12 +328,12 @@ edges = st.lists(st.lists(st.integers(0, 7), max_size=2), min_size=8, max_size=8
 
 
 @given(edges, bits, bits)
-def test_graphs_with_circles(after_each: list[list[int]], calls: list[int], gains: list[int]) -> None:
+def test_graphs_with_circles(after_each: list[list[int]], calls: list[int], changes: list[int]) -> None:
     graph = Graph()
     for number in range(8):
         graph.add(0, 0)
         graph.after[number].extend(after_each[number])
-        graph.calls[number], graph.gains[number] = calls[number], gains[number]
+        graph.calls[number], graph.changes[number] = calls[number], changes[number]
 
     def come(number: int, met: set[int]) -> set[int]:
         if number not in met:
@@ -344,7 +344,7 @@ def test_graphs_with_circles(after_each: list[list[int]], calls: list[int], gain
 
     def is_in_vain(number: int, bit: int) -> bool:
         behind = come(number, set())
-        return all(not gains[one] & bit and any(calls[later] & bit for later in come(one, set())) for one in behind)
+        return all(not changes[one] & bit and any(calls[later] & bit for later in come(one, set())) for one in behind)
 
     found = [(number, sum(bit for bit in (1, 2) if is_in_vain(number, bit))) for number in range(8)]
     assert graph.first_in_vain() == next(((number, bits) for number, bits in found if bits), None)
