@@ -329,7 +329,7 @@ edges = st.lists(st.lists(st.integers(0, 7), max_size=2), min_size=8, max_size=8
 
 @given(edges, bits, bits)
 def test_graphs_with_circles(after_each: list[list[int]], calls: list[int], changes: list[int]) -> None:
-    calls = [bits if after else 0 for bits, after in zip(calls, after_each)]  # each is a step to some state
+    calls = [own if after else 0 for own, after in zip(calls, after_each)]  # each is a step to some state
     graph = Graph()
     for number in range(8):
         graph.add(0, 0)
