@@ -283,14 +283,7 @@ pub fn read(path: &Path, identity: &Identity) -> io::Result<Saved> {
         sum: Hasher::new(),
         left,
     };
-    let mut magic = [0; 16];
-    input
-        .from
-        .read_exact(&mut magic)
-        .map_err(|_| broken("it is no checkpoint"))?;
-    if magic != *MAGIC {
-        return Err(broken("it is no checkpoint"));
-    }
+    check_magic(&mut input.from)?;
     check_identity(&mut input, identity)?;
     let (depth, transitions) = (input.word()?, input.word()?);
     let notes = input.words()?.iter().copied().collect();
@@ -316,6 +309,14 @@ pub fn read(path: &Path, identity: &Identity) -> io::Result<Saved> {
         notes,
         parts,
     })
+}
+
+fn check_magic(from: &mut impl Read) -> io::Result<()> {
+    let mut magic = [0; 16];
+    match from.read_exact(&mut magic) {
+        Ok(()) if magic == *MAGIC => Ok(()),
+        _ => Err(broken("it is no checkpoint")),
+    }
 }
 
 fn check_identity(input: &mut Input<impl Read>, identity: &Identity) -> io::Result<()> {

@@ -103,16 +103,11 @@ impl Search<'_> {
     /// The fault of a state from which something can't be reached.
     pub fn lack(&self, lacking: &Lacking, start: &Session) -> Result<Fault, Error> {
         let spot = self.replay(lacking.state, &mut start.try_clone()?, |_, _, _| ())?;
-        Ok(Fault {
-            failure: Failure {
-                property: self.properties[self.property_of(lacking.bit)].name.clone(),
-                why: self.lacks(lacking.bit, &spot),
-            },
-            from: lacking.state,
-            by: None,
-            is_mistake: false,
-            order: lacking.order,
-        })
+        let failure = Failure {
+            property: self.properties[self.property_of(lacking.bit)].name.clone(),
+            why: self.lacks(lacking.bit, &spot),
+        };
+        Ok(Fault::new(failure, lacking.state, None, lacking.order))
     }
 
     /// What can't be reached from a state, in words.

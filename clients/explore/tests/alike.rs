@@ -226,6 +226,18 @@ fn unequal_scripts_are_refused() {
     }
 }
 
+/// A debugger, and two that are said to be equal, by their names and numbers.
+fn with_equal(debugger: Script, two: [(String, New); 2]) -> Vec<Box<dyn Process>> {
+    let mut processes: Vec<Box<dyn Process>> = vec![Box::new(debugger)];
+    for (name, own) in two {
+        let mut script = Script::new(name, USER, own);
+        script.exchange(1);
+        script.act(Act::Compute);
+        processes.push(Box::new(script));
+    }
+    processes
+}
+
 /// The first LWP of a process is the one that an attach stops, so its LWPs aren't equal.
 #[test]
 fn lwps_of_one_process_are_refused() {
@@ -235,18 +247,12 @@ fn lwps_of_one_process_are_refused() {
         let Reply::New(second) = host.turn(USER, target.lwp, Act::Leave)? else {
             unreachable!("a new LWP")
         };
-        let mut scripts = vec![Script::new("debugger", USER, debugger)];
-        scripts[0].act(Act::Compute);
-        for own in [target, second] {
-            let mut script = Script::new(format!("LWP {}", own.lwp), USER, own);
-            script.exchange(1);
-            script.act(Act::Compute);
-            scripts.push(script);
-        }
-        Ok(scripts
-            .into_iter()
-            .map(|script| Box::new(script) as Box<dyn Process>)
-            .collect())
+        let mut script = Script::new("debugger", USER, debugger);
+        script.act(Act::Compute);
+        Ok(with_equal(
+            script,
+            [target, second].map(|own| (format!("LWP {}", own.lwp), own)),
+        ))
     });
     assert_eq!(
         refusal(&model),
@@ -260,18 +266,10 @@ fn processes_that_are_not_there_are_refused() {
     let model = Model::new("unborn", |host| {
         let debugger = host.spawn(USER)?;
         let mut copy = host.try_clone()?;
-        let mut scripts = vec![Script::new("debugger", USER, debugger)];
-        scripts[0].call(Call::Fork);
-        for _ in 0..2 {
-            let mut script = Script::new("child", USER, copy.spawn(USER)?);
-            script.exchange(1);
-            script.act(Act::Compute);
-            scripts.push(script);
-        }
-        Ok(scripts
-            .into_iter()
-            .map(|script| Box::new(script) as Box<dyn Process>)
-            .collect())
+        let mut script = Script::new("debugger", USER, debugger);
+        script.call(Call::Fork);
+        let children = [copy.spawn(USER)?, copy.spawn(USER)?];
+        Ok(with_equal(script, children.map(|own| ("child".to_owned(), own))))
     });
     assert_eq!(
         refusal(&model),

@@ -1,4 +1,4 @@
-"""Properties of what can still come (`stuck`, `can_reach`, `leads_to`), against an enumeration by plain lists."""
+"""Properties of what can still come (`stuck`, `no_progress`, `can_reach`, `leads_to`), against an enumeration by plain lists."""
 
 from __future__ import annotations
 
@@ -44,7 +44,8 @@ def test_worlds_by_chance() -> None:
             assert verdict(found) == (depth is None, depth or 0), (seed, name, scripts, str(found))
             counts[name, found.passed] += 1
         assert explore(world, properties=[deadlock]).passed == explore(world, properties=[stuck]).passed
-    assert min(counts[name, passed] for name in ASKED for passed in (False, True)) > WORLDS // 50, counts
+    assert counts.pop(("no_progress", True)) == WORLDS and ("no_progress", False) not in counts, "none goes round"
+    assert len(counts) == 2 * len(ASKED) - 2 and min(counts.values()) > WORLDS // 50, counts
 
 
 edges = st.lists(st.lists(st.integers(0, 11), max_size=3), min_size=12, max_size=12)

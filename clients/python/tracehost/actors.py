@@ -145,6 +145,11 @@ class Step(Generic[_T]):
         """Of a wait for any process, which of them it may be for."""
         self.is_awaited = False
 
+    @property
+    def is_call(self) -> bool:
+        """Whether a process makes it; else it is a turn of an LWP."""
+        return bool(self.asked[0] != "turn")
+
     def __del__(self) -> None:
         if not self.is_awaited:
             _forgotten.steps.append(str(self))

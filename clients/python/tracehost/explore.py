@@ -39,29 +39,14 @@ from .actors import ZOMBIE, Process
 from .awaits import Awaits
 from .coroutines import Shared, Unlike
 from .host import Host
+from .judging import Asked, Judge, Property, State, no_progress, stuck
 from .reaching import can_reach, leads_to
 from .recording import Recording
-from .searching import (
-    Asked,
-    Choice,
-    Failure,
-    Judge,
-    LimitReached,
-    Maker,
-    Property,
-    Search,
-    State,
-    Taken,
-    World,
-    replayed,
-    stuck,
-    text_of,
-    users_of,
-)
+from .searching import Choice, Failure, LimitReached, Maker, Search, Taken, World, replayed, text_of, users_of
 
 __all__ = [
     "Found", "LimitReached", "Process", "Property", "Shared", "State", "Taken", "Unlike", "can_reach", "deadlock",
-    "ended_by_signal", "explore", "leads_to", "stuck", "unreported_stop",
+    "ended_by_signal", "explore", "leads_to", "no_progress", "stuck", "unreported_stop",
 ]  # fmt: skip
 
 _TRACE_STOP = 1
@@ -158,17 +143,17 @@ def explore(
     world: World,
     *,
     limit: int = 100_000,
-    properties: Iterable[Asked] = (deadlock, stuck),
+    properties: Iterable[Asked] = (deadlock, stuck, no_progress),
     together: bool = False,
     kill_on_debugger_exit: Optional[bool] = None,
 ) -> Found:
-    """Searches all interleavings of the coroutines of a world.
+    """Searches all interleavings of a world's coroutines.
 
     `world` gets a `Host`, makes processes and what else comes before, and returns coroutine functions. No coroutine may raise
-    anything, and these `properties` have to hold: `deadlock`, `stuck` (each that waits can still come to a state in which it
-    goes on), `unreported_stop`, `ended_by_signal`, `can_reach`, `leads_to`, and functions that look at a host, assert, or
-    return whether all is well. With `together` the coroutines of several users are searched at once; without it a function
-    that looks at a host, or at a copy of it, sees only the user who is searched (else ValueError).
+    anything, and these `properties` have to hold: `deadlock`, `stuck` (each wait can still end), `no_progress` (none goes round
+    with calls that change nothing), `unreported_stop`, `ended_by_signal`, `can_reach`, `leads_to`, and functions that look at a
+    host, assert, or return whether all is well. With `together` the coroutines of several users are searched at once; without
+    it a function that looks at a host, or at a copy of it, sees only the user who is searched (else ValueError).
 
     Raises LimitReached if there are more than `limit` states, and Unlike if the world, or a coroutine, isn't the same when it
     is made again. NotImplementedError, FileNotFoundError and OSError are as of `Host`: the library is needed.

@@ -119,26 +119,29 @@ fn asked(mut words: impl Iterator<Item = OsString>) -> Result<Asked, Stop> {
         }
     }
     let race = race.ok_or_else(|| Stop::Mistake("a model is missing".to_owned()))?;
-    let mistake = if !(1..=64).contains(&users) {
+    let asked = Asked {
+        race,
+        right,
+        size,
+        users,
+        ticker,
+        save,
+        options,
+    };
+    mistake(&asked).map_or(Ok(asked), |mistake| Err(Stop::Mistake(mistake)))
+}
+
+/// What doesn't fit together.
+fn mistake(asked: &Asked) -> Option<String> {
+    let race = asked.race;
+    if !(1..=64).contains(&asked.users) {
         Some("--users is 1 to 64".to_owned())
-    } else if size.is_some_and(|size| !race.sizes().contains(&size)) {
+    } else if asked.size.is_some_and(|size| !race.sizes().contains(&size)) {
         Some(format!("--size of {} is {:?}", race.name, race.sizes()))
-    } else if options.resume && options.checkpoint.is_none() {
+    } else if asked.options.resume && asked.options.checkpoint.is_none() {
         Some("--resume needs --checkpoint".to_owned())
     } else {
         None
-    };
-    match mistake {
-        Some(mistake) => Err(Stop::Mistake(mistake)),
-        None => Ok(Asked {
-            race,
-            right,
-            size,
-            users,
-            ticker,
-            save,
-            options,
-        }),
     }
 }
 
