@@ -211,6 +211,8 @@ void cast_spawn(int lwp, long user)
         pid_t own = system_is_reaper ? 0 : fork();
         if (own != 0)
             _exit(own < 0);
+        signal(SIGPIPE, SIG_DFL);
+        signal(SIGTERM, SIG_DFL);
         system_become(geteuid() == 0 ? native_user(user) : -1);
         for (int descriptor = 0; descriptor <= 2; descriptor++)
             close(descriptor);

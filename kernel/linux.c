@@ -126,7 +126,7 @@ pid_t system_fork_inner(void)
 
 void system_inner(void)
 {
-    prctl(PR_SET_PDEATHSIG, SIGKILL);
+    prctl(PR_SET_PDEATHSIG, private_numbers ? SIGKILL : SIGTERM);
     if (!private_numbers)
         prctl(PR_SET_CHILD_SUBREAPER, 1);
 }

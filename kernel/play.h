@@ -216,9 +216,52 @@ void steps_begin(void);
 /* Makes the step: `text` gets the kernel's reply, or why it can't be made here. */
 enum made step_make(const struct line *line, char *text, size_t size);
 
-/* ---- faults (tracehost-play.c) */
+/* ---- rows of the model, and of the kernel (rows.c) */
 
+struct row_difference {
+    bool is_lwp, same;
+    long number;
+    const char *field, *model, *kernel;
+};
+typedef void (*rows_difference)(const struct row_difference *, void *);
+
+void rows_begin(void);
+void rows_keep(void); /* what is stated from now on comes after the step */
+void rows_state(const struct line *line);
+void rows_field(bool after, bool is_lwp, long number, const char *field, char *text, size_t size);
+int rows_compare(rows_difference told, void *with); /* how many were compared */
+
+/* ---- known differences (differences.c) */
+
+struct known {
+    char *name, *step, *condition, *model, *kernel;
+    bool follows;
+    long times;
+};
+
+struct found {
+    const struct line *line;
+    const char *step; /* in place of the line's words */
+    bool kills, row_is_lwp;
+    long row;
+    const char *model, *kernel;
+};
+
+void differences_read(const char *name);
+struct known *differences_find(const struct found *found);
+int differences_count(void);
+struct known *differences_at(int place);
+
+/* ---- playing (play.c) */
+
+void play_file(FILE *file, const char *name, FILE *results);
+int play_summary(void); /* prints it; the status */
+
+/* ---- the end (tracehost-play.c) */
+
+enum { STATUS_SAME, STATUS_DIFFERS, STATUS_WRONG, STATUS_FAULT };
 void fault(const char *format, ...) __attribute__((noreturn, format(printf, 1, 2)));
+void finish(int status) __attribute__((noreturn));
 double seconds_now(void);
 
 #endif

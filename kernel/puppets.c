@@ -59,10 +59,11 @@ static int make_vfork_child(struct slot *self, int slot)
 
 static int become_image(const struct slot *self)
 {
-    char slot[16], descriptor[16];
+    char slot[16], stage_number[16], image_number[16];
     snprintf(slot, sizeof slot, "%d", (int)(self - stage->slots));
-    snprintf(descriptor, sizeof descriptor, "%d", stage_descriptor);
-    char *words[] = {PUPPET_NAME, slot, descriptor, NULL}, *none[] = {NULL};
+    snprintf(stage_number, sizeof stage_number, "%d", stage_descriptor);
+    snprintf(image_number, sizeof image_number, "%d", image_descriptor);
+    char *words[] = {PUPPET_NAME, slot, stage_number, image_number, NULL}, *none[] = {NULL};
     return fexecve(image_descriptor, words, none);
 }
 
