@@ -50,9 +50,6 @@ static void add(const char *name, int line, char **cells)
         .follows = strcmp(cells[5], "follow") == 0};
     if (strcmp(cells[5], "follow") != 0 && strcmp(cells[5], "end") != 0)
         wrong(name, line, "`then` is neither `follow` nor `end`");
-    for (int i = 0; i < known_count - 1; i++)
-        if (strcmp(known[i].name, cells[0]) == 0)
-            wrong(name, line, "this name is taken");
 }
 
 void differences_read(const char *name)
@@ -164,12 +161,43 @@ static const char *step_words(const struct line *line)
     return colon == NULL ? line->text : colon + 1 + strspn(colon + 1, " ");
 }
 
+/* Marks the lines whose step it is; most of what is compared belongs to the same step as before. */
+static void mark_candidates(const char *step)
+{
+    static char last[LONG_TEXT];
+    if (strcmp(last, step) == 0)
+        return;
+    snprintf(last, sizeof last, "%s", step);
+    for (int i = 0; i < known_count; i++)
+        known[i].candidate = fnmatch(known[i].step, step, 0) == 0;
+}
+
 struct known *differences_find(const struct found *found)
 {
-    for (int i = 0; i < known_count; i++)
-        if (fnmatch(known[i].step, found->step != NULL ? found->step : step_words(found->line), 0) == 0 &&
-            fnmatch(known[i].model, found->model, 0) == 0 && fnmatch(known[i].kernel, found->kernel, 0) == 0 &&
-            all_hold(known[i].condition, found))
-            return &known[i];
-    return NULL;
+    struct known *first = NULL;
+    bool same = strcmp(found->model, found->kernel) == 0;
+    mark_candidates(found->step != NULL ? found->step : step_words(found->line));
+    for (int i = 0; i < known_count; i++) {
+        if (!known[i].candidate || fnmatch(known[i].model, found->model, 0) != 0 || !all_hold(known[i].condition, found))
+            continue;
+        known[i].met++;
+        if (first == NULL && !same && fnmatch(known[i].kernel, found->kernel, 0) == 0)
+            first = &known[i];
+    }
+    return first;
+}
+
+/* Lines of one name count together. */
+bool differences_sum(int place, long *times, long *met)
+{
+    *times = *met = 0;
+    for (int i = 0; i < known_count; i++) {
+        if (strcmp(known[i].name, known[place].name) != 0)
+            continue;
+        if (i < place)
+            return false;
+        *times += known[i].times;
+        *met += known[i].met;
+    }
+    return true;
 }

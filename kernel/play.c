@@ -29,8 +29,7 @@ static struct playing {
     long compared;
     enum verdict verdict;
     bool over;
-    const struct known *known; /* the first one */
-    const struct line *where;
+    const struct line *where; /* the first difference, or why it is over */
     char step[LONG_TEXT], model[LONG_TEXT], kernel[LONG_TEXT];
     unsigned caught[MOST_LWPS][MODEL_SIGNALS];
     int ignored_count;
@@ -51,8 +50,8 @@ static void note(const struct line *line, const char *step, const char *model, c
 static bool listed(struct known *known, const struct line *line, const char *step, const char *model, const char *kernel)
 {
     known->times++;
-    if (playing.known == NULL) {
-        playing.known = known;
+    known->here = true;
+    if (playing.verdict == VERDICT_SAME) {
         playing.verdict = VERDICT_LISTED;
         note(line, step, model, kernel);
     }
@@ -74,9 +73,11 @@ static void compare_reply(const struct line *line, const char *step, const char 
 {
     struct found found = {
         .line = line, .step = step == line->text ? NULL : step, .kills = playing.session->kills, .model = model, .kernel = kernel};
-    if (playing.over || strcmp(model, kernel) == 0)
+    if (playing.over)
         return;
     struct known *known = differences_find(&found);
+    if (strcmp(model, kernel) == 0)
+        return;
     if (known != NULL)
         listed(known, line, step, model, kernel);
     else
@@ -111,7 +112,7 @@ static void compare_row(const struct row_difference *row, void *with)
     int place = place_of(row);
     if (row->same && place < playing.ignored_count)
         playing.ignored[place] = playing.ignored[--playing.ignored_count];
-    if (row->same || place < playing.ignored_count || playing.over)
+    if ((!row->same && place < playing.ignored_count) || playing.over)
         return;
     snprintf(model, sizeof model, "%s=%s", row->field, row->model);
     snprintf(kernel, sizeof kernel, "%s=%s", row->field, row->kernel);
@@ -123,6 +124,8 @@ static void compare_row(const struct row_difference *row, void *with)
         .kernel = kernel};
     snprintf(step, sizeof step, "%s: %s %ld", line->text, row->is_lwp ? "lwp" : "process", row->number);
     struct known *known = differences_find(&found);
+    if (row->same)
+        return;
     if (known == NULL)
         unlisted(line, step, model, kernel);
     else if (listed(known, line, step, model, kernel))
@@ -251,12 +254,24 @@ static long count_steps(const struct session *session)
     return steps;
 }
 
+/* Lines may have one name, which is told once. */
+static bool is_first_here(int place)
+{
+    for (int i = 0; i < place; i++)
+        if (differences_at(i)->here && strcmp(differences_at(i)->name, differences_at(place)->name) == 0)
+            return false;
+    return differences_at(place)->here;
+}
+
 static void write_result(FILE *results)
 {
-    static const char *const names[] = {"same", "listed ", "differs", "not tried"};
+    static const char *const names[] = {"same", "listed", "differs", "not tried"};
     bool same = playing.verdict == VERDICT_SAME;
-    fprintf(results, "%s\t%s%s\t%ld\t%ld\t%d\t%s\t%s\t%s\n", playing.session->name, names[playing.verdict],
-        playing.verdict == VERDICT_LISTED ? playing.known->name : "", playing.compared, count_steps(playing.session),
+    fprintf(results, "%s\t%s", playing.session->name, names[playing.verdict]);
+    for (int i = 0; i < differences_count(); i++)
+        if (playing.verdict == VERDICT_LISTED && is_first_here(i))
+            fprintf(results, " %s", differences_at(i)->name);
+    fprintf(results, "\t%ld\t%ld\t%d\t%s\t%s\t%s\n", playing.compared, count_steps(playing.session),
         same ? 0 : playing.where->number, same ? "" : playing.step, same ? "" : playing.model, same ? "" : playing.kernel);
 }
 
@@ -264,7 +279,9 @@ static void play_session(const struct session *session, const char *file, FILE *
 {
     playing.file = file, playing.session = session;
     playing.compared = 0, playing.verdict = VERDICT_SAME, playing.over = false;
-    playing.known = NULL, playing.where = NULL, playing.ignored_count = 0;
+    playing.where = NULL, playing.ignored_count = 0;
+    for (int i = 0; i < differences_count(); i++)
+        differences_at(i)->here = false;
     memset(playing.caught, 0, sizeof playing.caught);
     steps_begin();
     rows_begin();
@@ -296,13 +313,17 @@ void play_file(FILE *file, const char *name, FILE *results)
     }
 }
 
-int play_summary(void)
+int play_summary(FILE *results)
 {
+    long times, met;
     printf("%s: %ld sessions, %ld steps, %ld of them compared; %ld rows compared\n", system_name, total.sessions, total.steps,
         total.compared, total.rows);
     for (int i = 0; i < differences_count(); i++)
-        if (differences_at(i)->times > 0)
-            printf("listed %s: %ld\n", differences_at(i)->name, differences_at(i)->times);
+        if (differences_sum(i, &times, &met)) {
+            printf("listed %s: %ld of %ld\n", differences_at(i)->name, times, met);
+            if (results != NULL)
+                fprintf(results, "difference\t%s\t%ld\t%ld\n", differences_at(i)->name, times, met);
+        }
     for (int i = 0; i < total.reasons; i++)
         printf("not tried, %s: %ld\n", total.reason[i].why, total.reason[i].times);
     printf("unlisted: %ld\n", total.unlisted);

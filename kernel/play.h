@@ -235,8 +235,8 @@ int rows_compare(rows_difference told, void *with); /* how many were compared */
 
 struct known {
     char *name, *step, *condition, *model, *kernel;
-    bool follows;
-    long times;
+    bool follows, candidate, here; /* here: in this session */
+    long times, met; /* how often the kernel differed so, of how many times that it could have */
 };
 
 struct found {
@@ -248,14 +248,15 @@ struct found {
 };
 
 void differences_read(const char *name);
-struct known *differences_find(const struct found *found);
+struct known *differences_find(const struct found *found); /* NULL: no difference, or one that isn't listed */
+bool differences_sum(int place, long *times, long *met); /* of its name; false if an earlier line has that */
 int differences_count(void);
 struct known *differences_at(int place);
 
 /* ---- playing (play.c) */
 
 void play_file(FILE *file, const char *name, FILE *results);
-int play_summary(void); /* prints it; the status */
+int play_summary(FILE *results); /* prints it; the status */
 
 /* ---- the end (tracehost-play.c) */
 

@@ -171,7 +171,7 @@ static void play_all(const struct options *options)
         play_file(file, *name, results);
         fclose(file);
     }
-    finish(play_summary());
+    finish(play_summary(results));
 }
 
 static void __attribute__((noreturn)) be_inner(int outer_lives, const struct options *options)
