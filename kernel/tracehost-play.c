@@ -178,15 +178,15 @@ static void __attribute__((noreturn)) be_inner(int outer_lives, const struct opt
 {
     struct pollfd outer = {.fd = outer_lives, .events = POLLIN};
     is_inner = true;
-    setsid();
-    reset_inherited();
+    if (system_is_reaper)
+        reset_inherited();
     signal(SIGPIPE, SIG_IGN);
     if (!private_numbers)
         signal(SIGTERM, note_signal);
     system_inner();
-    if (poll(&outer, 1, 0) != 0) /* it has ended before it could be noticed */
+    if (system_is_reaper && poll(&outer, 1, 0) != 0) /* it has ended before it could be noticed */
         _exit(STATUS_FAULT);
-    if (!private_numbers)
+    if (system_is_reaper && !private_numbers)
         fprintf(stderr, "tracehost-play: no private numbers of processes here: signals to all processes aren't tried\n");
     play_all(options);
     _exit(STATUS_FAULT);
