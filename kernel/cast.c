@@ -1,5 +1,4 @@
 /* The cast of a session: its processes and LWPs, asking them, and waiting until the kernel has nothing left to do. */
-#define _GNU_SOURCE
 #include <errno.h>
 #include <sched.h>
 #include <signal.h>

@@ -5,7 +5,6 @@
 #else
 #define ON_MODEL 0
 #endif
-#define _GNU_SOURCE
 #include <sys/param.h>
 #include <sys/types.h>
 #include <sys/mman.h>
@@ -211,11 +210,12 @@ int system_other(long number)
 
 /* ---- what sysctl(3) says */
 
-static int look(int what, int number, struct kinfo_proc *found, int most)
+/* Of one process, or of all if `what` has no number. */
+static int look(int what, pid_t number, struct kinfo_proc *found, int most)
 {
     const int name[4] = {CTL_KERN, KERN_PROC, what, number};
     size_t size = (size_t)most * sizeof *found;
-    if (sysctl(name, what == KERN_PROC_PROC ? 3 : 4, found, &size, NULL, 0) < 0 && errno != ENOMEM)
+    if (sysctl(name, number == 0 ? 3 : 4, found, &size, NULL, 0) < 0 && errno != ENOMEM)
         return 0;
     return (int)(size / sizeof *found) < most ? (int)(size / sizeof *found) : most;
 }

@@ -1,5 +1,4 @@
 /* The player's view of Linux: /proc, private numbers of processes, the requests of ptrace(2) that FreeBSD has too. */
-#define _GNU_SOURCE
 #include <ctype.h>
 #include <dirent.h>
 #include <errno.h>
