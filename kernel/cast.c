@@ -185,13 +185,13 @@ enum outcome cast_await(int lwp)
     struct slot *slot = &stage->slots[lwp];
     unsigned number = atomic_load(&slot->asked);
     while (atomic_load(&slot->done) != number) {
-        if (slot->command.act == ACT_VFORK &&
-            system_find_newborn(&stage->slots[slot->command.child], atomic_load(&slot->process), false))
-            return OUT_BORN;
         give_way(&wait, lwp);
         if (wait.rounds % LOOK != 0)
             continue;
         enum state state = cast_lwp_state(lwp);
+        if (state == STATE_WAITS && slot->command.act == ACT_VFORK &&
+            system_find_newborn(&stage->slots[slot->command.child], atomic_load(&slot->process), false))
+            return OUT_BORN;
         if (state == STATE_GONE || state == STATE_ZOMBIE) {
             if (slot->command.act != ACT_EXEC || cast_state(cast.lwp[lwp].process) != STATE_RUNS)
                 return OUT_GONE;
