@@ -139,8 +139,8 @@ static void give_way(struct wait *wait, int lwp)
     const struct slot *slot = &stage->slots[lwp];
     int process = atomic_load(&slot->process);
     long native = atomic_load(&slot->lwp);
-    fault("LWP %ld hangs: it does nothing for too long; the kernel says that thread %ld of process %d is `%s`", cast.lwp[lwp].number,
-        native, process, state_word(system_lwp_state(process, native)));
+    fault("LWP %ld hangs: it does nothing for too long; the kernel says that thread %ld of process %d is `%s`",
+        cast.lwp[lwp].number, native, process, state_word(system_lwp_state(process, native)));
 }
 
 enum state cast_lwp_state(int lwp)
@@ -214,9 +214,23 @@ enum outcome cast_ask(int lwp, const struct command *command)
     return cast_await(lwp);
 }
 
+/* Without private numbers a signal to all of a user, and the host's limits, concern whoever else is that user. */
+static void claim_user(long user)
+{
+    pid_t found[MOST_LWPS];
+    if (private_numbers || !plays_users())
+        return;
+    for (int i = 0; i < cast.processes; i++)
+        if (cast.process[i].user == user && cast.process[i].native != 0)
+            return;
+    if (system_list(native_user(user), found, MOST_LWPS) > 0)
+        fault("user %ld of the system has processes of their own", native_user(user));
+}
+
 /* Makes the first LWP of a new process: a child of the player, or of process 1 where that is another one. */
 void cast_spawn(int lwp, long user)
 {
+    claim_user(user);
     pid_t child = fork();
     if (child < 0)
         fault("the host refuses a new process: %s", strerror(errno));

@@ -105,8 +105,8 @@ static int lwp_of(const struct line *line, const struct reply *reply)
 }
 
 /* Asks an LWP of the caller. False: the reply is given, and `made` says whether the call was made. */
-static bool ask_caller(const struct line *line, const struct command *command, const struct reply *reply, struct answer *answer,
-    enum made *made)
+static bool ask_caller(
+    const struct line *line, const struct command *command, const struct reply *reply, struct answer *answer, enum made *made)
 {
     int process = caller_of(line, reply), lwp = process < 0 ? -1 : free_lwp_of(process);
     *made = MADE;
