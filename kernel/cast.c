@@ -263,6 +263,20 @@ void cast_collect(void)
         ;
 }
 
+/* Whether it is in vfork(2), and the child has neither ended nor become another image. */
+bool cast_waits_for_child(int lwp)
+{
+    const struct command *command = &stage->slots[lwp].command;
+    if (!cast_busy(lwp) || command->act != ACT_VFORK)
+        return false;
+    int process = cast.lwp[command->child].process;
+    enum state state = cast_state(process);
+    for (int i = 0; i < cast.lwps; i++)
+        if (cast.lwp[i].process == process && atomic_load(&stage->slots[i].is_image))
+            return false;
+    return state != STATE_GONE && state != STATE_ZOMBIE;
+}
+
 /* The end of tracing lifts suspensions. */
 static bool still_traced(int process)
 {
@@ -282,7 +296,7 @@ static enum state settle_lwp(int lwp)
         if (wait.rounds % LOOK != 0)
             continue;
         enum state state = cast_lwp_state(lwp);
-        if (state == STATE_WAITS && slot->command.act == ACT_VFORK && cast_busy(lwp))
+        if (state == STATE_WAITS && cast_waits_for_child(lwp))
             return state;
         if (state != STATE_RUNS && state != STATE_WAITS)
             return state;

@@ -94,7 +94,7 @@ static int lwp_of(const struct line *line, const struct reply *reply)
     int process = lwp < 0 ? -1 : cast.lwp[lwp].process;
     enum state state = lwp < 0 || cast.lwp[lwp].gone || cast.process[process].user != line->user ? STATE_GONE : cast_state(process);
     enum state own = state == STATE_GONE ? STATE_GONE : cast_lwp_state(lwp);
-    bool waits = own != STATE_GONE && cast_busy(lwp) && stage->slots[lwp].command.act == ACT_VFORK;
+    bool waits = own != STATE_GONE && cast_waits_for_child(lwp);
     if (state == STATE_GONE || state == STATE_ZOMBIE || own == STATE_GONE || own == STATE_ZOMBIE)
         refuse(reply, ESRCH);
     else if (is_stopped(state) || is_stopped(own) || cast.lwp[lwp].suspended || waits)
@@ -425,7 +425,8 @@ static enum made make_leave(int lwp, const struct reply *reply)
         return plain(reply, &slot->answer);
     if (command->act == ACT_EXIT)
         return say(reply, "ended %ld", command->number * 256);
-    return say(reply, cast_state(cast.lwp[lwp].process) == STATE_RUNS ? "ok" : "ended 0");
+    enum state state = cast_state(cast.lwp[lwp].process);
+    return say(reply, state == STATE_GONE || state == STATE_ZOMBIE ? "ended 0" : "ok");
 }
 
 /* Whether the LWP has made another one, whose stop keeps it in the call. */
