@@ -212,6 +212,28 @@ static void make_and_compare(const struct line *line)
         compare_reply(line, line->text, line->reply, got);
 }
 
+/* What the last turn of the group says of its process: behind it nothing has happened. */
+static void compare_last(size_t at, size_t end)
+{
+    const struct line *line = NULL;
+    for (size_t i = at; i < end; i++)
+        if (is_turn(&playing.session->lines[i], "compute"))
+            line = &playing.session->lines[i];
+    int lwp = line == NULL ? -1 : cast_lwp(line->actor);
+    if (lwp < 0)
+        return;
+    struct row_difference row = {.number = cast.process[cast.lwp[lwp].process].number, .field = "state"};
+    if (place_of(&row) < playing.ignored_count) /* its row is known to differ */
+        return;
+    enum state state = cast_state(cast.lwp[lwp].process);
+    bool ended = state == STATE_GONE || state == STATE_ZOMBIE;
+    const char *kernel = is_stopped(state) ? "stopped" : ended ? "ended" : "ok";
+    const char *model = strncmp(line->reply, "caught ", strlen("caught ")) == 0 ? "ok" : line->reply;
+    bool told = strncmp(model, "held", strlen("held")) != 0 && strncmp(model, "error ", strlen("error ")) != 0;
+    if (told && strncmp(model, kernel, strlen(kernel)) != 0)
+        compare_reply(line, line->text, line->reply, kernel);
+}
+
 static void play_group(size_t at, size_t end)
 {
     const struct line *lines = playing.session->lines;
@@ -232,6 +254,7 @@ static void play_group(size_t at, size_t end)
     compare_caught(&lines[at]);
     if (!playing.over)
         total.rows += rows_compare(compare_row, (void *)&lines[at]);
+    compare_last(at, end);
     keep_caught();
     rows_keep();
 }
@@ -349,8 +372,10 @@ static void play_session(const struct session *session, const char *file, FILE *
     total.sessions++;
     total.steps += count_steps(session);
     total.compared += playing.compared;
-    if (results != NULL)
+    if (results != NULL) {
         write_result(results);
+        fflush(results);
+    }
 }
 
 void play_file(FILE *file, const char *name, FILE *results)
