@@ -206,10 +206,12 @@ static size_t end_of_group(size_t at)
 static void make_and_compare(const struct line *line)
 {
     char got[LONG_TEXT];
-    if (step_make(line, got, sizeof got) == NOT_TRIED)
+    if (step_make(line, got, sizeof got) == NOT_TRIED) {
         not_tried(line, got);
-    else
-        compare_reply(line, line->text, line->reply, got);
+        return;
+    }
+    playing.compared++;
+    compare_reply(line, line->text, line->reply, got);
 }
 
 /* What the last turn of the group says of its process: behind it nothing has happened. */
@@ -241,7 +243,7 @@ static void play_group(size_t at, size_t end)
     for (size_t i = at + 1; i < end && !playing.over; i++)
         if (is_turn(&lines[i], "leave"))
             make_and_compare(&lines[i]);
-    if (playing.verdict == VERDICT_NOT_TRIED)
+    if (playing.over) /* an LWP may be in the midst of a call that nobody looks at */
         return;
     cast_settle();
     for (size_t i = at; i < end && !playing.over; i++) {
@@ -249,7 +251,7 @@ static void play_group(size_t at, size_t end)
             rows_state(&lines[i]);
         else if (is_turn(&lines[i], "compute") && strncmp(lines[i].reply, "caught ", strlen("caught ")) == 0)
             expect_caught(&lines[i]);
-        playing.compared += lines[i].reply != NULL;
+        playing.compared += lines[i].reply != NULL && is_turn(&lines[i], "compute") && i > at;
     }
     compare_caught(&lines[at]);
     if (!playing.over)

@@ -152,7 +152,7 @@ def changed_replies() -> list[list[str]]:
         for place, line in enumerate(session):
             step, arrow, reply = line.partition(" -> ")
             kind = reply.split()[0] if arrow else ""
-            exchanged = other.get(kind, "held" if kind in ("status", "error", "pids", "stopped") else "ok")
+            exchanged = other.get(kind, "held" if kind in ("status", "error", "pids") else "ok")
             if kind == "new":
                 exchanged = f"new {reply.split()[1]} {int(reply.split()[2]) + 1}"
             if arrow:
@@ -194,7 +194,7 @@ def dropped() -> list[list[str]]:
 @pytest.mark.parametrize("change", [changed_replies, changed_fields, dropped])
 def test_a_changed_model_is_found(change: Callable[[], list[list[str]]], player: Path, tmp_path: Path) -> None:
     sessions = change()
-    assert len(sessions) > 15
+    assert len(sessions) > 10
     results = tmp_path / "results.tsv"
     done = run(player, "--results", results, text=text_of(sessions))
     assert done.returncode == 1
@@ -231,7 +231,7 @@ def test_a_known_difference_is_followed_or_ends_the_session(player: Path, tmp_pa
         (row,) = results_of(results)
         assert row[1:5] == ("listed kill_default", compared, 3, 3)
         assert row[5:] == ("sigaction 1000 9 default", "ok", "error EINVAL 22")
-        assert counts_of(results) == {"kill_default": (1, 1), "other": (0, 2)}
+        assert counts_of(results) == {"kill_default": (1, 1), "other": (0, 1)}
 
 
 @pytest.mark.parametrize(
