@@ -141,6 +141,27 @@ kill 1000 -1 0 -> error ESRCH 3
     assert run(player, text=text).returncode == 0
 
 
+def test_a_handler_that_runs_as_vfork_returns_is_its_maker_s(player: Path) -> None:
+    caught = "caught=20"
+    row = f"user=1001 state=runs tracer=0 lwps=1 pending=- ignored=- {caught}"
+    session = f"""spawn -> new 1000 100000
+sigaction 1000 20 catch -> ok
+= process 1000 parent=1 {row}
+= lwp 100000 process=1000 blocked=- pending=-
+turn 100000 enter vfork -> ok
+turn 100000 leave -> new 1001 100001
+= process 1001 parent=1000 {row}
+= lwp 100001 process=1001 blocked=- pending=-
+turn 100001 enter exit 3 -> ok
+turn 100001 leave -> ended 768
+turn 100000 compute -> caught 20
+= process 1001 user=1001 state=zombie parent=1000 tracer=0 lwps=0
+= gone lwp 100001
+"""
+    done = run(player, text="\n".join(f"# {number}\n{session}" for number in range(50)))
+    assert (done.returncode, done.stdout[-12:]) == (0, "unlisted: 0\n"), done.stdout
+
+
 # ---- what is found
 
 
