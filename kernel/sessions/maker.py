@@ -15,8 +15,10 @@ from .model import FIRST_USER, NO_ROWS, Made, Model, Rows, Settler, Unsettled, b
 _STEPS = (20, 30)
 _MOST_LWPS = 12
 _TRIES = 20
+# how often a further user takes part
+_SHARES = 0.3
 # how many candidates there are for a step, of which the one with the rarest goal is taken
-_CANDIDATES = (1, 1, 3)
+_CANDIDATES = (1, 3, 6)
 _NOTHING_NEW = 1 << 30
 
 
@@ -109,7 +111,7 @@ class Maker:
     def _first_users(self) -> list[int]:
         """The users of the first steps, which make processes."""
         first, *others = self._users
-        return [first] * self._chance.choice((1, 2, 3)) + [user for user in others if self._chance.random() < 0.5]
+        return [first] * self._chance.choice((1, 2, 3)) + [user for user in others if self._chance.random() < _SHARES]
 
     def _best(self, started: _Started) -> Optional[_Tried]:
         """Of some candidates the one with the rarest goal."""
