@@ -12,13 +12,13 @@ from .model import Lwp, Rows
 
 # how often each step comes; those of ptrace(2) by their requests, those of an LWP by its act or call
 _UNTRACED = {
-    "spawn": 3, "fork": 8, "exit": 4, "kill": 14, "wait4": 16, "sigaction": 9, "block": 6, "raise": 8, "list": 2, "compute": 1,
+    "spawn": 3, "fork": 8, "exit": 4, "kill": 14, "wait4": 16, "sigaction": 9, "block": 6, "raise": 8, "list": 2, "compute": 1, "refused": 12,
 }  # fmt: skip
 _TRACED = {"PT_TRACE_ME": 4, "PT_ATTACH": 8, "PT_CONTINUE": 14, "PT_DETACH": 4, "PT_KILL": 2, "wait4": 24}
 _CALLS = {"vfork": 2, "exec": 2, "thr_new": 4, "thr_exit": 2, "other": 1}
 _FREEBSD = {
-    "PT_STEP": 4, "PT_TO_SCE": 2, "PT_TO_SCX": 2, "PT_SYSCALL": 4, "PT_SUSPEND": 4, "PT_RESUME": 3, "PT_LWPINFO": 4,
-    "PT_GETNUMLWPS": 1, "PT_GETLWPLIST": 2, "PT_GET_EVENT_MASK": 1, "PT_SET_EVENT_MASK": 8, "PT_FOLLOW_FORK": 2, "PT_LWP_EVENTS": 2,
+    "PT_STEP": 4, "PT_TO_SCE": 3, "PT_TO_SCX": 3, "PT_SYSCALL": 4, "PT_SUSPEND": 4, "PT_RESUME": 3, "PT_LWPINFO": 4,
+    "PT_GETNUMLWPS": 2, "PT_GETLWPLIST": 2, "PT_GET_EVENT_MASK": 2, "PT_SET_EVENT_MASK": 16, "PT_FOLLOW_FORK": 4, "PT_LWP_EVENTS": 4,
     "vfork": 5, "thr_new": 8, "thr_exit": 6, "exec": 4, "other": 4,
 }  # fmt: skip
 # numbers of signals on Linux that differ from FreeBSD's
