@@ -17,6 +17,8 @@ _CALLS = ("fork", "vfork", "exec", "thr_new", "thr_exit")
 _STRANGE = 0.06
 # how often a step is of processes that have to do with each other, and how often one that goes on with what they began
 _AIMED, _GOES_ON = 0.75, 0.6
+# how often a refusal is looked for that was reached less often than wanted
+_LOOKS_FOR_REFUSALS, _WANTED = 0.2, 30
 _PASSES = ("PT_CONTINUE", "PT_STEP", "PT_TO_SCE", "PT_TO_SCX", "PT_SYSCALL", "PT_DETACH")
 # signals that stop, continue, end, or come by themselves are met more often than the rest
 _OFTEN = tuple(Signal[name] for name in "SIGSTOP SIGCONT SIGTSTP SIGKILL SIGTERM SIGCHLD SIGUSR1 SIGTRAP".split())
@@ -47,7 +49,7 @@ class Chooser:
             "compute": lambda: f"turn {self._lwp()} compute",
             "exit": lambda: f"turn {self._lwp()} enter exit {self._chance.choice((0, 1, 7, 255))}",
             "other": lambda: f"turn {self._lwp()} enter other 20",
-            "refused": self._refused,
+            "refused": lambda: self._rarest_refusal()[1],
             "PT_TRACE_ME": lambda: f"ptrace {self._child()} PT_TRACE_ME",
             "PT_ATTACH": self._attach,
             **{call: self._entering(call) for call in _CALLS},
@@ -57,6 +59,10 @@ class Chooser:
     def step(self, rows: Rows, seen: Numbers) -> str:
         """The words of a step of the user with these rows, without the user."""
         self._rows, self._seen = rows, seen
+        if self._is(_LOOKS_FOR_REFUSALS):
+            refusal, words = self._rarest_refusal()
+            if self._counts[refusal] < _WANTED:
+                return words
         next_steps = self._next_steps() if self._is(_GOES_ON) else []
         if next_steps:
             return self._chance.choice(next_steps)()
@@ -226,17 +232,19 @@ class Chooser:
 
     # ---- refusals
 
-    def _refused(self) -> str:
+    def _rarest_refusal(self) -> tuple[str, str]:
         """Of the steps that may be refused here, the one whose refusal was reached least often."""
         steps = list(self._refusals())
         self._chance.shuffle(steps)
-        return min(steps, key=lambda step: self._counts[step[0]])[1]
+        return min(steps, key=lambda step: self._counts[step[0]])
 
     def _refusals(self) -> Iterator[tuple[str, str]]:
         """Refusals, and the steps that they answer."""
         requests = [name for name in self._names if name.startswith("PT_") and name != "PT_TRACE_ME"]
         for relation, (caller, target) in self._pairs().items():
-            yield from ((f"refusal {name} {relation}", f"ptrace {caller} {name} {target}") for name in requests)
+            for name in requests if relation else ():
+                if name != "PT_ATTACH" or relation.startswith(("caller", "target")):
+                    yield f"refusal {name} {relation}", f"ptrace {caller} {name} {target}"
             if relation.startswith("caller"):
                 yield f"refusal PT_TRACE_ME {relation}", f"ptrace {caller} PT_TRACE_ME"
                 yield f"refusal list {relation}", f"list {caller}"

@@ -12,7 +12,7 @@ from .model import Lwp, Rows
 
 # how often each step comes; those of ptrace(2) by their requests, those of an LWP by its act or call
 _UNTRACED = {
-    "spawn": 3, "fork": 8, "exit": 4, "kill": 14, "wait4": 16, "sigaction": 9, "block": 6, "raise": 8, "list": 2, "compute": 1, "refused": 12,
+    "spawn": 3, "fork": 8, "exit": 4, "kill": 14, "wait4": 16, "sigaction": 9, "block": 6, "raise": 8, "list": 2, "compute": 1, "refused": 4,
 }  # fmt: skip
 _TRACED = {"PT_TRACE_ME": 4, "PT_ATTACH": 8, "PT_CONTINUE": 14, "PT_DETACH": 4, "PT_KILL": 2, "wait4": 24}
 _CALLS = {"vfork": 2, "exec": 2, "thr_new": 4, "thr_exit": 2, "other": 1}
@@ -42,8 +42,10 @@ class Kind(NamedTuple):
     users: int
 
 
-def _any_step(rows: Rows, step: Step) -> bool:
-    return True
+def _has_caller(rows: Rows, step: Step) -> bool:
+    """A call is made by an LWP that runs: not by one that is suspended or waits for its vfork's child."""
+    lwps = rows.of(step["caller"]) if "caller" in step else []
+    return not lwps or any(lwp["mode"] == "runs" and not lwp.get("suspended") for lwp in lwps)
 
 
 def _in_order(rows: Rows, lwp: Lwp) -> bool:
@@ -67,6 +69,10 @@ def _other_order(rows: Rows, lwp: Lwp) -> bool:
 
 
 def _on_both(rows: Rows, step: Step) -> bool:
+    return _has_caller(rows, step) and _on_linux(rows, step)
+
+
+def _on_linux(rows: Rows, step: Step) -> bool:
     """On Linux each thread is traced by itself, an exec gives a thread its process's number, and the first thread of a
     process shows the process's state."""
     if step["op"] == "turn" and step.get("act") == "enter" and step["lwp"] in rows.lwps:
@@ -91,5 +97,5 @@ KINDS: dict[str, Kind] = {
     "shared": Kind(
         {**_UNTRACED, **_CALLS, **_TRACED}, [s for s in Signal if s not in _UNSHARED], _on_both, _other_order, 2
     ),
-    "all": Kind({**_UNTRACED, **_CALLS, **_TRACED, **_FREEBSD}, list(Signal), _any_step, _in_order, 3),
+    "all": Kind({**_UNTRACED, **_CALLS, **_TRACED, **_FREEBSD}, list(Signal), _has_caller, _in_order, 3),
 }
