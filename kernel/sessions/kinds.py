@@ -39,7 +39,8 @@ class Kind(NamedTuple):
     """Whether the kernels of this kind can be asked for the step."""
     unordered: Callable[[Rows, Lwp], bool]
     """Whether kernels may take the LWP's pending signals in another order, so that something else comes of it."""
-    users: int
+    kills: float
+    """How often the end of a debugger kills its tracees: a kernel without such a setting keeps them."""
 
 
 def _has_caller(rows: Rows, step: Step) -> bool:
@@ -93,9 +94,9 @@ def _on_linux(rows: Rows, step: Step) -> bool:
 
 _UNSHARED = frozenset({Signal.SIGEMT, Signal.SIGINFO})
 KINDS: dict[str, Kind] = {
-    "untraced": Kind(_UNTRACED, [s for s in Signal if s not in _UNSHARED], _on_both, _other_order, 1),
+    "untraced": Kind(_UNTRACED, [s for s in Signal if s not in _UNSHARED], _on_both, _other_order, 0.1),
     "shared": Kind(
-        {**_UNTRACED, **_CALLS, **_TRACED}, [s for s in Signal if s not in _UNSHARED], _on_both, _other_order, 2
+        {**_UNTRACED, **_CALLS, **_TRACED}, [s for s in Signal if s not in _UNSHARED], _on_both, _other_order, 0.1
     ),
-    "all": Kind({**_UNTRACED, **_CALLS, **_TRACED, **_FREEBSD}, list(Signal), _has_caller, _in_order, 3),
+    "all": Kind({**_UNTRACED, **_CALLS, **_TRACED, **_FREEBSD}, list(Signal), _has_caller, _in_order, 0.7),
 }
