@@ -101,7 +101,9 @@ class Maker:
 
     def _session(self, name: str) -> Session:
         start = self._starts.choose()
-        kills = start.kills if start is not None else self._chance.random() < self._kind.kills
+        kills = self._chance.random() < self._kind.kills
+        if start is not None and start.kills is not None:
+            kills = start.kills
         started = _Started(self._free.pop())
         started.model.become(self._new[kills])
         for words in start.steps if start is not None else ["spawn"] * self._chance.choice((1, 2, 3)):

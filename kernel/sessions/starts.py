@@ -6,19 +6,20 @@ import random
 from collections import Counter
 from collections.abc import Sequence
 from pathlib import Path
-from typing import NamedTuple
+from typing import NamedTuple, Optional
 
 from .goals import goals_of
 from .kinds import KINDS
 
 FILE = Path(__file__).with_name("starts.txt")
 _ONLY_HERE = "kinds: "
-_SETTING = "kill_on_debugger_exit: 0"
+_SETTING = "kill_on_debugger_exit: "
 
 
 class Start(NamedTuple):
     name: str
-    kills: bool
+    kills: Optional[bool]
+    """The setting, if the start needs one."""
     kinds: Sequence[str]
     steps: Sequence[str]
 
@@ -31,8 +32,9 @@ def read_starts(text: str) -> list[Start]:
 def _start(lines: list[str]) -> Start:
     name, *rest = lines
     kinds = [line[len(_ONLY_HERE) :].split() for line in rest if line.startswith(_ONLY_HERE)]
-    steps = [line for line in rest if line.strip() and line != _SETTING and not line.startswith(_ONLY_HERE)]
-    return Start(name[2:], _SETTING not in rest, kinds[0] if kinds else ("shared", "all"), steps)
+    kills = [line == f"{_SETTING}1" for line in rest if line.startswith(_SETTING)]
+    steps = [line for line in rest if line.strip() and not line.startswith((_SETTING, _ONLY_HERE))]
+    return Start(name[2:], kills[0] if kills else None, kinds[0] if kinds else ("shared", "all"), steps)
 
 
 class Starts:
@@ -44,7 +46,7 @@ class Starts:
         goals = set(goals_of(KINDS[kind]))
         self._goals = [start for start in self._all if start.name in goals]
 
-    def choose(self) -> Start | None:
+    def choose(self) -> Optional[Start]:
         """None half the time. Else the one whose goal was reached least often, or any."""
         if not self._all or self._chance.random() < 0.5:
             return None
