@@ -8,6 +8,7 @@ from typing import NamedTuple
 from tracehost.names import Signal
 from tracehost.shell_words import Step
 
+from . import habits
 from .model import Lwp, Rows
 
 # how often each step comes; those of ptrace(2) by their requests, those of an LWP by its act or call
@@ -39,6 +40,8 @@ class Kind(NamedTuple):
     """Whether the kernels of this kind can be asked for the step."""
     unordered: Callable[[Rows, Lwp], bool]
     """Whether kernels may take the LWP's pending signals in another order, so that something else comes of it."""
+    habit: Callable[[Rows, Step], bool]
+    """Whether a habit of the kernels would end most sessions at such a step."""
     kills: float
     """How often the end of a debugger kills its tracees: a kernel without such a setting keeps them."""
 
@@ -94,9 +97,9 @@ def _on_linux(rows: Rows, step: Step) -> bool:
 
 _UNSHARED = frozenset({Signal.SIGEMT, Signal.SIGINFO})
 KINDS: dict[str, Kind] = {
-    "untraced": Kind(_UNTRACED, [s for s in Signal if s not in _UNSHARED], _on_both, _other_order, 0.1),
+    "untraced": Kind(_UNTRACED, [s for s in Signal if s not in _UNSHARED], _on_both, _other_order, habits.on_linux, 0.1),
     "shared": Kind(
-        {**_UNTRACED, **_CALLS, **_TRACED}, [s for s in Signal if s not in _UNSHARED], _on_both, _other_order, 0.1
+        {**_UNTRACED, **_CALLS, **_TRACED}, [s for s in Signal if s not in _UNSHARED], _on_both, _other_order, habits.on_linux, 0.1
     ),
-    "all": Kind({**_UNTRACED, **_CALLS, **_TRACED, **_FREEBSD}, list(Signal), _has_caller, _in_order, 0.7),
+    "all": Kind({**_UNTRACED, **_CALLS, **_TRACED, **_FREEBSD}, list(Signal), _has_caller, _in_order, habits.on_freebsd, 0.7),
 }
