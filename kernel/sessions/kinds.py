@@ -52,7 +52,8 @@ def _has_caller(rows: Rows, step: Step) -> bool:
     return not lwps or any(lwp["mode"] == "runs" and not lwp.get("suspended") for lwp in lwps)
 
 
-def _in_order(rows: Rows, lwp: Lwp) -> bool:
+def any_order(rows: Rows, lwp: Lwp) -> bool:
+    """The model's order of signals is FreeBSD's."""
     return False
 
 
@@ -101,5 +102,5 @@ KINDS: dict[str, Kind] = {
     "shared": Kind(
         {**_UNTRACED, **_CALLS, **_TRACED}, [s for s in Signal if s not in _UNSHARED], _on_both, _other_order, habits.on_linux, 0.1
     ),
-    "all": Kind({**_UNTRACED, **_CALLS, **_TRACED, **_FREEBSD}, list(Signal), _has_caller, _in_order, habits.on_freebsd, 0.7),
+    "all": Kind({**_UNTRACED, **_CALLS, **_TRACED, **_FREEBSD}, list(Signal), _has_caller, any_order, habits.on_freebsd, 0.7),
 }

@@ -96,17 +96,24 @@ class Total:
         ]
 
 
+_SYSTEM = platform.system().lower()
+
+
+def add_player(parser: argparse.ArgumentParser) -> None:
+    """Adds the options that say how sessions are played."""
+    parser.add_argument("--time", type=int, metavar="SECONDS", default=20, help="how long a step may take")
+    parser.add_argument("--player", type=Path, metavar="FILE", default=KERNEL / "tracehost-play")
+    parser.add_argument("--differences", type=Path, metavar="FILE", default=KERNEL / f"differences/{_SYSTEM}.tsv")
+
+
 def _arguments() -> argparse.ArgumentParser:
-    system = platform.system().lower()
     parser = argparse.ArgumentParser(prog="run", description=__doc__, formatter_class=argparse.RawDescriptionHelpFormatter)
-    parser.add_argument("--kinds", choices=sorted(KINDS), default="shared" if system == "linux" else "all")
+    parser.add_argument("--kinds", choices=sorted(KINDS), default="shared" if _SYSTEM == "linux" else "all")
     parser.add_argument("--users", type=int, choices=range(1, 65), metavar="N", default=1)
     parser.add_argument("--count", type=int, metavar="N", default=1000, help="how many sessions; 1000 if it is missing")
     parser.add_argument("--seed", type=int, metavar="N", default=1)
     parser.add_argument("--jobs", type=int, metavar="J", default=os.cpu_count() or 1, help="players side by side")
-    parser.add_argument("--time", type=int, metavar="SECONDS", default=20, help="how long a step may take")
-    parser.add_argument("--player", type=Path, metavar="FILE", default=KERNEL / "tracehost-play")
-    parser.add_argument("--differences", type=Path, metavar="FILE", default=KERNEL / f"differences/{system}.tsv")
+    add_player(parser)
     parser.add_argument("--folder", type=Path, metavar="FOLDER", help="keeps sessions and results here")
     return parser
 
