@@ -11,14 +11,12 @@ DISCARDED = {16: "SIGURG", 19: "SIGCONT", 20: "SIGCHLD", 23: "SIGIO", 28: "SIGWI
 _SIGIO = 23
 
 
-def on_freebsd(rows: Rows, step: Step) -> bool:
-    """The order in which a wait takes several children isn't said."""
-    return step["op"] == "wait4" and step["which"] == -1 and _news(rows, step) > 1
+def none(rows: Rows, step: Step) -> bool:
+    """No habit of FreeBSD was seen yet."""
+    return False
 
 
 def on_linux(rows: Rows, step: Step) -> bool:
-    if on_freebsd(rows, step):
-        return True
     if step["op"] == "ptrace":
         return _requests(rows, step)
     if step["op"] == "kill":
@@ -27,22 +25,6 @@ def on_linux(rows: Rows, step: Step) -> bool:
     if step.get("act") == "raise" and step["lwp"] in rows.lwps:
         return _discards(rows, rows.processes[rows.lwps[step["lwp"]]["pid"]], step["signal"])
     return False
-
-
-def _news(rows: Rows, step: Step) -> int:
-    """How many processes the wait may report."""
-    return sum(_is_news(row, step) for row in rows.processes.values())
-
-
-def _is_news(row: Process, step: Step) -> bool:
-    if row.get("tracer", row["parent"]) != step["caller"]:
-        return False
-    options = step.get("options", ())
-    if row["state"] in ("zombie", "trace_stop"):
-        return not row.get("reported")
-    if row["state"] == "job_stop":
-        return not row.get("reported") and "WUNTRACED" in options
-    return bool(row.get("continued")) and "WCONTINUED" in options
 
 
 def _discards(rows: Rows, row: Process, signal: int) -> bool:
