@@ -17,7 +17,7 @@ _STEPS = (20, 30)
 _MOST_LWPS = 12
 _TRIES = 20
 # how often a step is taken to which a habit of a kernel puts an end
-_ENDS = 0.05
+_ENDS = 0.08
 # how often a further user takes part
 _SHARES = 0.3
 # how many candidates there are for a step, of which the one with the rarest goal is taken
