@@ -81,7 +81,7 @@ def _on_linux(rows: Rows, step: Step) -> bool:
             return not row.get("tracer")
         if step["call"] == "exec":
             return is_first
-        return step["call"] != "thr_exit" or not is_first or len(threads) == 1
+        return bool(step["call"] != "thr_exit" or not is_first or len(threads) == 1)
     if step["op"] != "ptrace":
         return True
     row_of_target = _owner(rows, step.get("target", step["caller"]))

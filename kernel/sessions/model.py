@@ -267,9 +267,7 @@ def process_line(user: int, row: Process, lwps: Sequence[Lwp], rows: Rows) -> st
     waits = any(lwp["mode"] == "waits_for_vfork" for lwp in lwps)
     vforked = any(lwp.get("vfork_child") == row["pid"] for lwp in rows.lwps.values())
     unwaited = "SIGCHLD" in rows.processes.get(row["parent"], {}).get("ignore", ())
-    return (
-        f"{line} continued={_yes(row.get('continued'))} waits={_yes(waits)} vforked={_yes(vforked)} unwaited={_yes(unwaited)}"
-    )
+    return f"{line} continued={_yes(row.get('continued'))} waits={_yes(waits)} vforked={_yes(vforked)} unwaited={_yes(unwaited)}"
 
 
 def lwp_line(row: Lwp) -> str:

@@ -14,9 +14,9 @@ from pathlib import Path
 from typing import Optional
 
 from .form import Text, texts_in
-from .playing import DIFFERS, SAME, Player, Result, play
+from .playing import DIFFERS, NOT_DONE, SAME, Player, Result, play
 from .remaking import remade
-from .running import NOT_DONE, add_player
+from .running import add_player
 
 _NUMBERS = re.compile(r"\b\d{4,}\b")
 
