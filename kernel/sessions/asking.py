@@ -76,7 +76,7 @@ def _on_linux(rows: Rows, step: Step) -> bool:
     if step.get("act") == "enter" and step["lwp"] in rows.lwps:
         row = rows.processes[rows.lwps[step["lwp"]]["pid"]]
         threads = rows.of(row["pid"])
-        is_first = threads[0]["lwp"] == step["lwp"]
+        is_first = bool(threads[0]["lwp"] == step["lwp"])
         if step["call"] == "thr_new":
             return not row.get("tracer")
         if step["call"] == "exec":
