@@ -54,7 +54,10 @@ class Shortener:
 
         def still_differs(steps: Sequence[str]) -> bool:
             text = remade(session.name, session.kills, steps)
-            return text is not None and self.differs(text) == wanted
+            try:
+                return text is not None and self.differs(text) == wanted
+            except CannotPlay:  # without some steps another may be none that the kernel can be asked for
+                return False
 
         steps = session.steps()
         if not still_differs(steps):
