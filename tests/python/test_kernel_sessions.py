@@ -7,6 +7,7 @@ import itertools
 import os
 import random
 import re
+import shutil
 import subprocess
 import sys
 from collections.abc import Iterator
@@ -14,22 +15,21 @@ from pathlib import Path
 
 import pytest
 
-from checking import TOP, needs, run
+from checking import run
 from kernel.sessions.faults import count, planted
-from kernel.sessions.form import NO_KILLING, Text, texts_in
+from kernel.sessions.form import texts_in
 from kernel.sessions.goals import LEAST, Group, goals_of, reached, read_unreached, why_unreached
 from kernel.sessions.kinds import KINDS
 from kernel.sessions.maker import Maker, Session
 from kernel.sessions.model import NO_ROWS, Model, Settler, Unsettled, lines_of, restless, step_in, user_of
 from kernel.sessions.playing import DIFFERS, NOT_DONE, SAME, Player, play
 from kernel.sessions.remaking import remade
-from kernel.sessions.running import WHOLE
 from kernel.sessions.shortening import fewest
 from kernel.sessions.starts import FILE, read_starts
-from kernel_player import DIFFERENCES, KERNEL, build
+from kernel_player import EXAMPLE, HEADING, KERNEL, built
 
 SCALE = int(os.environ.get("TRACEHOST_TEST_SCALE", "1"))
-HEADING = "name\tstep\tcondition\tmodel\tkernel\tthen\twhy\twhere\n"
+DIFFERENCES = KERNEL / f"differences/{sys.platform}.tsv"
 MAKE, RUN, SHORTEN = (KERNEL / name for name in ("make-sessions", "run", "shorten"))
 
 
@@ -42,7 +42,13 @@ def of_the_tested_library(library: Path) -> Iterator[None]:
 
 @pytest.fixture(scope="module")
 def player(tmp_path_factory: pytest.TempPathFactory) -> Path:
-    return build(tmp_path_factory.mktemp("player"))
+    if shutil.which("make") is None or shutil.which("cc") is None:
+        pytest.skip("not installed: make, cc")
+    program = built(tmp_path_factory.mktemp("player"))
+    tried = run(program, EXAMPLE)
+    if tried.status == NOT_DONE:
+        pytest.skip(f"this kernel plays no sessions: {tried.err.strip()}")
+    return program
 
 
 def made(kind: str, how_many: int, seed: int = 5) -> list[Session]:
