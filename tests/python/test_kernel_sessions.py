@@ -173,7 +173,7 @@ def test_each_reason_is_for_some_goal() -> None:
 
 
 def test_this_kernel_plays_them(player: Path, tmp_path: Path) -> None:
-    words = ["--player", player, "--count", str(300 * SCALE), "--users", "2", "--jobs", "2", "--folder", tmp_path]
+    words: list[str | Path] = ["--player", player, "--count", str(300 * SCALE), "--users", "2", "--jobs", "2", "--folder", tmp_path]
     ran = run(RUN, *words, seconds=1200 * SCALE)
     assert (ran.status, ran.err) == (SAME, ""), ran.out + ran.err
     verdicts = [int(part.split()[0]) for part in ran.out.splitlines()[0].split(": ")[1].split(", ")]
