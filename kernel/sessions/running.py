@@ -7,6 +7,7 @@ differs but what is listed, 1 if something does, 2 for wrong words, and 3 if it 
 from __future__ import annotations
 
 import argparse
+import csv
 import os
 import platform
 import sys
@@ -46,9 +47,10 @@ class Part(NamedTuple):
 
 def _part(options: argparse.Namespace, folder: Path, number: int, count: int) -> Part:
     """Makes sessions and plays them."""
-    file = folder / f"{number}.txt"
-    words = ["--kinds", options.kinds, "--users", str(options.users), "--count", str(count), "--seed", f"{options.seed}{number:03}"]
-    made = run([sys.executable, str(MAKE_SESSIONS), *words, str(file)], stdout=PIPE, stderr=STDOUT, text=True, check=False)
+    file, goals = folder / f"{number}.txt", folder / f"{number}.goals.tsv"
+    words = ["--kinds", options.kinds, "--users", str(options.users), "--count", str(count), "--goals", str(goals)]
+    words += ["--seed", f"{options.seed}{number:03}", str(file)]
+    made = run([sys.executable, str(MAKE_SESSIONS), *words], stdout=PIPE, stderr=STDOUT, text=True, check=False)
     if made.returncode:
         return Part(number, count, made.stdout, None)
     player = Player(options.player, options.differences, options.time)
@@ -59,6 +61,21 @@ def _parts(options: argparse.Namespace, folder: Path) -> list[Part]:
     sizes = [min(_SESSIONS_OF_A_PART, options.count - first) for first in range(0, options.count, _SESSIONS_OF_A_PART)]
     with ThreadPoolExecutor(options.jobs) as pool:
         return list(pool.map(lambda place: _part(options, folder, place, sizes[place]), range(len(sizes))))
+
+
+def _merge_goals(folder: Path, parts: int, into: Path) -> None:
+    """Writes what all parts together have reached."""
+    tables = [_rows_of(folder / f"{number}.goals.tsv") for number in range(parts)]
+    with into.open("w", encoding="utf-8") as file:
+        writer = csv.writer(file, delimiter="\t", quoting=csv.QUOTE_NONE, lineterminator="\n")
+        for rows in zip(*tables):
+            goal, first, why = rows[0]
+            writer.writerow((goal, sum(int(row[1]) for row in rows) if first.isdecimal() else first, why))
+
+
+def _rows_of(table: Path) -> list[list[str]]:
+    with table.open(newline="", encoding="utf-8") as file:
+        return list(csv.reader(file, delimiter="\t", quoting=csv.QUOTE_NONE))
 
 
 class Total:
@@ -114,6 +131,7 @@ def _arguments() -> argparse.ArgumentParser:
     parser.add_argument("--seed", type=int, metavar="N", default=1)
     parser.add_argument("--jobs", type=int, metavar="J", default=os.cpu_count() or 1, help="players side by side")
     add_player(parser)
+    parser.add_argument("--goals", type=Path, metavar="FILE", help="gets a table of what the sessions have reached")
     parser.add_argument("--folder", type=Path, metavar="FOLDER", help="keeps sessions and results here")
     return parser
 
@@ -144,4 +162,8 @@ def main(words: list[str] | None = None) -> int:
     with tempfile.TemporaryDirectory(prefix="tracehost-kernel-") as room:
         folder = options.folder or Path(room)
         folder.mkdir(parents=True, exist_ok=True)
-        return _report(Total(_parts(options, folder)), options.count)
+        parts = _parts(options, folder)
+        status = _report(Total(parts), options.count)
+        if options.goals is not None and status != NOT_DONE:
+            _merge_goals(folder, len(parts), options.goals)
+        return status
