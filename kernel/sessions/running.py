@@ -19,6 +19,7 @@ from pathlib import Path
 from subprocess import PIPE, STDOUT, run
 from typing import NamedTuple
 
+from .faults import found_by
 from .kinds import KINDS
 from .playing import DIFFERS, NOT_DONE, SAME, Played, Player, play
 
@@ -132,6 +133,7 @@ def _arguments() -> argparse.ArgumentParser:
     parser.add_argument("--jobs", type=int, metavar="J", default=os.cpu_count() or 1, help="players side by side")
     add_player(parser)
     parser.add_argument("--goals", type=Path, metavar="FILE", help="gets a table of what the sessions have reached")
+    parser.add_argument("--faults", type=int, metavar="N", default=0, help="plants N faults of each kind in the first part too")
     parser.add_argument("--folder", type=Path, metavar="FOLDER", help="keeps sessions and results here")
     return parser
 
@@ -151,6 +153,19 @@ def _report(total: Total, count: int) -> int:
     return DIFFERS if unlisted or (gone and count >= WHOLE) else SAME
 
 
+def _report_faults(options: argparse.Namespace, folder: Path, parts: Sequence[Part]) -> int:
+    """Prints how many planted faults were found, and returns the status."""
+    results = [result for part in parts[:1] if part.played is not None for result in part.played.results]
+    player = Player(options.player, options.differences, options.time)
+    counts, fault = found_by(player, folder / "0.txt", results, options.faults, folder)
+    for kind, times in sorted(counts.planted.items()):
+        print(f"fault, {kind}: {counts.found[kind]} of {times} found")
+    if fault:
+        print(f"run: {fault}", file=sys.stderr)
+        return NOT_DONE
+    return DIFFERS if counts.missed() else SAME
+
+
 def main(words: list[str] | None = None) -> int:
     options = _arguments().parse_args(words)
     if options.count < 1 or options.jobs < 1:
@@ -166,4 +181,6 @@ def main(words: list[str] | None = None) -> int:
         status = _report(Total(parts), options.count)
         if options.goals is not None and status != NOT_DONE:
             _merge_goals(folder, len(parts), options.goals)
+        if options.faults and status == SAME:
+            status = _report_faults(options, folder, parts)
         return status
