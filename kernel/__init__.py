@@ -1,0 +1,1 @@
+"""Sessions of the model that are played on a kernel, and compared."""

@@ -1,0 +1,300 @@
+/* The cast of a session: its processes and LWPs, asking them, and waiting until the kernel has nothing left to do. */
+#define _GNU_SOURCE
+#include <errno.h>
+#include <sched.h>
+#include <signal.h>
+#include <string.h>
+#include <sys/wait.h>
+#include <unistd.h>
+#include "play.h"
+
+enum { FIRST_NATIVE_USER = 60000, UNUSED_PROCESS = 99998, UNUSED_LWP = 2000000000 };
+
+struct cast cast;
+double time_limit = 20;
+
+/* ---- numbers */
+
+int cast_process(long number)
+{
+    for (int i = cast.processes - 1; i >= 0; i--)
+        if (cast.process[i].number == number)
+            return i;
+    return -1;
+}
+
+int cast_lwp(long number)
+{
+    for (int i = cast.lwps - 1; i >= 0; i--)
+        if (cast.lwp[i].number == number)
+            return i;
+    return -1;
+}
+
+int cast_add_process(long number, long user)
+{
+    cast.process[cast.processes] = (struct cast_process){.number = number, .user = user};
+    return cast.processes++;
+}
+
+int cast_add_lwp(long number, int process)
+{
+    cast.lwp[cast.lwps] = (struct cast_lwp){.number = number, .process = process};
+    return cast.lwps++;
+}
+
+static bool is_used(pid_t number) { return kill(number, 0) == 0 || errno == EPERM; }
+
+static pid_t unused_process(void)
+{
+    pid_t number = UNUSED_PROCESS;
+    while (is_used(number))
+        number--;
+    return number;
+}
+
+pid_t native_process(long number)
+{
+    int process = cast_process(number);
+    if (number == 0 || number == -1)
+        return (pid_t)number;
+    if (number < -1)
+        return -unused_process();
+    if (number == 1)
+        return getpid();
+    if (number >= FIRST_LWP)
+        return (pid_t)native_target(number);
+    if (process < 0 || (cast.process[process].gone && is_used(cast.process[process].native)))
+        return unused_process();
+    return cast.process[process].native;
+}
+
+long native_target(long number)
+{
+    int lwp = cast_lwp(number);
+    if (number < FIRST_LWP)
+        return native_process(number);
+    return lwp < 0 || cast.lwp[lwp].gone ? UNUSED_LWP : atomic_load(&stage->slots[lwp].lwp);
+}
+
+/* A process of the kernel in the model's numbers; 0 for none of the session's. */
+long model_process(pid_t native)
+{
+    if (native == getpid())
+        return 1;
+    for (int i = cast.processes - 1; i >= 0; i--)
+        if (cast.process[i].native == native)
+            return cast.process[i].number;
+    return 0;
+}
+
+long model_lwp(long native)
+{
+    for (int i = cast.lwps - 1; i >= 0; i--)
+        if (atomic_load(&stage->slots[i].lwp) == native)
+            return cast.lwp[i].number;
+    return 0;
+}
+
+/* The super-user plays each user of the model by another one of the kernel, anybody else one user by themselves. */
+long native_user(long user) { return geteuid() == 0 ? FIRST_NATIVE_USER + user - FIRST_USER : (long)geteuid(); }
+long model_user(long native) { return geteuid() == 0 ? native - FIRST_NATIVE_USER + FIRST_USER : FIRST_USER; }
+
+/* ---- waiting */
+
+struct wait {
+    unsigned rounds;
+    double end;
+};
+
+static const char *state_word(enum state state)
+{
+    static const char *const words[] = {"gone", "runs", "waits", "job_stop", "trace_stop", "zombie"};
+    return words[state];
+}
+
+/* Lets others go on. After the time limit the LWP hangs. */
+static void give_way(struct wait *wait, int lwp)
+{
+    enum { ROUNDS = 256 };
+    sched_yield();
+    if (++wait->rounds % ROUNDS != 0)
+        return;
+    if (atomic_load(&stage->interrupted) != 0)
+        fault("ended by signal %d", atomic_load(&stage->interrupted));
+    if (wait->end == 0)
+        wait->end = seconds_now() + time_limit;
+    if (seconds_now() < wait->end)
+        return;
+    const struct slot *slot = &stage->slots[lwp];
+    int process = atomic_load(&slot->process);
+    long native = atomic_load(&slot->lwp);
+    fault("LWP %ld hangs: it has done nothing for %g seconds; the kernel says that thread %ld of process %d is `%s`",
+        cast.lwp[lwp].number, time_limit, native, process, state_word(system_lwp_state(process, native)));
+}
+
+enum state cast_lwp_state(int lwp)
+{
+    const struct slot *slot = &stage->slots[lwp];
+    return system_lwp_state(atomic_load(&slot->process), atomic_load(&slot->lwp));
+}
+
+bool cast_busy(int lwp)
+{
+    const struct slot *slot = &stage->slots[lwp];
+    return atomic_load(&slot->asked) != atomic_load(&slot->done);
+}
+
+enum state cast_state(int process)
+{
+    struct process_facts facts;
+    struct cast_process *row = &cast.process[process];
+    if (row->gone || row->native == 0 || !system_process(row->native, &facts)) {
+        row->gone = true;
+        return STATE_GONE;
+    }
+    return facts.state;
+}
+
+/* A new LWP has begun to live. */
+void cast_await_newborn(int lwp, pid_t parent)
+{
+    struct wait wait = {0};
+    struct slot *slot = &stage->slots[lwp];
+    while (!system_find_newborn(slot, parent))
+        give_way(&wait, lwp);
+    cast.process[cast.lwp[lwp].process].native = atomic_load(&slot->process);
+}
+
+enum outcome cast_await(int lwp)
+{
+    enum { LOOK = 4 };
+    struct wait wait = {0};
+    struct slot *slot = &stage->slots[lwp];
+    unsigned number = atomic_load(&slot->asked);
+    while (atomic_load(&slot->done) != number) {
+        if (slot->command.act == ACT_VFORK && system_find_newborn(&stage->slots[slot->command.child], atomic_load(&slot->process)))
+            return OUT_BORN;
+        give_way(&wait, lwp);
+        if (wait.rounds % LOOK != 0)
+            continue;
+        enum state state = cast_lwp_state(lwp);
+        if (state == STATE_GONE || state == STATE_ZOMBIE) {
+            if (slot->command.act != ACT_EXEC || cast_state(cast.lwp[lwp].process) != STATE_RUNS)
+                return OUT_GONE;
+        } else if (state != STATE_RUNS && atomic_load(&slot->done) != number) {
+            if (atomic_load(&slot->begun) == number)
+                return OUT_STOPPED;
+            atomic_store(&slot->asked, atomic_load(&slot->begun));
+            return OUT_HELD;
+        }
+    }
+    return OUT_DONE;
+}
+
+enum outcome cast_ask(int lwp, const struct command *command)
+{
+    struct slot *slot = &stage->slots[lwp];
+    slot->command = *command;
+    slot->answer = (struct answer){0};
+    atomic_fetch_add(&slot->asked, 1);
+    return cast_await(lwp);
+}
+
+/* Makes the first LWP of a new process: a child of the player, or of process 1 where that is another one. */
+void cast_spawn(int lwp, long user)
+{
+    pid_t child = fork();
+    if (child < 0)
+        fault("the host refuses a new process: %s", strerror(errno));
+    if (child == 0) {
+        pid_t own = system_is_reaper ? 0 : fork();
+        if (own != 0)
+            _exit(own < 0);
+        signal(SIGPIPE, SIG_DFL);
+        signal(SIGTERM, SIG_DFL);
+        system_become(geteuid() == 0 ? native_user(user) : -1);
+        for (int descriptor = 0; descriptor <= 2; descriptor++)
+            close(descriptor);
+        puppet_live(lwp);
+    }
+    int status = 0;
+    if (!system_is_reaper && (waitpid(child, &status, 0) != child || status != 0))
+        fault("the host refuses a new process");
+    cast_await_newborn(lwp, child);
+}
+
+/* ---- settling */
+
+/* Process 1 collects its ended children at once. */
+void cast_collect(void)
+{
+    while (system_is_reaper && waitpid(-1, NULL, WNOHANG) > 0)
+        ;
+}
+
+/* Until the LWP has gone through user mode, or doesn't run. */
+static enum state settle_lwp(int lwp)
+{
+    enum { LOOK = 4, BEATS = 2 };
+    struct wait wait = {0};
+    const struct slot *slot = &stage->slots[lwp];
+    unsigned long first = atomic_load(&slot->beat);
+    while (atomic_load(&slot->beat) - first < BEATS) {
+        give_way(&wait, lwp);
+        if (wait.rounds % LOOK != 0)
+            continue;
+        enum state state = cast_lwp_state(lwp);
+        if (state == STATE_WAITS && slot->command.act == ACT_VFORK && cast_busy(lwp))
+            return state;
+        if (state != STATE_RUNS && state != STATE_WAITS)
+            return state;
+        if (cast.lwp[lwp].suspended)
+            return state;
+    }
+    return STATE_RUNS;
+}
+
+/* A number that differs if anything has changed. */
+static unsigned long settle_once(void)
+{
+    unsigned long changes = 1;
+    for (int i = 0; i < cast.lwps; i++) {
+        if (cast.lwp[i].gone)
+            continue;
+        enum state state = settle_lwp(i);
+        cast_collect();
+        cast.lwp[i].gone = state == STATE_GONE;
+        changes = changes * 31 + (unsigned long)state;
+        for (int number = 1; number < MODEL_SIGNALS; number++)
+            changes = changes * 31 + atomic_load(&stage->slots[i].caught[number]);
+    }
+    return changes;
+}
+
+/* What has happened to one LWP may concern another, so until a round has changed nothing. */
+void cast_settle(void)
+{
+    unsigned long before = 0;
+    for (unsigned long after; (after = settle_once()) != before;)
+        before = after;
+}
+
+/* ---- the end of a session */
+
+void cast_clear(void)
+{
+    struct wait wait = {0};
+    for (;;) {
+        system_kill_all();
+        pid_t ended = waitpid(-1, NULL, WNOHANG);
+        if (ended < 0 && errno == ECHILD)
+            break;
+        if (ended == 0)
+            give_way(&wait, 0);
+    }
+    for (int i = 0; i < cast.lwps; i++)
+        memset(&stage->slots[i], 0, sizeof stage->slots[i]);
+    cast = (struct cast){0};
+    atomic_store(&stage->silent, false);
+}

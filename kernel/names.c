@@ -1,0 +1,88 @@
+/* Names and numbers: the model's are FreeBSD's. */
+#include <errno.h>
+#include <signal.h>
+#include <stdio.h>
+#include <stdlib.h>
+#include <string.h>
+#include <sys/wait.h>
+#include "play.h"
+
+#ifndef SIGEMT
+#define SIGEMT 0
+#endif
+#ifndef SIGINFO
+#define SIGINFO 0
+#endif
+
+static const int native_signals[MODEL_SIGNALS] = {0, SIGHUP, SIGINT, SIGQUIT, SIGILL, SIGTRAP, SIGABRT, SIGEMT, SIGFPE, SIGKILL,
+    SIGBUS, SIGSEGV, SIGSYS, SIGPIPE, SIGALRM, SIGTERM, SIGURG, SIGSTOP, SIGTSTP, SIGCONT, SIGCHLD, SIGTTIN, SIGTTOU, SIGIO,
+    SIGXCPU, SIGXFSZ, SIGVTALRM, SIGPROF, SIGWINCH, SIGINFO, SIGUSR1, SIGUSR2};
+
+int native_signal(long number)
+{
+    enum { NO_SIGNAL = 1000 };
+    if (number < 0 || number >= MODEL_SIGNALS)
+        return NO_SIGNAL;
+    return number > 0 && native_signals[number] == 0 ? -1 : native_signals[number];
+}
+
+int model_signal(int signal)
+{
+    for (int number = 1; number < MODEL_SIGNALS; number++)
+        if (native_signals[number] == signal)
+            return number;
+    return 0;
+}
+
+/* A wait status in the model's numbers; FreeBSD's layout of the word. */
+long model_status(int status)
+{
+    enum { CONTINUED = 19, STOPPED = 127 };
+    if (WIFCONTINUED(status))
+        return CONTINUED;
+    if (WIFEXITED(status))
+        return WEXITSTATUS(status) * 256L;
+    if (WIFSTOPPED(status))
+        return model_signal(WSTOPSIG(status)) * 256L + STOPPED;
+    return model_signal(WTERMSIG(status));
+}
+
+void error_reply(int error, char *text, size_t size)
+{
+    static const struct {
+        int error;
+        const char *reply;
+    } replies[] = {{EPERM, "EPERM 1"}, {ESRCH, "ESRCH 3"}, {ECHILD, "ECHILD 10"}, {EBUSY, "EBUSY 16"}, {EINVAL, "EINVAL 22"},
+        {EAGAIN, "EAGAIN 35"}};
+    for (size_t i = 0; i < sizeof replies / sizeof *replies; i++)
+        if (replies[i].error == error) {
+            snprintf(text, size, "error %s", replies[i].reply);
+            return;
+        }
+    snprintf(text, size, "error %s", strerror(error));
+}
+
+/* Rising numbers joined by commas; `empty` if there is none. */
+void signals_text(unsigned set, const char *empty, char *text, size_t size)
+{
+    size_t used = 0;
+    snprintf(text, size, "%s", empty);
+    for (int number = 1; number < MODEL_SIGNALS; number++)
+        if ((set >> number & 1) != 0 && used < size)
+            used += (size_t)snprintf(text + used, size - used, used > 0 ? ",%d" : "%d", number);
+}
+
+long signal_of_word(const char *word)
+{
+    static const char *const names[MODEL_SIGNALS] = {"", "HUP", "INT", "QUIT", "ILL", "TRAP", "ABRT", "EMT", "FPE", "KILL", "BUS",
+        "SEGV", "SYS", "PIPE", "ALRM", "TERM", "URG", "STOP", "TSTP", "CONT", "CHLD", "TTIN", "TTOU", "IO", "XCPU", "XFSZ",
+        "VTALRM", "PROF", "WINCH", "INFO", "USR1", "USR2"};
+    char *end;
+    long number = strtol(word, &end, 10);
+    if (end != word && *end == 0 && number >= 0)
+        return number;
+    for (number = 1; number < MODEL_SIGNALS && strncmp(word, "SIG", 3) == 0; number++)
+        if (strcmp(word + 3, names[number]) == 0)
+            return number;
+    return -1;
+}

@@ -1,0 +1,123 @@
+/* Puppets: each LWP spins in user mode, and does what the player asks it for by one system call. */
+#include <errno.h>
+#include <signal.h>
+#include <string.h>
+#include <sys/wait.h>
+#include <unistd.h>
+#include "play.h"
+
+static void count_signal(int signal)
+{
+    int number = model_signal(signal);
+    struct slot *self = system_self();
+    if (self != NULL && number > 0)
+        atomic_fetch_add(&self->caught[number], 1);
+}
+
+static int set_action(int signal, int action)
+{
+    struct sigaction new = {.sa_flags = SA_RESTART};
+    sigemptyset(&new.sa_mask);
+    new.sa_handler = action == ACTION_DEFAULT ? SIG_DFL : action == ACTION_IGNORE ? SIG_IGN : count_signal;
+    return sigaction(signal, &new, NULL);
+}
+
+static int block(unsigned set)
+{
+    sigset_t blocked;
+    sigemptyset(&blocked);
+    for (int number = 1; number < MODEL_SIGNALS; number++)
+        if ((set >> number & 1) != 0 && native_signal(number) > 0)
+            sigaddset(&blocked, native_signal(number));
+    return sigprocmask(SIG_SETMASK, &blocked, NULL);
+}
+
+static void newborn(int slot)
+{
+    system_set_self(&stage->slots[slot]);
+    system_newborn(&stage->slots[slot]);
+}
+
+/* The child of a fork goes on as the LWP of its own slot. */
+static int make_child(int slot)
+{
+    pid_t child = fork();
+    if (child == 0)
+        newborn(slot);
+    return child;
+}
+
+/* The child has its maker's memory and thread until it ends or becomes another image: it never returns from here. */
+static int make_vfork_child(struct slot *self, int slot)
+{
+    pid_t child = vfork();
+    if (child == 0)
+        puppet_live(slot);
+    system_set_self(self);
+    return child;
+}
+
+static int become_image(const struct slot *self)
+{
+    char slot[16], stage_number[16], image_number[16];
+    snprintf(slot, sizeof slot, "%d", (int)(self - stage->slots));
+    snprintf(stage_number, sizeof stage_number, "%d", stage_descriptor);
+    snprintf(image_number, sizeof image_number, "%d", image_descriptor);
+    char *words[] = {PUPPET_NAME, slot, stage_number, image_number, NULL}, *none[] = {NULL};
+    return fexecve(image_descriptor, words, none);
+}
+
+static long obey(struct slot *self, const struct command *command, struct answer *answer)
+{
+    switch (command->act) {
+    case ACT_PTRACE: return system_ptrace(command, answer);
+    case ACT_WAIT4: return wait4((pid_t)command->number, &answer->status, command->option | WNOHANG, NULL);
+    case ACT_KILL: return kill((pid_t)command->number, command->signal);
+    case ACT_SIGACTION: return set_action(command->signal, command->option);
+    case ACT_RAISE: return system_raise(command->signal);
+    case ACT_BLOCK: return block(command->set);
+    case ACT_FORK: return make_child(command->child);
+    case ACT_VFORK: return make_vfork_child(self, command->child);
+    case ACT_EXEC: return become_image(self);
+    case ACT_EXIT: _exit((int)command->number);
+    case ACT_THR_NEW: return system_thread(command->child);
+    case ACT_THR_EXIT: system_thread_end();
+    default: return system_other(command->number);
+    }
+}
+
+static void do_command(struct slot *self, unsigned number)
+{
+    atomic_store(&self->begun, number);
+    errno = 0;
+    long result = obey(self, &self->command, &self->answer);
+    if (system_self() != self) /* the child of a fork */
+        return;
+    self->answer.result = result;
+    self->answer.error = result < 0 ? errno : 0;
+    atomic_store(&self->done, number);
+}
+
+void puppet_live(int slot)
+{
+    newborn(slot);
+    for (;;) {
+        struct slot *self = system_self();
+        unsigned asked = atomic_load(&self->asked);
+        if (asked != atomic_load(&self->begun))
+            do_command(self, asked);
+        system_rest(atomic_load(&stage->silent));
+        atomic_fetch_add(&system_self()->beat, 1);
+    }
+}
+
+/* A new image of a puppet: its exec is done. */
+void puppet_resume(int slot)
+{
+    struct slot *self = &stage->slots[slot];
+    self->answer.result = 0;
+    self->answer.error = 0;
+    newborn(slot);
+    atomic_store(&self->done, atomic_load(&self->begun));
+    puppet_live(slot);
+}

@@ -1,0 +1,205 @@
+/* Reads sessions: a heading, a setting, steps with replies, rows of the model behind them, an empty line. */
+#define _POSIX_C_SOURCE 200809L
+#include <errno.h>
+#include <stdlib.h>
+#include <string.h>
+#include "play.h"
+
+struct reader {
+    FILE *file;
+    const char *name;
+    int line;
+    char *text;
+    size_t room;
+};
+
+static const struct {
+    const char *name;
+    int fewest, most; /* words behind the actor */
+} ops[] = {[OP_SPAWN] = {"spawn", 0, 0},
+    [OP_PTRACE] = {"ptrace", 1, MOST_WORDS},
+    [OP_WAIT4] = {"wait4", 0, 4},
+    [OP_KILL] = {"kill", 2, 2},
+    [OP_SIGACTION] = {"sigaction", 2, 2},
+    [OP_LIST] = {"list", 0, 0},
+    [OP_INSTALL] = {"install", 0, MOST_WORDS},
+    [OP_HANDLE] = {"handle", 0, 0},
+    [OP_TURN] = {"turn", 1, MOST_WORDS}};
+enum { OPS = sizeof ops / sizeof *ops };
+
+struct reader *reader_open(FILE *file, const char *name)
+{
+    struct reader *reader = calloc(1, sizeof *reader);
+    if (reader == NULL)
+        fault("no memory");
+    *reader = (struct reader){.file = file, .name = name};
+    return reader;
+}
+
+void reader_close(struct reader *reader)
+{
+    free(reader->text);
+    free(reader);
+}
+
+void session_free(struct session *session)
+{
+    for (size_t i = 0; i < session->count; i++) {
+        free(session->lines[i].text);
+        free(session->lines[i].reply);
+        free(session->lines[i].words[MOST_WORDS - 1]);
+    }
+    free(session->lines);
+    free(session->name);
+    *session = (struct session){0};
+}
+
+static char *copy_of(const char *text)
+{
+    char *copy = strdup(text);
+    if (copy == NULL)
+        fault("no memory");
+    return copy;
+}
+
+static bool is_number(const char *word, long *number)
+{
+    char *end;
+    errno = 0;
+    *number = strtol(word, &end, 10);
+    return end != word && *end == 0 && errno == 0;
+}
+
+/* Cuts the text, which lives as long as the words, into words. */
+static int cut(char *text, char **words)
+{
+    int count = 0;
+    char *rest = NULL;
+    for (char *word = strtok_r(text, " ", &rest); word != NULL; word = strtok_r(NULL, " ", &rest)) {
+        if (count == MOST_WORDS - 1)
+            return -1;
+        words[count++] = word;
+    }
+    words[MOST_WORDS - 1] = text;
+    return count;
+}
+
+/* The words of a step: [USER:] OP [ACTOR] [WORD ..]. */
+static bool read_step(struct line *line)
+{
+    char **words = line->words;
+    char *kept = copy_of(line->text);
+    int count = cut(kept, words), first = 0;
+    words[MOST_WORDS - 1] = kept;
+    line->user = FIRST_USER;
+    if (count > 0 && words[0][strlen(words[0]) - 1] == ':') {
+        words[0][strlen(words[0]) - 1] = 0;
+        if (!is_number(words[0], &line->user) || line->user < FIRST_USER || line->user >= FIRST_USER + USERS)
+            return false;
+        first = 1;
+    }
+    size_t op = 0;
+    while (first < count && op < OPS && strcmp(words[first], ops[op].name) != 0)
+        op++;
+    if (first >= count || op == OPS)
+        return false;
+    line->op = (enum op)op;
+    int actor = op == OP_SPAWN ? 0 : 1;
+    line->count = count - first - 1 - actor;
+    if (actor == 1 && (first + 1 >= count || !is_number(words[first + 1], &line->actor)))
+        return false;
+    for (int i = 0; i < line->count; i++)
+        words[i] = words[first + 1 + actor + i];
+    return line->count >= ops[op].fewest && line->count <= ops[op].most;
+}
+
+/* `= process N ..`, `= lwp N ..` or `= gone KIND N`. */
+static bool read_row(struct line *line)
+{
+    char *kept = copy_of(line->text + 1);
+    line->count = cut(kept, line->words);
+    line->words[MOST_WORDS - 1] = kept;
+    int kind = line->count > 0 && strcmp(line->words[0], "gone") == 0;
+    return line->count > kind + 1 && (strcmp(line->words[kind], "process") == 0 || strcmp(line->words[kind], "lwp") == 0) &&
+           is_number(line->words[kind + 1], &line->actor);
+}
+
+static bool read_line(struct line *line)
+{
+    if (line->text[0] == '=')
+        return read_row(line);
+    char *arrow = strstr(line->text, " -> ");
+    if (arrow == NULL || arrow[4] == 0)
+        return false;
+    line->reply = copy_of(arrow + 4);
+    *arrow = 0;
+    return read_step(line);
+}
+
+static bool read_setting(const char *text, struct session *session)
+{
+    if (strcmp(text, "kill_on_debugger_exit: 0") != 0 && strcmp(text, "kill_on_debugger_exit: 1") != 0)
+        return false;
+    session->kills = text[strlen(text) - 1] == '1';
+    return true;
+}
+
+static void add_line(struct session *session, const struct reader *reader)
+{
+    enum { STEP = 64 };
+    if (session->count % STEP == 0) {
+        void *more = realloc(session->lines, (session->count + STEP) * sizeof *session->lines);
+        if (more == NULL)
+            fault("no memory");
+        session->lines = more;
+    }
+    session->lines[session->count++] = (struct line){.number = reader->line, .text = copy_of(reader->text)};
+}
+
+/* The next line without its end; false at the end of the file. */
+static bool next_line(struct reader *reader)
+{
+    ssize_t length = getline(&reader->text, &reader->room, reader->file);
+    if (length < 0)
+        return false;
+    reader->line++;
+    while (length > 0 && strchr("\r\n ", reader->text[length - 1]) != NULL)
+        reader->text[--length] = 0;
+    return true;
+}
+
+enum reading reader_next(struct reader *reader, struct session *session, char *why, size_t size)
+{
+    *session = (struct session){.kills = true};
+    while (next_line(reader)) {
+        const char *text = reader->text;
+        if (*text == 0 && session->name != NULL && session->count > 0)
+            return READ_SESSION;
+        if (*text == 0 || (*text == '#' && session->name != NULL))
+            continue;
+        if (session->name == NULL && strncmp(text, "# ", 2) == 0) {
+            session->name = copy_of(text + 2);
+            continue;
+        }
+        if (session->name != NULL && session->count == 0 && read_setting(text, session))
+            continue;
+        snprintf(why, size, "%s:%d: %s: %.200s", reader->name, reader->line,
+            session->name == NULL ? "no heading of a session" : "no step, row or setting", text);
+        add_line(session, reader);
+        if (session->name == NULL || !read_line(&session->lines[session->count - 1])) {
+            session_free(session);
+            return READ_WRONG;
+        }
+    }
+    if (ferror(reader->file)) {
+        snprintf(why, size, "cannot read %s: %s", reader->name, strerror(errno));
+        session_free(session);
+        return READ_FAILED;
+    }
+    if (session->count > 0)
+        return READ_SESSION;
+    bool empty = session->name != NULL;
+    snprintf(why, size, "%s:%d: a session without steps", reader->name, reader->line);
+    session_free(session);
+    return empty ? READ_WRONG : READ_END;
+}

@@ -1,0 +1,95 @@
+"""Kinds of sessions: what a kernel can be asked in them, and how often."""
+
+from __future__ import annotations
+
+from collections.abc import Callable, Mapping, Sequence
+from typing import NamedTuple
+
+from tracehost.names import Signal
+from tracehost.shell_words import Step
+
+from .model import Lwp, Rows
+
+# how often each step comes; those of ptrace(2) by their requests, those of an LWP by its act or call
+_UNTRACED = {
+    "spawn": 3, "fork": 8, "exit": 4, "kill": 14, "wait4": 16, "sigaction": 9, "block": 6, "raise": 8, "list": 2, "compute": 1,
+}  # fmt: skip
+_TRACED = {"PT_TRACE_ME": 4, "PT_ATTACH": 8, "PT_CONTINUE": 14, "PT_DETACH": 4, "PT_KILL": 2, "wait4": 24}
+_CALLS = {"vfork": 2, "exec": 2, "thr_new": 4, "thr_exit": 2, "other": 1}
+_FREEBSD = {
+    "PT_STEP": 4, "PT_TO_SCE": 2, "PT_TO_SCX": 2, "PT_SYSCALL": 4, "PT_SUSPEND": 4, "PT_RESUME": 3, "PT_LWPINFO": 4,
+    "PT_GETNUMLWPS": 1, "PT_GETLWPLIST": 2, "PT_GET_EVENT_MASK": 1, "PT_SET_EVENT_MASK": 8, "PT_FOLLOW_FORK": 2, "PT_LWP_EVENTS": 2,
+    "vfork": 5, "thr_new": 8, "thr_exit": 6, "exec": 4, "other": 4,
+}  # fmt: skip
+# numbers of signals on Linux that differ from FreeBSD's
+_ON_LINUX = {
+    "SIGBUS": 7, "SIGUSR1": 10, "SIGSYS": 31, "SIGUSR2": 12, "SIGURG": 23, "SIGSTOP": 19, "SIGTSTP": 20, "SIGCONT": 18,
+    "SIGCHLD": 17, "SIGIO": 29,
+}  # fmt: skip
+# these Linux delivers before others
+_SYNCHRONOUS = frozenset({"SIGSEGV", "SIGBUS", "SIGILL", "SIGTRAP", "SIGFPE", "SIGSYS"})
+
+
+class Kind(NamedTuple):
+    """What sessions of a kind are made of."""
+
+    weights: Mapping[str, int]
+    signals: Sequence[Signal]
+    allows: Callable[[Rows, Step], bool]
+    """Whether the kernels of this kind can be asked for the step."""
+    unordered: Callable[[Rows, Lwp], bool]
+    """Whether kernels may take the LWP's pending signals in another order, so that something else comes of it."""
+    users: int
+
+
+def _any_step(rows: Rows, step: Step) -> bool:
+    return True
+
+
+def _in_order(rows: Rows, lwp: Lwp) -> bool:
+    return False
+
+
+def _first_on_linux(names: frozenset[str]) -> str:
+    return min(names, key=lambda name: (name not in _SYNCHRONOUS, _ON_LINUX.get(name, int(Signal[name]))))
+
+
+def _other_order(rows: Rows, lwp: Lwp) -> bool:
+    """Linux takes the LWP's own signals first, then those of the process, and numbers some of them differently."""
+    unblocked = rows.unblocked(lwp)
+    if len(unblocked) < 2:
+        return False
+    row = rows.processes[lwp["pid"]]
+    if not row.get("tracer") and unblocked <= set(row.get("catch", [])):
+        return False
+    own = unblocked.intersection(lwp.get("pending", []))
+    return _first_on_linux(own or unblocked) != min(unblocked, key=lambda name: int(Signal[name]))
+
+
+def _on_both(rows: Rows, step: Step) -> bool:
+    """On Linux each thread is traced by itself, an exec gives a thread its process's number, and the first thread of a
+    process shows the process's state."""
+    if step["op"] == "turn" and step.get("act") == "enter" and step["lwp"] in rows.lwps:
+        row = rows.processes[rows.lwps[step["lwp"]]["pid"]]
+        threads = rows.of(row["pid"])
+        is_first = threads[0]["lwp"] == step["lwp"]
+        if step["call"] == "thr_new":
+            return not row.get("tracer")
+        if step["call"] == "exec":
+            return is_first
+        return step["call"] != "thr_exit" or not is_first or len(threads) == 1
+    if step["op"] != "ptrace":
+        return True
+    target = step.get("target", step["caller"])
+    owner = rows.lwps[target]["pid"] if target in rows.lwps else target
+    return len(rows.of(owner)) < 2
+
+
+_UNSHARED = frozenset({Signal.SIGEMT, Signal.SIGINFO})
+KINDS: dict[str, Kind] = {
+    "untraced": Kind(_UNTRACED, [s for s in Signal if s not in _UNSHARED], _on_both, _other_order, 1),
+    "shared": Kind(
+        {**_UNTRACED, **_CALLS, **_TRACED}, [s for s in Signal if s not in _UNSHARED], _on_both, _other_order, 2
+    ),
+    "all": Kind({**_UNTRACED, **_CALLS, **_TRACED, **_FREEBSD}, list(Signal), _any_step, _in_order, 3),
+}

@@ -1,0 +1,164 @@
+"""Makes random settled sessions that reach rare goals."""
+
+from __future__ import annotations
+
+import random
+from collections import Counter
+from collections.abc import Iterator
+from typing import NamedTuple, Optional
+
+from .choosing import Chooser, Numbers
+from .goals import Group, reached
+from .kinds import KINDS
+from .model import FIRST_USER, NO_ROWS, Made, Model, Rows, Settler, Unsettled, by_user, changed_lines, lines_of, step_in
+
+_STEPS = (20, 30)
+_MOST_LWPS = 12
+_TRIES = 20
+# how often a further user takes part
+_SHARES = 0.3
+# how many candidates there are for a step, of which the one with the rarest goal is taken
+_CANDIDATES = (1, 3, 6)
+_NOTHING_NEW = 1 << 30
+
+
+class Part(NamedTuple):
+    """A step with the turns that follow it, and the lines of the rows that it has changed."""
+
+    made: tuple[Made, ...]
+    rows: tuple[str, ...]
+
+
+class Session(NamedTuple):
+    name: str
+    kills: bool
+    parts: tuple[Part, ...]
+
+    def __str__(self) -> str:
+        """The session as a file has it, without the empty line at its end."""
+        lines = [f"# {self.name}", *([] if self.kills else ["kill_on_debugger_exit: 0"])]
+        for part in self.parts:
+            lines += [*map(str, part.made), *part.rows]
+        return "\n".join(lines) + "\n"
+
+
+class _Tried(NamedTuple):
+    """A candidate, and a model in the state after it."""
+
+    model: Model
+    group: Group
+    goals: set[str]
+
+
+class _Started:
+    """A session that is being made."""
+
+    def __init__(self, model: Model) -> None:
+        self.model = model
+        self.parts: list[Part] = []
+        self.rows: dict[int, Rows] = {}
+        self.seen: dict[int, Numbers] = {}
+        self._lines: dict[int, dict[str, str]] = {}
+
+    def rows_of(self, user: int) -> Rows:
+        return self.rows.get(user, NO_ROWS)
+
+    def seen_by(self, user: int) -> Numbers:
+        return self.seen.setdefault(user, Numbers())
+
+    def add(self, group: Group) -> None:
+        user, seen = group.user, self.seen_by(group.user)
+        self.rows[user] = group.after
+        seen.gone_processes += [pid for pid in group.before.processes if pid not in group.after.processes]
+        seen.gone_lwps += [lwp for lwp in group.before.lwps if lwp not in group.after.lwps]
+        for other in self.seen:
+            if other != user:
+                self.seen[other].others = [*group.after.processes, *group.after.lwps]
+        lines = lines_of(user, group.after)
+        self.parts.append(Part(tuple(group.made), tuple(changed_lines(self._lines.get(user, {}), lines))))
+        self._lines[user] = lines
+
+
+class Maker:
+    """Makes sessions of a kind, and counts what they reach."""
+
+    def __init__(self, seed: int, kind: str, users: int = 1) -> None:
+        self.name, self.seed = kind, seed
+        self.counts: Counter[str] = Counter()
+        self.unsettled: Counter[str] = Counter()
+        self.steps = 0
+        self._kind, self._chance = KINDS[kind], random.Random(seed)
+        self._users = [FIRST_USER + number for number in range(users)]
+        self._chooser = Chooser(self._chance, self._kind)
+        self._settler = Settler(self._chance, self._kind.unordered)
+        self._new = {kills: Model(kills) for kills in (True, False)}
+        self._free = [Model() for _ in range(max(_CANDIDATES) + 1)]
+
+    def sessions(self, count: int) -> Iterator[Session]:
+        return (self._session(f"{self.name} {self.seed} {number}") for number in range(count))
+
+    def _session(self, name: str) -> Session:
+        kills = self._chance.random() < 0.7
+        started = _Started(self._free.pop())
+        started.model.become(self._new[kills])
+        for user in self._first_users():
+            self._take(started, self._tried(started, user, "spawn"))
+        for _ in range(self._chance.randint(*_STEPS) - len(started.parts)):
+            self._take(started, self._best(started))
+        self._free.append(started.model)
+        return Session(name, kills, tuple(started.parts))
+
+    def _first_users(self) -> list[int]:
+        """The users of the first steps, which make processes."""
+        first, *others = self._users
+        return [first] * self._chance.choice((1, 2, 3)) + [user for user in others if self._chance.random() < _SHARES]
+
+    def _best(self, started: _Started) -> Optional[_Tried]:
+        """Of some candidates the one with the rarest goal."""
+        best: Optional[_Tried] = None
+        for _ in range(self._chance.choice(_CANDIDATES)):
+            tried = self._candidate(started)
+            if tried is not None and best is not None:
+                best, tried = sorted((best, tried), key=self._rarity)
+                self._free.append(tried.model)
+            best = best or tried
+        return best
+
+    def _rarity(self, tried: _Tried) -> int:
+        return min((self.counts[goal] for goal in tried.goals), default=_NOTHING_NEW)
+
+    def _candidate(self, started: _Started) -> Optional[_Tried]:
+        """A step that a kernel can make, and that leads to one state; None if none was found."""
+        user = self._chance.choice(list(started.rows))
+        rows = started.rows_of(user)
+        for _ in range(_TRIES):
+            words = self._chooser.step(rows, started.seen_by(user))
+            if len(rows.lwps) >= _MOST_LWPS and words.endswith(("spawn", "fork", "thr_new")):
+                continue
+            words = by_user(user, words)
+            if self._kind.allows(rows, step_in(words)):
+                tried = self._tried(started, user, words)
+                if tried is not None:
+                    return tried
+        return None
+
+    def _tried(self, started: _Started, user: int, words: str) -> Optional[_Tried]:
+        model = self._free.pop()
+        model.become(started.model)
+        try:
+            made = self._settler.group(model, by_user(user, words) if words == "spawn" else words)
+        except Unsettled as unsettled:
+            self.unsettled[str(unsettled)] += 1
+            self._free.append(model)
+            return None
+        group = Group(user, started.rows_of(user), model.rows(user), made)
+        return _Tried(model, group, reached(group, model))
+
+    def _take(self, started: _Started, tried: Optional[_Tried]) -> None:
+        if tried is None:
+            return
+        self.steps += 1
+        self.counts.update(tried.goals)
+        started.add(tried.group)
+        self._free.append(started.model)
+        started.model = tried.model
