@@ -1,6 +1,8 @@
-# Prints the session `name` up to the step at its line `line` and what belongs to it. Unless `whole` is set, it leaves out the
-# processes that this step doesn't need: it needs those that it names, their parents and tracers, and those that are named
-# together with one of them by another step, its answer, or the rows behind it. All else is left out.
+# Prints the session `name` up to the step at its line `line`, and what belongs to it. How much is left out, `cut` says:
+#   whole     nothing
+#   needed    the processes that the step doesn't need: it needs those that it names, their parents and tracers, and those that
+#             are named together with one of them by another step, its answer, or the rows behind it
+#   changing  these, and the steps behind which no row is another one
 /^# / { inside = substr($0, 3) == name }
 /^$/ { inside = 0 }
 !inside { next }
@@ -14,6 +16,8 @@
 		}
 		groups++
 	}
+	if (is_row)
+		changes[groups] = 1
 	if (NR == line)
 		last = groups
 	was_row = is_row
@@ -70,6 +74,8 @@ function spread(i, changed, count, j) {
 
 function mark_groups(i, j, count) {
 	for (i = 1; i <= lines; i++) {
+		if (cut == "changing" && !(group[i] in changes))
+			continue
 		count = named(text[i])
 		for (j = 1; j <= count; j++)
 			if (words[j] in needed)
@@ -87,7 +93,7 @@ END {
 				changed += spread(i)
 	} while (changed)
 	for (i = 1; i <= lines; i++)
-		if (group[i] <= last && (whole || (group[i] in kept && (text[i] !~ /^= / || process_of(text[i]) in needed))))
+		if (group[i] <= last && (cut == "whole" || (group[i] in kept && (text[i] !~ /^= / || process_of(text[i]) in needed))))
 			print text[i]
 	print ""
 }

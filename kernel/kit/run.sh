@@ -171,6 +171,7 @@ play_file() {
 		mv "$played/next.txt" "$played/rest.txt"
 		rm -f "$played/new.tsv"
 	done
+	time_is_left && why_left="the player had ended $tries times before"
 }
 
 play_part() {
@@ -181,8 +182,9 @@ play_part() {
 		name=${file##*/}
 		played=work/played/${name%.txt}
 		if [ -z "$why" ]; then
+			why_left='no time was left'
 			play_file "$file"
-			awk -f collect.awk part="$1" why='no time was left' "$file" "$played/rows.tsv" "$played/ended.tsv"
+			awk -f collect.awk part="$1" why="$why_left" "$file" "$played/rows.tsv" "$played/ended.tsv"
 		else
 			awk -f collect.awk part="$1" why="$why" "$file"
 		fi
@@ -221,10 +223,13 @@ shorten() {
 	awk -f way.awk -f ways.awk work/sessions.tsv | sort -t "$tab" -k1,1nr -k2,2 | head -n 100 >work/ways.tsv
 	while IFS="$tab" read -r count name line way; do
 		file=$(grep -lxF "# $name" sessions/*.txt | head -n 1)
-		awk -f cut.awk name="$name" line="$line" whole=1 "$file" >work/short/whole.txt
-		awk -f cut.awk name="$name" line="$line" "$file" >work/short/shortened.txt
+		for cut in whole needed changing; do
+			awk -f cut.awk cut=$cut name="$name" line="$line" "$file" >work/short/$cut.txt
+		done
 		chosen=whole
-		if still_differs work/short/shortened.txt "$way" </dev/null; then chosen=shortened; fi
+		for cut in changing needed; do
+			[ $chosen = whole ] && still_differs work/short/$cut.txt "$way" </dev/null && chosen=$cut
+		done
 		printf '%s\t%s\t%s\t%s\n' "$count" "$name" "$chosen" "$(grep -- ' -> ' work/short/$chosen.txt |
 			awk '{ printf "%s%s", (NR > 1 ? " ; " : ""), $0 }')" >>work/shortest.tsv
 	done <work/ways.tsv
