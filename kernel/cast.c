@@ -1,5 +1,4 @@
 /* The cast of a session: its processes and LWPs, asking them, and waiting until the kernel has nothing left to do. */
-#define _GNU_SOURCE
 #include <errno.h>
 #include <sched.h>
 #include <signal.h>
@@ -43,6 +42,9 @@ int cast_add_lwp(long number, int process)
     return cast.lwps++;
 }
 
+/* Of the puppets. */
+static pid_t process_1(void) { return system_is_reaper ? getpid() : 1; }
+
 static bool is_used(pid_t number) { return kill(number, 0) == 0 || errno == EPERM; }
 
 static pid_t unused_process(void)
@@ -61,7 +63,7 @@ pid_t native_process(long number)
     if (number < -1)
         return -unused_process();
     if (number == 1)
-        return getpid();
+        return process_1();
     if (number >= FIRST_LWP)
         return (pid_t)native_target(number);
     if (process < 0 || (cast.process[process].gone && is_used(cast.process[process].native)))
@@ -80,7 +82,7 @@ long native_target(long number)
 /* A process of the kernel in the model's numbers; 0 for none of the session's. */
 long model_process(pid_t native)
 {
-    if (native == getpid())
+    if (native == process_1())
         return 1;
     for (int i = cast.processes - 1; i >= 0; i--)
         if (cast.process[i].native == native)
@@ -97,8 +99,15 @@ long model_lwp(long native)
 }
 
 /* The super-user plays each user of the model by another one of the kernel, anybody else one user by themselves. */
-long native_user(long user) { return geteuid() == 0 ? FIRST_NATIVE_USER + user - FIRST_USER : (long)geteuid(); }
-long model_user(long native) { return geteuid() == 0 ? native - FIRST_NATIVE_USER + FIRST_USER : FIRST_USER; }
+static bool plays_users(void) { return system_has_users && geteuid() == 0; }
+long native_user(long user) { return plays_users() ? FIRST_NATIVE_USER + user - FIRST_USER : (long)geteuid(); }
+
+long model_user(long native)
+{
+    if (plays_users())
+        return native - FIRST_NATIVE_USER + FIRST_USER;
+    return native == (long)geteuid() ? FIRST_USER : 0;
+}
 
 /* ---- waiting */
 
@@ -156,12 +165,14 @@ enum state cast_state(int process)
     return facts.state;
 }
 
-/* A new LWP has begun to live. */
-void cast_await_newborn(int lwp, pid_t parent)
+/* A new LWP has begun to live; the one that made it is negative for the player. */
+void cast_await_newborn(int lwp, int maker)
 {
     struct wait wait = {0};
     struct slot *slot = &stage->slots[lwp];
-    while (!system_find_newborn(slot, parent))
+    bool is_thread = maker >= 0 && stage->slots[maker].command.act == ACT_THR_NEW;
+    pid_t parent = maker < 0 ? process_1() : atomic_load(&stage->slots[maker].process);
+    while (!system_find_newborn(slot, parent, is_thread))
         give_way(&wait, lwp);
     cast.process[cast.lwp[lwp].process].native = atomic_load(&slot->process);
 }
@@ -173,7 +184,8 @@ enum outcome cast_await(int lwp)
     struct slot *slot = &stage->slots[lwp];
     unsigned number = atomic_load(&slot->asked);
     while (atomic_load(&slot->done) != number) {
-        if (slot->command.act == ACT_VFORK && system_find_newborn(&stage->slots[slot->command.child], atomic_load(&slot->process)))
+        if (slot->command.act == ACT_VFORK &&
+            system_find_newborn(&stage->slots[slot->command.child], atomic_load(&slot->process), false))
             return OUT_BORN;
         give_way(&wait, lwp);
         if (wait.rounds % LOOK != 0)
@@ -213,15 +225,17 @@ void cast_spawn(int lwp, long user)
             _exit(own < 0);
         signal(SIGPIPE, SIG_DFL);
         signal(SIGTERM, SIG_DFL);
-        system_become(geteuid() == 0 ? native_user(user) : -1);
+        system_become(plays_users() ? native_user(user) : -1);
         for (int descriptor = 0; descriptor <= 2; descriptor++)
             close(descriptor);
+        if (system_spawns_image && plays_users())
+            _exit(puppet_become_image(lwp) < 0);
         puppet_live(lwp);
     }
     int status = 0;
     if (!system_is_reaper && (waitpid(child, &status, 0) != child || status != 0))
         fault("the host refuses a new process");
-    cast_await_newborn(lwp, child);
+    cast_await_newborn(lwp, -1);
 }
 
 /* ---- settling */
@@ -231,6 +245,13 @@ void cast_collect(void)
 {
     while (system_is_reaper && waitpid(-1, NULL, WNOHANG) > 0)
         ;
+}
+
+/* The end of tracing lifts suspensions. */
+static bool still_traced(int process)
+{
+    struct process_facts facts;
+    return system_process(cast.process[process].native, &facts) && facts.tracer != 0;
 }
 
 /* Until the LWP has gone through user mode, or doesn't run. */
@@ -249,7 +270,7 @@ static enum state settle_lwp(int lwp)
             return state;
         if (state != STATE_RUNS && state != STATE_WAITS)
             return state;
-        if (cast.lwp[lwp].suspended)
+        if (cast.lwp[lwp].suspended && still_traced(cast.lwp[lwp].process))
             return state;
     }
     return STATE_RUNS;

@@ -1,5 +1,4 @@
 /* The list of known differences: a table, from which each difference that is found gets its name or none. */
-#define _POSIX_C_SOURCE 200809L
 #include <errno.h>
 #include <fnmatch.h>
 #include <stdlib.h>

@@ -1,5 +1,4 @@
 /* The player's view of Linux: /proc, private numbers of processes, the requests of ptrace(2) that FreeBSD has too. */
-#define _GNU_SOURCE
 #include <ctype.h>
 #include <dirent.h>
 #include <errno.h>
@@ -25,7 +24,7 @@
 
 const char system_name[] = "Linux";
 const bool system_has_lwp_pending = true;
-const bool system_is_reaper = true;
+const bool system_is_reaper = true, system_has_users = true, system_spawns_image = false;
 bool private_numbers;
 static __thread struct slot *self;
 
@@ -126,6 +125,7 @@ pid_t system_fork_inner(void)
 
 void system_inner(void)
 {
+    setsid();
     prctl(PR_SET_PDEATHSIG, private_numbers ? SIGKILL : SIGTERM);
     if (!private_numbers)
         prctl(PR_SET_CHILD_SUBREAPER, 1);
@@ -147,7 +147,7 @@ void system_become(long user)
 void system_kill_all(void)
 {
     char path[64], text[4096];
-    if (private_numbers) {
+    if (private_numbers && getpid() == 1) { /* all others here are puppets */
         kill(-1, SIGKILL);
         return;
     }
@@ -173,9 +173,9 @@ void system_newborn(struct slot *slot)
     atomic_store(&slot->process, getpid());
 }
 
-bool system_find_newborn(struct slot *slot, pid_t parent)
+bool system_find_newborn(struct slot *slot, pid_t parent, bool is_thread)
 {
-    (void)parent;
+    (void)parent, (void)is_thread;
     return atomic_load(&slot->process) != 0;
 }
 
@@ -210,7 +210,7 @@ void system_thread_end(void)
         syscall(SYS_exit, 0);
 }
 
-int system_raise(int signal) { return (int)syscall(SYS_tgkill, getpid(), syscall(SYS_gettid), signal); }
+int system_raise(int signal) { return (int)syscall(SYS_tgkill, atomic_load(&self->process), atomic_load(&self->lwp), signal); }
 
 /* The call's number, which is one of FreeBSD's, can't be seen here. */
 bool system_has_other(long number)
@@ -339,6 +339,14 @@ static void look_at_lwps(pid_t process, struct process_facts *facts)
                                             : STATE_JOB_STOP;
 }
 
+/* A thread traces: its process. */
+static long owner_of(long thread)
+{
+    char path[64], text[4096];
+    snprintf(path, sizeof path, "/proc/%ld/status", thread);
+    return thread != 0 && read_text(path, text, sizeof text) ? atol(field(text, "\nTgid:")) : thread;
+}
+
 bool system_process(pid_t process, struct process_facts *facts)
 {
     char path[64], text[4096];
@@ -349,14 +357,23 @@ bool system_process(pid_t process, struct process_facts *facts)
     facts->state = state_of(*field(text, "\nState:"));
     facts->user = atol(field(text, "\nUid:"));
     facts->parent = atol(field(text, "\nPPid:"));
-    facts->tracer = atol(field(text, "\nTracerPid:"));
     facts->pending = set_of(text, "\nShdPnd:");
     facts->ignored = set_of(text, "\nSigIgn:");
     facts->caught = set_of(text, "\nSigCgt:");
     facts->lwps = facts->state != STATE_ZOMBIE;
+    facts->tracer = owner_of(atol(field(text, "\nTracerPid:")));
     if (atol(field(text, "\nThreads:")) > 1)
         look_at_lwps(process, facts);
     return facts->state != STATE_GONE;
+}
+
+void system_why_untraced(char *text, size_t size)
+{
+    char scope[16], status[4096];
+    bool has_scope = read_text("/proc/sys/kernel/yama/ptrace_scope", scope, sizeof scope);
+    bool filtered = read_text("/proc/self/status", status, sizeof status) && atol(field(status, "\nSeccomp:")) != 0;
+    snprintf(text, size, "kernel.yama.ptrace_scope is %ld, %s", has_scope ? atol(scope) : 0L,
+        filtered ? "and seccomp(2) filters calls" : "and no seccomp(2) filters calls");
 }
 
 int system_list(long user, pid_t *found, int most)

@@ -47,6 +47,36 @@ long model_status(int status)
     return model_signal(WTERMSIG(status));
 }
 
+struct bit {
+    const char *name;
+    unsigned bit;
+};
+static const struct bit flags[] = {{"PL_FLAG_SCE", 0x4}, {"PL_FLAG_SCX", 0x8}, {"PL_FLAG_EXEC", 0x10}, {"PL_FLAG_FORKED", 0x40},
+    {"PL_FLAG_CHILD", 0x80}, {"PL_FLAG_BORN", 0x100}, {"PL_FLAG_EXITED", 0x200}, {"PL_FLAG_VFORKED", 0x400},
+    {"PL_FLAG_VFORK_DONE", 0x800}, {NULL, 0}};
+static const struct bit events[] = {{"PTRACE_EXEC", 0x1}, {"PTRACE_SCE", 0x2}, {"PTRACE_SCX", 0x4}, {"PTRACE_FORK", 0x8},
+    {"PTRACE_LWP", 0x10}, {"PTRACE_VFORK", 0x20}, {NULL, 0}};
+
+static void bits_text(const struct bit *bits, unsigned set, char *text, size_t size)
+{
+    size_t used = 0;
+    snprintf(text, size, "none");
+    for (; bits->name != NULL; bits++)
+        if ((set & bits->bit) != 0 && used < size)
+            used += (size_t)snprintf(text + used, size - used, "%s%s", used > 0 ? "+" : "", bits->name);
+}
+
+void flags_text(int set, char *text, size_t size) { bits_text(flags, (unsigned)set, text, size); }
+void events_text(unsigned set, char *text, size_t size) { bits_text(events, set, text, size); }
+
+unsigned event_of_word(const char *word)
+{
+    for (const struct bit *event = events; event->name != NULL; event++)
+        if (strcmp(event->name, word) == 0)
+            return event->bit;
+    return strcmp(word, "PTRACE_SYSCALL") == 0 ? event_of_word("PTRACE_SCE") | event_of_word("PTRACE_SCX") : 0;
+}
+
 void error_reply(int error, char *text, size_t size)
 {
     static const struct {

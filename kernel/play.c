@@ -275,6 +275,17 @@ static void write_result(FILE *results)
         same ? 0 : playing.where->number, same ? "" : playing.step, same ? "" : playing.model, same ? "" : playing.kernel);
 }
 
+/* Whether somebody asks for stops at calls: then the LWPs make none of their own. */
+static bool reports_calls(const struct session *session)
+{
+    static const char *const words[] = {"PT_TO_SCE", "PT_TO_SCX", "PT_SYSCALL", "PTRACE_SCE", "PTRACE_SCX", "PTRACE_SYSCALL"};
+    for (size_t i = 0; i < session->count; i++)
+        for (size_t word = 0; word < sizeof words / sizeof *words; word++)
+            if (strstr(session->lines[i].text, words[word]) != NULL)
+                return true;
+    return false;
+}
+
 static void play_session(const struct session *session, const char *file, FILE *results)
 {
     playing.file = file, playing.session = session;
@@ -283,6 +294,7 @@ static void play_session(const struct session *session, const char *file, FILE *
     for (int i = 0; i < differences_count(); i++)
         differences_at(i)->here = false;
     memset(playing.caught, 0, sizeof playing.caught);
+    atomic_store(&stage->silent, reports_calls(session));
     steps_begin();
     rows_begin();
     play_steps();

@@ -81,6 +81,7 @@ extern struct stage *stage;
 extern int stage_descriptor, image_descriptor;
 void puppet_live(int slot) __attribute__((noreturn));
 void puppet_resume(int slot) __attribute__((noreturn));
+int puppet_become_image(int slot);
 
 /* ---- names and numbers (names.c) */
 
@@ -90,6 +91,9 @@ long model_status(int status);
 long signal_of_word(const char *word); /* a number, or a name; -1: neither */
 void error_reply(int error, char *text, size_t size);
 void signals_text(unsigned set, const char *empty, char *text, size_t size);
+void flags_text(int flags, char *text, size_t size); /* of a stop */
+void events_text(unsigned events, char *text, size_t size);
+unsigned event_of_word(const char *word); /* 0: none of this name */
 
 /* ---- the kernel of this machine (linux.c, freebsd.c) */
 
@@ -109,6 +113,8 @@ struct lwp_facts {
 
 extern const char system_name[];
 extern const bool system_is_reaper; /* the player is process 1 of its puppets */
+extern const bool system_has_users; /* the super-user can play several */
+extern const bool system_spawns_image; /* a new process has to become an image of its own */
 extern const bool system_has_lwp_pending; /* pending signals of an LWP are told apart from those of its process */
 int system_stage(size_t size); /* a descriptor of shared memory without a name */
 int system_image(void); /* a descriptor of this program, which any user may execute */
@@ -120,7 +126,7 @@ extern bool private_numbers; /* nobody else's process can be meant */
 struct slot *system_self(void);
 void system_set_self(struct slot *slot);
 void system_newborn(struct slot *slot);
-bool system_find_newborn(struct slot *slot, pid_t parent);
+bool system_find_newborn(struct slot *slot, pid_t parent, bool is_thread);
 void system_rest(bool silent);
 int system_thread(int slot);
 void system_thread_end(void) __attribute__((noreturn));
@@ -133,6 +139,7 @@ bool system_process(pid_t process, struct process_facts *facts);
 bool system_lwp(pid_t process, long lwp, struct lwp_facts *facts);
 enum state system_lwp_state(pid_t process, long lwp);
 int system_list(long user, pid_t *found, int most);
+void system_why_untraced(char *text, size_t size);
 
 /* ---- sessions (sessions.c) */
 
@@ -198,7 +205,7 @@ long model_user(long native);
 /* What became of a command. */
 enum outcome { OUT_NONE, OUT_DONE, OUT_STOPPED, OUT_GONE, OUT_BORN, OUT_HELD };
 void cast_spawn(int lwp, long user);
-void cast_await_newborn(int lwp, pid_t parent);
+void cast_await_newborn(int lwp, int maker); /* the player itself is -1 */
 enum outcome cast_ask(int lwp, const struct command *command);
 enum outcome cast_await(int lwp);
 bool cast_busy(int lwp); /* a command that it has begun isn't done */

@@ -57,10 +57,10 @@ static int make_vfork_child(struct slot *self, int slot)
     return child;
 }
 
-static int become_image(const struct slot *self)
+int puppet_become_image(int number)
 {
     char slot[16], stage_number[16], image_number[16];
-    snprintf(slot, sizeof slot, "%d", (int)(self - stage->slots));
+    snprintf(slot, sizeof slot, "%d", number);
     snprintf(stage_number, sizeof stage_number, "%d", stage_descriptor);
     snprintf(image_number, sizeof image_number, "%d", image_descriptor);
     char *words[] = {PUPPET_NAME, slot, stage_number, image_number, NULL}, *none[] = {NULL};
@@ -78,7 +78,7 @@ static long obey(struct slot *self, const struct command *command, struct answer
     case ACT_BLOCK: return block(command->set);
     case ACT_FORK: return make_child(command->child);
     case ACT_VFORK: return make_vfork_child(self, command->child);
-    case ACT_EXEC: return become_image(self);
+    case ACT_EXEC: return puppet_become_image((int)(self - stage->slots));
     case ACT_EXIT: _exit((int)command->number);
     case ACT_THR_NEW: return system_thread(command->child);
     case ACT_THR_EXIT: system_thread_end();

@@ -1,5 +1,4 @@
 /* Reads sessions: a heading, a setting, steps with replies, rows of the model behind them, an empty line. */
-#define _POSIX_C_SOURCE 200809L
 #include <errno.h>
 #include <stdlib.h>
 #include <string.h>

@@ -172,7 +172,7 @@ static enum made make_kill(const struct line *line, const struct reply *reply)
         return cannot(reply, "the kernel has no such signal");
     if (names_process_1(line->words[0]))
         return cannot(reply, "process 1 is the player, of the same user");
-    if (number == -1 && !private_numbers)
+    if (number == -1 && (!private_numbers || getpid() != 1))
         return cannot(reply, "a signal to all may reach others' processes");
     command.number = native_process(number);
     if (!ask_caller(line, &command, reply, &answer, &made))
@@ -218,6 +218,76 @@ static enum made make_list(const struct line *line, const struct reply *reply)
     return MADE;
 }
 
+/* The data of a request: a signal, a count or a switch, or the events of a mask. */
+static void read_data(const struct line *line, struct command *command)
+{
+    static const char *const plain[] = {"PT_GETLWPLIST", "PT_FOLLOW_FORK", "PT_LWP_EVENTS"};
+    const char *request = line->words[0];
+    command->signal = line->count > 2 ? native_signal(signal_of_word(line->words[2])) : 0;
+    for (size_t i = 0; i < sizeof plain / sizeof *plain; i++)
+        if (strcmp(request, plain[i]) == 0)
+            command->signal = line->count > 2 ? (int)atol(line->words[2]) : 0;
+    if (strcmp(request, "PT_SET_EVENT_MASK") != 0)
+        return;
+    command->signal = 0;
+    for (int i = 2; i < line->count; i++)
+        command->set |= event_of_word(line->words[i]);
+}
+
+/* Which LWP a request means that names a process: the one that has reported the stop. */
+static int lwp_meant(long target)
+{
+    char reporting[32];
+    if (target >= FIRST_LWP)
+        return cast_lwp(target);
+    rows_field(false, false, target, "lwp", reporting, sizeof reporting);
+    return cast_lwp(atol(reporting));
+}
+
+/* A suspended LWP isn't waited for. */
+static void note_suspension(const struct line *line)
+{
+    const char *request = line->words[0];
+    long target = line->count > 1 ? atol(line->words[1]) : 0;
+    int lwp = lwp_meant(target), process = lwp < 0 ? cast_process(target) : cast.lwp[lwp].process;
+    if (lwp >= 0 && (strcmp(request, "PT_SUSPEND") == 0 || strcmp(request, "PT_RESUME") == 0))
+        cast.lwp[lwp].suspended = strcmp(request, "PT_SUSPEND") == 0;
+    for (int i = 0; i < cast.lwps && strcmp(request, "PT_DETACH") == 0; i++)
+        if (cast.lwp[i].process == process)
+            cast.lwp[i].suspended = false;
+}
+
+static enum made say_info(const struct reply *reply, const struct lwp_info *info)
+{
+    char flags[128], blocked[128], pending[128];
+    flags_text(info->reports ? info->flags : 0, flags, sizeof flags);
+    signals_text(info->blocked, "none", blocked, sizeof blocked);
+    signals_text(info->pending, "none", pending, sizeof pending);
+    return say(reply, "info %ld %s flags=%s mask=%s pending=%s child=%ld code=%u", model_lwp(info->lwp),
+        info->reports ? "SIGNAL" : "NONE", flags, blocked, pending,
+        info->reports && info->child != 0 ? model_process(info->child) : 0, info->reports ? info->code : 0);
+}
+
+static enum made say_answer(const struct line *line, const struct reply *reply, const struct answer *answer)
+{
+    const char *request = line->words[0];
+    char events[128];
+    if (strcmp(request, "PT_LWPINFO") == 0)
+        return say_info(reply, &answer->info);
+    if (strcmp(request, "PT_GETNUMLWPS") == 0)
+        return say(reply, "number %ld", answer->result);
+    if (strcmp(request, "PT_GET_EVENT_MASK") == 0) {
+        events_text((unsigned)answer->status, events, sizeof events);
+        return say(reply, "mask %s", events);
+    }
+    if (strcmp(request, "PT_GETLWPLIST") != 0)
+        return say(reply, "ok");
+    size_t used = (size_t)snprintf(reply->text, reply->size, "lwps");
+    for (long i = 0; i < answer->result && i < MOST_LWPS && used < reply->size; i++)
+        used += (size_t)snprintf(reply->text + used, reply->size - used, " %ld", model_lwp(answer->lwps[i]));
+    return MADE;
+}
+
 static enum made make_ptrace(const struct line *line, const struct reply *reply)
 {
     struct answer answer;
@@ -229,12 +299,15 @@ static enum made make_ptrace(const struct line *line, const struct reply *reply)
     if (line->count > 1 && names_process_1(line->words[1]))
         return cannot(reply, "process 1 is the player, of the same user");
     command.number = line->count > 1 ? native_target(atol(line->words[1])) : 0;
-    command.signal = line->count > 2 ? native_signal(signal_of_word(line->words[2])) : 0;
+    read_data(line, &command);
     if (command.signal < 0)
         return cannot(reply, "the kernel has no such signal");
     if (!ask_caller(line, &command, reply, &answer, &made))
         return made;
-    return plain(reply, &answer);
+    if (answer.error != 0)
+        return refuse(reply, answer.error);
+    note_suspension(line);
+    return say_answer(line, reply, &answer);
 }
 
 /* ---- turns */
@@ -327,7 +400,7 @@ static enum made leave_birth(int lwp, enum outcome outcome, const struct reply *
         return refuse(reply, slot->answer.error);
     }
     if (outcome != OUT_GONE && (outcome != OUT_STOPPED || strstr(reply->wanted, "PL_FLAG_SCX") != NULL)) {
-        cast_await_newborn(child, atomic_load(&slot->process));
+        cast_await_newborn(child, lwp);
         give_numbers(child, slot->command.act);
     }
     if (outcome == OUT_STOPPED)

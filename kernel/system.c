@@ -1,5 +1,5 @@
 /* The kernel that this is compiled for. */
-#ifdef __FreeBSD__
+#if defined __FreeBSD__ || defined TRACEHOST_POSIX_H /* tracehost-cc */
 #include "freebsd.c"
 #else
 #include "linux.c"

@@ -2,7 +2,6 @@
  *
  * The outer process reads the command line and waits; the inner one plays. Where the kernel has private numbers of processes the
  * inner one is process 1 of its own, so nothing outlives it; elsewhere each of the two ends what the other leaves. */
-#define _GNU_SOURCE
 #include <errno.h>
 #include <fcntl.h>
 #include <getopt.h>
@@ -178,15 +177,15 @@ static void __attribute__((noreturn)) be_inner(int outer_lives, const struct opt
 {
     struct pollfd outer = {.fd = outer_lives, .events = POLLIN};
     is_inner = true;
-    setsid();
-    reset_inherited();
+    if (system_is_reaper)
+        reset_inherited();
     signal(SIGPIPE, SIG_IGN);
     if (!private_numbers)
         signal(SIGTERM, note_signal);
     system_inner();
-    if (poll(&outer, 1, 0) != 0) /* it has ended before it could be noticed */
+    if (system_is_reaper && poll(&outer, 1, 0) != 0) /* it has ended before it could be noticed */
         _exit(STATUS_FAULT);
-    if (!private_numbers)
+    if (system_is_reaper && !private_numbers)
         fprintf(stderr, "tracehost-play: no private numbers of processes here: signals to all processes aren't tried\n");
     play_all(options);
     _exit(STATUS_FAULT);
@@ -263,7 +262,8 @@ int main(int count, char **words)
     stage = map_stage(stage_descriptor);
     if (stage_descriptor < 0 || image_descriptor < 0 || stage == NULL || pipe(lives) < 0)
         fault("the host refuses memory: %s", strerror(errno));
-    catch_signals();
+    if (system_is_reaper)
+        catch_signals();
     pid_t inner = system_fork_inner();
     if (inner < 0)
         fault("the host refuses a new process: %s", strerror(errno));

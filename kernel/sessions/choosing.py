@@ -3,7 +3,8 @@
 from __future__ import annotations
 
 import random
-from collections.abc import Callable, Sequence
+from collections import Counter
+from collections.abc import Callable, Iterator, Sequence
 from functools import partial
 
 from tracehost.names import EVENTS, OPTIONS, Signal
@@ -16,6 +17,8 @@ _CALLS = ("fork", "vfork", "exec", "thr_new", "thr_exit")
 _STRANGE = 0.06
 # how often a step is of processes that have to do with each other, and how often one that goes on with what they began
 _AIMED, _GOES_ON = 0.75, 0.6
+# how often a refusal is looked for that was reached less often than wanted
+_LOOKS_FOR_REFUSALS, _WANTED = 0.2, 30
 _PASSES = ("PT_CONTINUE", "PT_STEP", "PT_TO_SCE", "PT_TO_SCX", "PT_SYSCALL", "PT_DETACH")
 # signals that stop, continue, end, or come by themselves are met more often than the rest
 _OFTEN = tuple(Signal[name] for name in "SIGSTOP SIGCONT SIGTSTP SIGKILL SIGTERM SIGCHLD SIGUSR1 SIGTRAP".split())
@@ -31,8 +34,9 @@ class Numbers:
 
 
 class Chooser:
-    def __init__(self, chance: random.Random, kind: Kind) -> None:
-        self._chance, self._kind = chance, kind
+    def __init__(self, chance: random.Random, kind: Kind, counts: Counter[str]) -> None:
+        """`counts` are the goals that were reached so far."""
+        self._chance, self._kind, self._counts = chance, kind, counts
         self._names, self._weights = list(kind.weights), list(kind.weights.values())
         self._makers: dict[str, Callable[[], str]] = {
             "spawn": lambda: "spawn",
@@ -45,6 +49,7 @@ class Chooser:
             "compute": lambda: f"turn {self._lwp()} compute",
             "exit": lambda: f"turn {self._lwp()} enter exit {self._chance.choice((0, 1, 7, 255))}",
             "other": lambda: f"turn {self._lwp()} enter other 20",
+            "refused": lambda: self._rarest_refusal()[1],
             "PT_TRACE_ME": lambda: f"ptrace {self._child()} PT_TRACE_ME",
             "PT_ATTACH": self._attach,
             **{call: self._entering(call) for call in _CALLS},
@@ -54,6 +59,10 @@ class Chooser:
     def step(self, rows: Rows, seen: Numbers) -> str:
         """The words of a step of the user with these rows, without the user."""
         self._rows, self._seen = rows, seen
+        if self._is(_LOOKS_FOR_REFUSALS):
+            refusal, words = self._rarest_refusal()
+            if self._counts[refusal] < _WANTED:
+                return words
         next_steps = self._next_steps() if self._is(_GOES_ON) else []
         if next_steps:
             return self._chance.choice(next_steps)()
@@ -84,6 +93,8 @@ class Chooser:
                 steps.append(partial(self._excite, row))
             if row["state"] == "job_stop":
                 steps.append(partial(self._release, row))
+        waiting = [lwp["vfork_child"] for lwp in self._rows.lwps.values() if lwp["mode"] == "waits_for_vfork"]
+        steps += [partial(self._end_of_vfork, child) for child in waiting if self._rows.processes[child]["state"] == "runs"]
         return steps
 
     def _collect(self, asker: Process, row: Process) -> str:
@@ -100,11 +111,15 @@ class Chooser:
     def _excite(self, row: Process) -> str:
         """What a traced process stops for: a signal, or a call of one of its LWPs."""
         if self._is(0.5):
-            return f"kill {self._caller()} {row['pid']} {int(self._chance.choice(self._kind.signals))}"
+            signal = min(self._chance.sample(self._kind.signals, 4), key=lambda signal: self._counts[f"stop {signal.name}"])
+            return f"kill {self._caller()} {row['pid']} {int(signal)}"
         lwp = self._chance.choice(self._rows.of(row["pid"]))["lwp"]
         calls = [call for call in (*_CALLS, "other") if call in self._names]
         call = self._chance.choice(calls)
         return f"turn {lwp} enter {call} 20" if call == "other" else f"turn {lwp} enter {call}"
+
+    def _end_of_vfork(self, child: int) -> str:
+        return f"turn {self._rows.of(child)[0]['lwp']} enter {self._chance.choice(('exec', 'exit 3'))}"
 
     def _release(self, row: Process) -> str:
         """What ends a job stop."""
@@ -118,14 +133,18 @@ class Chooser:
     def _is(self, often: float) -> bool:
         return self._chance.random() < often
 
-    def _strange(self, gone: Sequence[int], *numbers: int) -> int:
-        """A number that the user hasn't, or that is of another kind."""
-        return self._chance.choice([*gone, *self._seen.others, *numbers])
+    def _no_process(self) -> int:
+        """A number that isn't a process of the user."""
+        return self._chance.choice([*self._seen.gone_processes, *self._seen.others, 999, 1 + max(self._rows.processes, default=1000)])
+
+    def _no_lwp(self) -> int:
+        """A number that isn't an LWP of the user."""
+        return self._chance.choice([*self._seen.gone_lwps, 1 + max(self._rows.lwps, default=100_000)])
 
     def _pid(self, processes: Sequence[Process] = ()) -> int:
         """A process, one of these if there are any."""
         if not self._rows.processes or self._is(_STRANGE):
-            return self._strange(self._seen.gone_processes, 999, 1 + max(self._rows.processes, default=1000))
+            return self._no_process()
         if processes and self._is(_AIMED):
             return self._chance.choice(processes)["pid"]
         return self._chance.choice(list(self._rows.processes))
@@ -142,19 +161,10 @@ class Chooser:
         return self._pid(self._where(lambda row: row["state"] == "runs" and row["parent"] != 1 and not row.get("tracer")))
 
     def _lwp(self, likely: Callable[[Process, Lwp], object] = lambda row, lwp: row["state"] == "runs") -> int:
-        if self._is(_STRANGE) and (held := self._held()):
-            return self._chance.choice(held)
         if not self._rows.lwps or self._is(_STRANGE):
-            return self._strange(self._seen.gone_lwps, 99_999, 1 + max(self._rows.lwps, default=100_000))
+            return 99_999 if self._is(0.3) else self._no_lwp()
         aimed = [number for number, lwp in self._rows.lwps.items() if likely(self._rows.processes[lwp["pid"]], lwp)]
         return self._chance.choice(aimed if aimed and self._is(_AIMED) else list(self._rows.lwps))
-
-    def _held(self) -> list[int]:
-        """LWPs that get no turn."""
-        rows = self._rows
-        idle = self._where(lambda row: row["state"] != "runs")
-        waiting = [lwp for lwp in rows.lwps.values() if lwp.get("suspended") or lwp["mode"] == "waits_for_vfork"]
-        return [lwp["lwp"] for lwp in [*waiting, *(lwp for row in idle for lwp in rows.of(row["pid"]))]]
 
     def _signal(self, refused: Sequence[int] = (0, 32, 77)) -> int:
         if self._is(_STRANGE / 2):
@@ -165,7 +175,7 @@ class Chooser:
 
     def _kill(self) -> str:
         caller = self._caller()
-        which = -1 if self._is(0.05) else self._chance.choice((0, -3)) if self._is(0.03) else self._pid()
+        which = -1 if self._is(0.08) else self._chance.choice((0, -3)) if self._is(0.03) else self._pid()
         return f"kill {caller} {which} {self._signal((0, 0, 32, 77))}"
 
     def _sigaction(self) -> str:
@@ -198,42 +208,95 @@ class Chooser:
 
     def _target(self, pid: int) -> int:
         """The process, or one of its LWPs."""
-        if self._is(_STRANGE / 2):
-            return self._chance.choice((0, self._lwp()))
         lwps = self._rows.of(pid)
         often = 0.6 if len(lwps) > 1 else 0.1
         return self._chance.choice(lwps)["lwp"] if lwps and self._is(often) else pid
 
     def _request(self, name: str) -> str:
         """A request, of each relation between its caller and its target as often as of any other."""
-        pairs: dict[str, list[tuple[int, int]]] = {}
+        pairs = self._pairs()
+        return self._with_data(f"ptrace {{}} {name} {{}}".format(*self._chance.choice(list(pairs.values()))), name)
+
+    def _pairs(self) -> dict[str, tuple[int, int]]:
+        """Of each relation a caller and a target; by the condition that refuses requests, if there is one."""
+        pairs: dict[str, list[tuple[int, int]]] = {
+            "target_process_gone": [(self._caller(), self._no_process())],
+            "target_lwp_gone": [(self._caller(), self._no_lwp())],
+            "target_is_0": [(self._caller(), 0)],
+            "caller_gone": [(self._no_process(), self._pid())],
+        }
         for caller in self._rows.processes.values():
             for target in self._rows.processes.values():
                 pairs.setdefault(_relation(caller, target), []).append((caller["pid"], target["pid"]))
-        if not pairs or self._is(_STRANGE):
-            return self._request_to(name, self._caller(), self._pid())
-        return self._request_to(name, *self._chance.choice(self._chance.choice(list(pairs.values()))))
+        return {relation: self._chance.choice(found) for relation, found in pairs.items()}
+
+    # ---- refusals
+
+    def _rarest_refusal(self) -> tuple[str, str]:
+        """Of the steps that may be refused here, the one whose refusal was reached least often."""
+        steps = list(self._refusals())
+        self._chance.shuffle(steps)
+        return min(steps, key=lambda step: self._counts[step[0]])
+
+    def _refusals(self) -> Iterator[tuple[str, str]]:
+        """Refusals, and the steps that they answer."""
+        requests = [name for name in self._names if name.startswith("PT_") and name != "PT_TRACE_ME"]
+        for relation, (caller, target) in self._pairs().items():
+            for name in requests if relation else ():
+                if name != "PT_ATTACH" or relation.startswith(("caller", "target")):
+                    yield f"refusal {name} {relation}", f"ptrace {caller} {name} {target}"
+            if relation.startswith("caller"):
+                yield f"refusal PT_TRACE_ME {relation}", f"ptrace {caller} PT_TRACE_ME"
+                yield f"refusal list {relation}", f"list {caller}"
+                yield f"refusal kill {relation}", f"kill {caller} {target} 0"
+                yield f"refusal wait4 {relation}", f"wait4 {caller} -1"
+                yield f"refusal sigaction {relation}", f"sigaction {caller} 15 ignore"
+        for reason, lwp in self._idle():
+            for act in ("compute", "raise 30", "block 30", "enter fork"):
+                yield f"refusal {act.split()[0]} {reason}", f"turn {lwp} {act}"
+
+    def _idle(self) -> Iterator[tuple[str, int]]:
+        """LWPs that get no turn, and why."""
+        yield from (("lwp_gone", self._no_lwp()), ("no_number_of_lwp", self._pid()))
+        for number, lwp in self._rows.lwps.items():
+            state = self._rows.processes[lwp["pid"]]["state"]
+            if state != "runs":
+                yield f"lwp_in_{state}", number
+            elif lwp.get("suspended"):
+                yield "lwp_suspended", number
+            elif lwp["mode"] == "waits_for_vfork":
+                yield "lwp_waits", number
+
+    # ---- requests
 
     def _request_to(self, name: str, caller: int, target: int) -> str:
-        words = f"ptrace {caller} {name} {self._target(target)}"
+        return self._with_data(f"ptrace {caller} {name} {self._target(target)}", name)
+
+    def _with_data(self, words: str, name: str) -> str:
         if name == "PT_SET_EVENT_MASK":
             return " ".join((words, *(event for event in EVENTS if self._is(0.5))))
         if name == "PT_GETLWPLIST":
             return f"{words} {self._chance.choice((0, 1, 2, 8))}"
         if name in ("PT_FOLLOW_FORK", "PT_LWP_EVENTS"):
             return f"{words} {self._chance.choice((0, 1, 1))}"
-        return f"{words} {self._signal((32, 77))}" if name in _PASSES and self._is(0.2) else words
+        if name not in _PASSES or self._is(0.75):
+            return words
+        return f"{words} {self._chance.choice((32, 77)) if self._is(0.2) else self._signal()}"
 
 
 def _relation(caller: Process, target: Process) -> str:
-    """What a process is to one that asks for it; only of callers that run."""
+    """What a process is to one that asks for it: the condition that refuses most requests, or "" if none does."""
     if caller["state"] != "runs":
-        return caller["state"]
-    if target["state"] == "zombie" or "tracer" not in target:
-        return f"untraced {target['state']}"
+        return "caller_gone" if caller["state"] == "zombie" else f"caller_in_{caller['state']}"
+    if target["state"] == "zombie":
+        return "target_ended"
+    if "tracer" not in target:
+        return "not_traced"
     if target["tracer"] != caller["pid"]:
-        return "another's"
-    return f"{target['state']} {target.get('reported', False)}"
+        return "traced_by_another"
+    if target["state"] != "trace_stop":
+        return "in_no_stop"
+    return "" if target.get("reported") else "stop_not_told"
 
 
 def _has_news(row: Process) -> bool:

@@ -12,13 +12,13 @@ from .model import Lwp, Rows
 
 # how often each step comes; those of ptrace(2) by their requests, those of an LWP by its act or call
 _UNTRACED = {
-    "spawn": 3, "fork": 8, "exit": 4, "kill": 14, "wait4": 16, "sigaction": 9, "block": 6, "raise": 8, "list": 2, "compute": 1,
+    "spawn": 3, "fork": 8, "exit": 4, "kill": 14, "wait4": 16, "sigaction": 9, "block": 6, "raise": 8, "list": 2, "compute": 1, "refused": 4,
 }  # fmt: skip
 _TRACED = {"PT_TRACE_ME": 4, "PT_ATTACH": 8, "PT_CONTINUE": 14, "PT_DETACH": 4, "PT_KILL": 2, "wait4": 24}
 _CALLS = {"vfork": 2, "exec": 2, "thr_new": 4, "thr_exit": 2, "other": 1}
 _FREEBSD = {
-    "PT_STEP": 4, "PT_TO_SCE": 2, "PT_TO_SCX": 2, "PT_SYSCALL": 4, "PT_SUSPEND": 4, "PT_RESUME": 3, "PT_LWPINFO": 4,
-    "PT_GETNUMLWPS": 1, "PT_GETLWPLIST": 2, "PT_GET_EVENT_MASK": 1, "PT_SET_EVENT_MASK": 8, "PT_FOLLOW_FORK": 2, "PT_LWP_EVENTS": 2,
+    "PT_STEP": 4, "PT_TO_SCE": 3, "PT_TO_SCX": 3, "PT_SYSCALL": 4, "PT_SUSPEND": 4, "PT_RESUME": 3, "PT_LWPINFO": 4,
+    "PT_GETNUMLWPS": 2, "PT_GETLWPLIST": 2, "PT_GET_EVENT_MASK": 2, "PT_SET_EVENT_MASK": 16, "PT_FOLLOW_FORK": 4, "PT_LWP_EVENTS": 4,
     "vfork": 5, "thr_new": 8, "thr_exit": 6, "exec": 4, "other": 4,
 }  # fmt: skip
 # numbers of signals on Linux that differ from FreeBSD's
@@ -39,11 +39,14 @@ class Kind(NamedTuple):
     """Whether the kernels of this kind can be asked for the step."""
     unordered: Callable[[Rows, Lwp], bool]
     """Whether kernels may take the LWP's pending signals in another order, so that something else comes of it."""
-    users: int
+    kills: float
+    """How often the end of a debugger kills its tracees: a kernel without such a setting keeps them."""
 
 
-def _any_step(rows: Rows, step: Step) -> bool:
-    return True
+def _has_caller(rows: Rows, step: Step) -> bool:
+    """A call is made by an LWP that runs: not by one that is suspended or waits for its vfork's child."""
+    lwps = rows.of(step["caller"]) if "caller" in step else []
+    return not lwps or any(lwp["mode"] == "runs" and not lwp.get("suspended") for lwp in lwps)
 
 
 def _in_order(rows: Rows, lwp: Lwp) -> bool:
@@ -67,6 +70,10 @@ def _other_order(rows: Rows, lwp: Lwp) -> bool:
 
 
 def _on_both(rows: Rows, step: Step) -> bool:
+    return _has_caller(rows, step) and _on_linux(rows, step)
+
+
+def _on_linux(rows: Rows, step: Step) -> bool:
     """On Linux each thread is traced by itself, an exec gives a thread its process's number, and the first thread of a
     process shows the process's state."""
     if step["op"] == "turn" and step.get("act") == "enter" and step["lwp"] in rows.lwps:
@@ -87,9 +94,9 @@ def _on_both(rows: Rows, step: Step) -> bool:
 
 _UNSHARED = frozenset({Signal.SIGEMT, Signal.SIGINFO})
 KINDS: dict[str, Kind] = {
-    "untraced": Kind(_UNTRACED, [s for s in Signal if s not in _UNSHARED], _on_both, _other_order, 1),
+    "untraced": Kind(_UNTRACED, [s for s in Signal if s not in _UNSHARED], _on_both, _other_order, 0.1),
     "shared": Kind(
-        {**_UNTRACED, **_CALLS, **_TRACED}, [s for s in Signal if s not in _UNSHARED], _on_both, _other_order, 2
+        {**_UNTRACED, **_CALLS, **_TRACED}, [s for s in Signal if s not in _UNSHARED], _on_both, _other_order, 0.1
     ),
-    "all": Kind({**_UNTRACED, **_CALLS, **_TRACED, **_FREEBSD}, list(Signal), _any_step, _in_order, 3),
+    "all": Kind({**_UNTRACED, **_CALLS, **_TRACED, **_FREEBSD}, list(Signal), _has_caller, _in_order, 0.7),
 }

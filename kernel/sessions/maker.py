@@ -11,6 +11,7 @@ from .choosing import Chooser, Numbers
 from .goals import Group, reached
 from .kinds import KINDS
 from .model import FIRST_USER, NO_ROWS, Made, Model, Rows, Settler, Unsettled, by_user, changed_lines, lines_of, step_in
+from .starts import Starts
 
 _STEPS = (20, 30)
 _MOST_LWPS = 12
@@ -89,7 +90,8 @@ class Maker:
         self.steps = 0
         self._kind, self._chance = KINDS[kind], random.Random(seed)
         self._users = [FIRST_USER + number for number in range(users)]
-        self._chooser = Chooser(self._chance, self._kind)
+        self._chooser = Chooser(self._chance, self._kind, self.counts)
+        self._starts = Starts(self._chance, kind, self.counts)
         self._settler = Settler(self._chance, self._kind.unordered)
         self._new = {kills: Model(kills) for kills in (True, False)}
         self._free = [Model() for _ in range(max(_CANDIDATES) + 1)]
@@ -98,20 +100,21 @@ class Maker:
         return (self._session(f"{self.name} {self.seed} {number}") for number in range(count))
 
     def _session(self, name: str) -> Session:
-        kills = self._chance.random() < 0.7
+        start = self._starts.choose()
+        kills = self._chance.random() < self._kind.kills
+        if start is not None and start.kills is not None:
+            kills = start.kills
         started = _Started(self._free.pop())
         started.model.become(self._new[kills])
-        for user in self._first_users():
-            self._take(started, self._tried(started, user, "spawn"))
+        for words in start.steps if start is not None else ["spawn"] * self._chance.choice((1, 2, 3)):
+            self._take(started, self._tried(started, self._users[0], words))
+        for user in self._users[1:]:
+            if self._chance.random() < _SHARES:
+                self._take(started, self._tried(started, user, by_user(user, "spawn")))
         for _ in range(self._chance.randint(*_STEPS) - len(started.parts)):
             self._take(started, self._best(started))
         self._free.append(started.model)
         return Session(name, kills, tuple(started.parts))
-
-    def _first_users(self) -> list[int]:
-        """The users of the first steps, which make processes."""
-        first, *others = self._users
-        return [first] * self._chance.choice((1, 2, 3)) + [user for user in others if self._chance.random() < _SHARES]
 
     def _best(self, started: _Started) -> Optional[_Tried]:
         """Of some candidates the one with the rarest goal."""
@@ -146,7 +149,7 @@ class Maker:
         model = self._free.pop()
         model.become(started.model)
         try:
-            made = self._settler.group(model, by_user(user, words) if words == "spawn" else words)
+            made = self._settler.group(model, words)
         except Unsettled as unsettled:
             self.unsettled[str(unsettled)] += 1
             self._free.append(model)

@@ -249,29 +249,36 @@ def _set(names: Sequence[str]) -> str:
     return _numbers(tuple(names))
 
 
-def process_line(user: int, row: Process, lwps: int) -> str:
+def _yes(holds: object) -> str:
+    return "yes" if holds else "no"
+
+
+def process_line(user: int, row: Process, lwps: Sequence[Lwp]) -> str:
+    """The fields that kernels show, and then those that conditions of differences ask for."""
     line = (
-        f"process {row['pid']} user={user} state={row['state']} parent={row['parent']} tracer={row.get('tracer', 0)} lwps={lwps}"
-        f" pending={_set(row.get('pending', []))} ignored={_set(row.get('ignore', []))} caught={_set(row.get('catch', []))}"
+        f"process {row['pid']} user={user} state={row['state']} parent={row['parent']} tracer={row.get('tracer', 0)}"
+        f" lwps={len(lwps)} pending={_set(row.get('pending', []))} ignored={_set(row.get('ignore', []))}"
+        f" caught={_set(row.get('catch', []))}"
     )
     if row["state"] == "trace_stop":
         line += f" stop={int(Signal[row['stop_signal']])} lwp={row['stop_lwp']}"
     if row["state"] in ("trace_stop", "job_stop"):
-        line += f" told={'yes' if row.get('reported') else 'no'}"
-    return line
+        line += f" told={_yes(row.get('reported'))}"
+    waits = any(lwp["mode"] == "waits_for_vfork" for lwp in lwps)
+    return f"{line} continued={_yes(row.get('continued'))} waits={_yes(waits)}"
 
 
 def lwp_line(row: Lwp) -> str:
     pending, blocked = _set(row.get("pending", [])), _set(row.get("blocked", []))
-    return f"lwp {row['lwp']} process={row['pid']} blocked={blocked} pending={pending}"
+    return f"lwp {row['lwp']} process={row['pid']} blocked={blocked} pending={pending} mode={row['mode']}"
 
 
 def lines_of(user: int, rows: Rows) -> dict[str, str]:
     """The line of each row, by its first two words."""
-    counts: dict[int, int] = {}
+    owned: dict[int, list[Lwp]] = {}
     for lwp in rows.lwps.values():
-        counts[lwp["pid"]] = counts.get(lwp["pid"], 0) + 1
-    lines = {f"process {pid}": process_line(user, row, counts.get(pid, 0)) for pid, row in rows.processes.items()}
+        owned.setdefault(lwp["pid"], []).append(lwp)
+    lines = {f"process {pid}": process_line(user, row, owned.get(pid, ())) for pid, row in rows.processes.items()}
     lines.update((f"lwp {number}", lwp_line(row)) for number, row in rows.lwps.items())
     return lines
 

@@ -35,6 +35,26 @@ reply look(struct step s)
 	return r;
 }
 
+/* The row of a process, and of an LWP if there is one of that number; false without the process. */
+bool rows_of(int pid, int tid, tracehost_process *process, tracehost_lwp *lwp)
+{
+	static tracehost_process processes[PROCESSES];
+	static tracehost_lwp lwps[LWPS];
+	size_t n_processes = 0, n_lwps = 0, at = 0;
+	uint32_t code = tracehost_view(&model, USER, processes, PROCESSES, lwps, LWPS, &n_processes, &n_lwps);
+	if (code != TRACEHOST_ANSWERED)
+		broken("the model doesn't show its rows: %s", tracehost_strerror(code));
+	*lwp = (tracehost_lwp){0};
+	for (size_t i = 0; i < n_lwps; i++)
+		if (lwps[i].lwp == (uint32_t)tid)
+			*lwp = lwps[i];
+	while (at < n_processes && processes[at].pid != (uint32_t)pid)
+		at++;
+	if (at < n_processes)
+		*process = processes[at];
+	return at < n_processes;
+}
+
 void numbers_of_last(struct numbers *numbers)
 {
 	size_t room = sizeof numbers->at / sizeof numbers->at[0];

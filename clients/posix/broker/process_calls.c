@@ -330,10 +330,31 @@ BODY(join)
 		say("ok");
 }
 
-/* sysctl(3) kern.proc.pid: whether the process is there, and whether it has ended. */
+/* What <sys/proc.h> has: of a process, and of a thread. */
+static int stat_of(const tracehost_process *row)
+{
+	enum { RUNS = 2, STOPPED = 4, ENDED = 5 };
+	return row->state == 0 ? RUNS : row->state == 3 ? ENDED : STOPPED;
+}
+
+static int stat_of_lwp(const tracehost_process *process, const tracehost_lwp *row)
+{
+	enum { SLEEPS = 3, IN_VFORK = 2 };
+	return process->state == 0 && (row->suspended || row->mode == IN_VFORK) ? SLEEPS : stat_of(process);
+}
+
+static int flags_of(const tracehost_process *row)
+{
+	static const int flags[] = {0, 0x40000, 0x20000, 0};
+	return flags[row->state & 3];
+}
+
+/* sysctl(3) kern.proc.pid: a process, and one of its threads by its place. */
 BODY(stat_call)
 {
 	struct numbers numbers = {0};
+	tracehost_process row;
+	tracehost_lwp thread;
 	bare_call(l, call->code);
 	reply r = step_of_call(l, (struct step){.op = LIST_PROCESSES, .actor = l->process->pid}, false);
 	if (r.kind == TRACEHOST_PIDS)
@@ -342,11 +363,12 @@ BODY(stat_call)
 	for (size_t i = 0; i < numbers.count; i++)
 		is_there |= numbers.at[i] == arguments[0];
 	const struct process *p = live_process(arguments[0]);
-	if (!is_there)
+	size_t count = p != NULL ? p->lists.lwps.count : 0, place = (size_t)arguments[1];
+	int tid = place < count ? p->lists.lwps.at[place]->tid : 0;
+	if (!is_there || !rows_of((int)arguments[0], tid, &row, &thread))
 		say_error(ESRCH);
-	else if (p == NULL)
-		say("ok 5 0 0 0 0 0");
 	else
-		say("ok 2 %d %d %zu %d %d", p->parent, p->tracer, p->lists.lwps.count, p->real,
-			p->lists.lwps.count > 0 ? p->lists.lwps.at[0]->tid : 0);
+		say("ok %d %u %u %zu %d %d %d %u %u %u %d %u %u", stat_of(&row), row.parent, row.tracer, count, p != NULL ? p->real : 0,
+			tid, flags_of(&row), row.pending << 1, p != NULL ? p->ignored : 0, p != NULL ? p->catches : 0,
+			stat_of_lwp(&row, &thread), thread.blocked << 1, thread.pending << 1);
 }

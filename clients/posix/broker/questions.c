@@ -34,7 +34,7 @@ static const struct call calls[] = {
 	{"getppid",   getppid_call,    39, 0, 0, "enter leave compute",          0, 0, false, "getppid"},
 	{"join",      join,            454, 2, 2, "enter leave compute",          ENDS | TIME, 0, false,
 		"pthread_join, pthread_timedjoin_np"},
-	{"stat",      stat_call,       202, 1, 1, "enter leave compute",          0, 0, false,
+	{"stat",      stat_call,       202, 1, 2, "enter leave compute",          0, 0, false,
 		"sysctl kern.proc, kinfo_getproc, kinfo_getvmmap"},
 	{"kill",      kill_call,       37, 2, 2, "enter kill leave compute",     0, NEWS | RUNS, false, "kill, pdkill"},
 	{"thr_kill",  thr_kill,        433, 2, 2, "enter leave raise compute",    0, NEWS, false,

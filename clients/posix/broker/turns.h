@@ -30,6 +30,7 @@ struct numbers {
 	uint32_t at[1024];
 };
 void numbers_of_last(struct numbers *numbers);
+bool rows_of(int pid, int tid, tracehost_process *process, tracehost_lwp *lwp);
 bool is_request(int64_t number);
 void write_last_reply(char *text, size_t room);
 void write_step(char *text, size_t room, const struct step *s);

@@ -149,22 +149,53 @@ static int give(const void *from, size_t count, void *to, size_t *size)
 	return count <= room ? 0 : fail(ENOMEM);
 }
 
-static int give_process(pid_t pid, void *to, size_t *size)
+/* The process that the last question was about; `thread`: in the place of its first thread the one that was asked for. */
+static struct kinfo_proc answered(pid_t pid, int thread)
 {
 	struct kinfo_proc process = {.ki_structsize = sizeof process, .ki_pid = pid, .ki_pgid = 1, .ki_sid = 1, .ki_reaper = 1};
 	size_t length = 0;
 	process.ki_stat = (char)tracehost_number(), process.ki_ppid = (pid_t)tracehost_number();
 	process.ki_tracer = (pid_t)tracehost_number(), process.ki_numthreads = (int)tracehost_number();
-	process.ki_flag = process.ki_tracer != 0 ? P_TRACED : 0;
 	process.ki_uid = process.ki_ruid = process.ki_svuid = getuid(), process.ki_rgid = process.ki_svgid = getgid();
 	long real = tracehost_number();
 	process.ki_tid = (lwpid_t)tracehost_number();
+	process.ki_flag = tracehost_number() | (process.ki_tracer != 0 ? P_TRACED : 0);
+	unsigned long pending = (unsigned long)tracehost_number();
+	tracehost_set(&process.ki_sigignore, (unsigned long)tracehost_number());
+	tracehost_set(&process.ki_sigcatch, (unsigned long)tracehost_number());
+	char thread_stat = (char)tracehost_number();
+	tracehost_set(&process.ki_sigmask, (unsigned long)tracehost_number());
+	unsigned long thread_pending = (unsigned long)tracehost_number();
+	tracehost_set(&process.ki_siglist, thread ? thread_pending : pending);
+	process.ki_stat = thread && process.ki_stat != SZOMB ? thread_stat : process.ki_stat;
 	char *name = read_file(real, "comm", &length);
 	if (length > 0)
 		snprintf(process.ki_comm, sizeof process.ki_comm, "%.*s", (int)length - 1, name);
 	memcpy(process.ki_tdname, process.ki_comm, sizeof process.ki_tdname - 1);
 	free(name);
+	return process;
+}
+
+static int give_process(pid_t pid, void *to, size_t *size)
+{
+	struct kinfo_proc process = answered(pid, 0);
 	return give(&process, sizeof process, to, size);
+}
+
+/* As many as there are threads, or the process if it has none; the first one has been asked for. */
+static int give_threads(pid_t pid, void *to, size_t *size)
+{
+	struct kinfo_proc thread = answered(pid, 1);
+	size_t count = thread.ki_numthreads > 0 ? (size_t)thread.ki_numthreads : 1, room = *size / sizeof thread;
+	for (size_t i = 0; to != NULL && i < count && i < room; i++) {
+		if (i > 0 && ask("stat %d %zu", pid, i) != 0)
+			return -1;
+		if (i > 0)
+			thread = answered(pid, 1);
+		((struct kinfo_proc *)to)[i] = thread;
+	}
+	*size = count * sizeof thread;
+	return to == NULL || count <= room ? 0 : fail(ENOMEM);
 }
 
 /* Each entry ends behind its path. */
@@ -238,8 +269,8 @@ int tracehost_sysctl(const int *name, unsigned count, void *to, size_t *size, co
 {
 	(void)new, (void)new_size;
 	if (count != 4 || name[0] != CTL_KERN || name[1] != KERN_PROC ||
-		(name[2] != KERN_PROC_PID && name[2] != KERN_PROC_ARGS && name[2] != KERN_PROC_PATHNAME && name[2] != KERN_PROC_VMMAP &&
-			name[2] != KERN_PROC_AUXV)) {
+		(name[2] != KERN_PROC_PID && name[2] != (KERN_PROC_PID | KERN_PROC_INC_THREAD) && name[2] != KERN_PROC_ARGS &&
+			name[2] != KERN_PROC_PATHNAME && name[2] != KERN_PROC_VMMAP && name[2] != KERN_PROC_AUXV)) {
 		tracehost_say("sysctl: only kern.proc is here, with pid, args, pathname, vmmap and auxv (ENOENT)");
 		return fail(ENOENT);
 	}
@@ -249,6 +280,8 @@ int tracehost_sysctl(const int *name, unsigned count, void *to, size_t *size, co
 		return -1;
 	if (name[2] == KERN_PROC_PID)
 		return give_process(name[3], to, size);
+	if (name[2] == (KERN_PROC_PID | KERN_PROC_INC_THREAD))
+		return give_threads(name[3], to, size);
 	for (int i = 0; i < 4; i++)
 		tracehost_number();
 	long real = tracehost_number();

@@ -1,4 +1,4 @@
-/* Of FreeBSD's sysctl(3): kern.proc of one process. */
+/* Of FreeBSD's sysctl(3): kern.proc of one process, and of its threads. */
 #ifndef TRACEHOST_SYS_SYSCTL_H
 #define TRACEHOST_SYS_SYSCTL_H
 
@@ -8,6 +8,7 @@
 #define KERN_PROC 14
 #define KERN_PROC_ALL 0 /* ENOENT */
 #define KERN_PROC_PID 1
+#define KERN_PROC_INC_THREAD 0x10
 #define KERN_PROC_ARGS 7
 #define KERN_PROC_PATHNAME 12
 #define KERN_PROC_VMMAP 32

@@ -3,6 +3,7 @@
 #define TRACEHOST_SYS_USER_H
 
 #include <limits.h>
+#include <signal.h>
 #include <stdint.h>
 #include "proc.h"
 #include <sys/types.h>
@@ -17,9 +18,10 @@ struct kinfo_proc {
 	uid_t ki_uid, ki_ruid, ki_svuid;
 	gid_t ki_rgid, ki_svgid;
 	int ki_numthreads;
-	lwpid_t ki_tid; /* of its first thread */
-	long ki_flag; /* P_TRACED */
-	char ki_stat; /* SRUN, or SZOMB */
+	lwpid_t ki_tid; /* of its first thread, or of each with KERN_PROC_INC_THREAD: then ki_siglist is the thread's own too */
+	sigset_t ki_siglist, ki_sigmask, ki_sigignore, ki_sigcatch;
+	long ki_flag; /* P_TRACED, P_STOPPED_SIG, P_STOPPED_TRACE */
+	char ki_stat; /* SRUN, SSTOP, or SZOMB; of a thread SSLEEP too: suspended, or in vfork */
 	char ki_comm[COMMLEN + 1], ki_tdname[TDNAMLEN + 1];
 };
 

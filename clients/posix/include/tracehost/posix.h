@@ -86,6 +86,7 @@ int xsi_sigpause(int);
 int execvP(const char *, const char *, char *const *);
 void closefrom(int);
 int tracehost_sigpause(int);
+void tracehost_compute(void); /* no call: as if the thread had computed for long, others go on, and signals are met */
 #if !__GLIBC_PREREQ(2, 38)
 size_t strlcpy(char *, const char *, size_t);
 size_t strlcat(char *, const char *, size_t);
