@@ -35,17 +35,17 @@ class Sessions(NamedTuple):
     kind: str
     users: int
     seed: int
-    count: int
+    number: int
 
     def names(self, count: int) -> list[str]:
         return [f"{self.kind} {self.seed} {number}" for number in range(count)]
 
 
 PARTS = {
-    "shared": Sessions("shared", 1, 61_001, 2000),
-    "shared-users": Sessions("shared", 3, 61_002, 500),
-    "freebsd": Sessions("all", 1, 61_003, 2000),
-    "freebsd-users": Sessions("all", 3, 61_004, 500),
+    "shared": Sessions("shared", 1, 1, 2000),
+    "shared-users": Sessions("shared", 3, 2, 500),
+    "freebsd": Sessions("all", 1, 3, 2000),
+    "freebsd-users": Sessions("all", 3, 4, 500),
 }
 
 

@@ -52,6 +52,20 @@ static void set_default_signals(void)
         signal(number, SIG_DFL);
 }
 
+static void note(int number) { (void)number; }
+
+/* Blocks what is waited for. With a handler it pends: a signal that is ignored by default may be dropped. */
+static void block_awaited(sigset_t *awaited)
+{
+    static const int numbers[] = {SIGCHLD, SIGALRM, SIGHUP, SIGINT, SIGTERM};
+    sigemptyset(awaited);
+    for (size_t i = 0; i < sizeof numbers / sizeof *numbers; i++) {
+        sigaddset(awaited, numbers[i]);
+        signal(numbers[i], note);
+    }
+    sigprocmask(SIG_SETMASK, awaited, NULL);
+}
+
 static void limit_files(void)
 {
     struct rlimit limit;
@@ -110,7 +124,6 @@ static int await(pid_t child, const sigset_t *awaited)
 
 int main(int count, char **words)
 {
-    static const int ends[] = {SIGCHLD, SIGALRM, SIGHUP, SIGINT, SIGTERM};
     sigset_t awaited;
     char *rest = "";
     long seconds = count > 2 ? strtol(words[1], &rest, 10) : 0;
@@ -121,10 +134,7 @@ int main(int count, char **words)
     pid_t parent = getppid();
     end_with_parent(SIGTERM);
     set_default_signals();
-    sigemptyset(&awaited);
-    for (size_t i = 0; i < sizeof ends / sizeof *ends; i++)
-        sigaddset(&awaited, ends[i]);
-    sigprocmask(SIG_SETMASK, &awaited, NULL);
+    block_awaited(&awaited);
     if (getppid() != parent)
         return BY_SIGNAL + SIGTERM;
     pid_t self = getpid(), child = fork();

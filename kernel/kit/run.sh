@@ -9,12 +9,12 @@
 #   MINUTES       after which nothing more is begun (28)
 #   CASE_SECONDS  the time of a case (20)
 #
-# status: 0 all was run, and nothing differs but what is listed; 1 something else differs; 2 a variable is wrong; 3 not all
-# could be run, or the results couldn't be written
+# status: 0 all that was asked for was run, and nothing differs but what is listed; 1 something else differs; 2 a variable is
+# wrong; 3 not all could be run, or the results couldn't be written
 set -u
 LC_ALL=C
 export LC_ALL
-unset CDPATH
+unset CDPATH MAKEFLAGS MFLAGS GNUMAKEFLAGS MAKELEVEL
 umask 022
 case $0 in */*) cd "${0%/*}" || exit 3 ;; esac
 
@@ -27,6 +27,7 @@ fi
 system=$(uname -s)
 results=results-$(printf '%s-%s' "$system" "$(uname -r)" | tr -c 'A-Za-z0-9._-' _).tsv
 tab=$(printf '\t')
+not_asked='not among the PARTS'
 running=
 
 # ---- the end
@@ -54,13 +55,14 @@ wrong() {
 }
 
 check_variables() {
+	part=
 	for part in $PARTS; do
 		case $part in
 		shared | shared-users | freebsd | freebsd-users | cases) ;;
 		*) wrong "PARTS: there is no part $part" ;;
 		esac
 	done
-	[ -n "${PARTS# }" ] || wrong 'PARTS: no part'
+	[ -n "${part-}" ] || wrong 'PARTS: no part'
 	for number in "$MINUTES" "$CASE_SECONDS"; do
 		case $number in
 		'' | 0* | *[!0-9]* | ??????*) wrong "MINUTES and CASE_SECONDS are numbers, not $number" ;;
@@ -109,10 +111,14 @@ setting() {
 	value=$(sysctl -n "$1" 2>/dev/null) && printf '# setting\t%s\t%s\n' "$1" "$value"
 }
 
+processors() {
+	getconf _NPROCESSORS_ONLN 2>/dev/null || getconf NPROCESSORS_ONLN 2>/dev/null || echo '?'
+}
+
 write_head() {
 	printf '# tracehost-kit\t%s\n' "$(tr ' ' '\t' <VERSION)"
 	printf '# kernel\t%s\t%s\t%s\n' "$system" "$(uname -r)" "$(uname -v | tr '\t' ' ')"
-	printf '# machine\t%s\t%s processors\n' "$(uname -m)" "$(getconf _NPROCESSORS_ONLN)"
+	printf '# machine\t%s\t%s processors\n' "$(uname -m)" "$(processors)"
 	printf '# compiler\t%s\t%s\n' "$PLAYER_CC" "$($PLAYER_CC --version 2>&1 | head -n 1 | tr '\t' ' ')"
 	printf '# date\t%s\n' "$(date -u +%Y-%m-%dT%H:%M:%SZ)"
 	printf '# user\t%s\n' "$(id -u)"
@@ -130,7 +136,7 @@ build_player() {
 	why_no_player=
 	rm -rf work/player
 	cp -R player work/player || fault 'the player cannot be copied'
-	(cd work/player && exec "${MAKE:-make}" CC="$PLAYER_CC") >work/player.out 2>&1 && return
+	(cd work/player && exec "${MAKE:=make}" CC="$PLAYER_CC") >work/player.out 2>&1 && return
 	why_no_player="the player cannot be built: $(first_error work/player.out)"
 	printf '%s\n' "$why_no_player" >&2
 }
@@ -177,7 +183,7 @@ play_file() {
 play_part() {
 	why=$why_no_player
 	[ "$system" = FreeBSD ] || case $1 in freebsd*) why="has FreeBSD's requests" ;; esac
-	is_part "$1" || why='not among the PARTS'
+	is_part "$1" || why=$not_asked
 	for file in sessions/"$1"-[0-9]*.txt; do
 		name=${file##*/}
 		played=work/played/${name%.txt}
@@ -198,7 +204,7 @@ play_sessions() {
 	FreeBSD) differences=differences/freebsd.tsv ;;
 	*) differences=differences/linux.tsv ;;
 	esac
-	case " $PARTS " in *shared* | *freebsd*) build_player ;; *) why_no_player='not among the PARTS' ;; esac
+	case " $PARTS " in *shared* | *freebsd*) build_player ;; *) why_no_player=$not_asked ;; esac
 	for part in shared shared-users freebsd freebsd-users; do
 		printf '%s: %s\n' "$(date +%H:%M:%S)" "$part"
 		play_part $part
@@ -309,7 +315,7 @@ run_program() {
 	program=${program%.c}
 	why=
 	if ! is_part cases; then
-		why='not among the PARTS'
+		why=$not_asked
 	elif [ "$system" != FreeBSD ] && [ -z "$RUN" ]; then
 		why="needs FreeBSD's headers, or CC=tracehost-cc RUN=tracehost-run"
 	elif ! time_is_left; then
@@ -362,6 +368,26 @@ write_results() {
 	mv -f "$results.part" "$results" || fault "$results cannot be written"
 }
 
+# The status, with a sentence.
+verdict() {
+	awk -F "$tab" -v not_asked="$not_asked" -v parts="$PARTS" '
+		$4 == "differs" { differs++ }
+		$4 == "not tried" && $11 != not_asked { left++ }
+		$4 == "not tried" && $11 == not_asked { unasked++ }
+		$1 == "session" || $1 == "case" { all++ }
+		END {
+			if (unasked)
+				print unasked " of " all " weren\047t asked for. Of the others (" parts "):"
+			if (differs)
+				print differs " differ otherwise than is listed."
+			if (left)
+				print left " could not be tried."
+			if (!differs && !left)
+				print "All was run, and nothing differs but what is listed."
+			exit differs ? 1 : left || unasked == all ? 3 : 0
+		}' "$results"
+}
+
 start=$(date +%s)
 end=$((start + MINUTES * 60))
 check_variables
@@ -376,4 +402,4 @@ run_cases
 write_results
 awk -F "$tab" -f way.awk -f table.awk "$results" || fault 'the table cannot be printed'
 printf '\n%s\n' "$results"
-awk -F "$tab" '$4 == "differs" { differs = 1 } $4 == "not tried" { left = 1 } END { exit differs ? 1 : left ? 3 : 0 }' "$results"
+verdict
