@@ -133,13 +133,14 @@ static void give_way(struct wait *wait, int lwp)
         fault("ended by signal %d", atomic_load(&stage->interrupted));
     if (wait->end == 0)
         wait->end = seconds_now() + time_limit;
-    if (seconds_now() < wait->end)
+    bool over = system_most_rounds != 0 ? wait->rounds >= system_most_rounds : seconds_now() >= wait->end;
+    if (!over)
         return;
     const struct slot *slot = &stage->slots[lwp];
     int process = atomic_load(&slot->process);
     long native = atomic_load(&slot->lwp);
-    fault("LWP %ld hangs: it has done nothing for %g seconds; the kernel says that thread %ld of process %d is `%s`",
-        cast.lwp[lwp].number, time_limit, native, process, state_word(system_lwp_state(process, native)));
+    fault("LWP %ld hangs: it does nothing for too long; the kernel says that thread %ld of process %d is `%s`", cast.lwp[lwp].number,
+        native, process, state_word(system_lwp_state(process, native)));
 }
 
 enum state cast_lwp_state(int lwp)
@@ -194,7 +195,7 @@ enum outcome cast_await(int lwp)
         if (state == STATE_GONE || state == STATE_ZOMBIE) {
             if (slot->command.act != ACT_EXEC || cast_state(cast.lwp[lwp].process) != STATE_RUNS)
                 return OUT_GONE;
-        } else if (state != STATE_RUNS && atomic_load(&slot->done) != number) {
+        } else if (is_stopped(state) && atomic_load(&slot->done) != number) {
             if (atomic_load(&slot->begun) == number)
                 return OUT_STOPPED;
             atomic_store(&slot->asked, atomic_load(&slot->begun));
@@ -226,8 +227,9 @@ void cast_spawn(int lwp, long user)
         signal(SIGPIPE, SIG_DFL);
         signal(SIGTERM, SIG_DFL);
         system_become(plays_users() ? native_user(user) : -1);
-        for (int descriptor = 0; descriptor <= 2; descriptor++)
+        for (int descriptor = 0; descriptor < STAGE_DESCRIPTOR; descriptor++)
             close(descriptor);
+        closefrom(IMAGE_DESCRIPTOR + 1);
         if (system_spawns_image && plays_users())
             _exit(puppet_become_image(lwp) < 0);
         puppet_live(lwp);

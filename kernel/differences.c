@@ -85,7 +85,7 @@ static long who(const char *name, size_t length, const struct found *found, bool
 {
     const struct line *line = found->line;
     *is_lwp = false;
-    if (strncmp(name, "row", length) == 0) {
+    if (strncmp(name, "row", length) == 0 || strncmp(name, "was", length) == 0) {
         *is_lwp = found->row_is_lwp;
         return found->row;
     }
@@ -110,7 +110,7 @@ static long who(const char *name, size_t length, const struct found *found, bool
 /* The value of a side of a condition: WHO.FIELD, WHO, `data`, a setting, or the words themselves. */
 static void value_of(const char *side, const struct found *found, char *text, size_t size)
 {
-    static const char *const names[] = {"caller", "target", "row", "lwp"};
+    static const char *const names[] = {"caller", "target", "row", "was", "lwp"};
     size_t length = strcspn(side, ".");
     bool is_lwp;
     snprintf(text, size, "%s", side);

@@ -53,11 +53,14 @@ int system_image(void)
 bool private_numbers = false;
 #if ON_MODEL
 const char system_name[] = "the model";
+const unsigned system_most_rounds = 20000; /* its clock stands still while it computes */
 const bool system_is_reaper = false, system_has_users = false, system_spawns_image = false;
 
 pid_t system_fork_inner(void) { return 0; }
 void system_inner(void) {}
 void system_become(long user) { (void)user; }
+
+int system_kills_on_debugger_exit(void) { return -1; }
 
 void system_kill_all(void)
 {
@@ -67,6 +70,7 @@ void system_kill_all(void)
 }
 #else
 const char system_name[] = "FreeBSD";
+const unsigned system_most_rounds = 0;
 const bool system_is_reaper = true, system_has_users = true;
 const bool system_spawns_image = true; /* a process that has changed its user can't be traced until it has an image of its own */
 
@@ -92,6 +96,13 @@ void system_become(long user)
     if (user >= 0 && (setgroups(1, &group) < 0 || setresgid(group, group, group) < 0 ||
                          setresuid((uid_t)user, (uid_t)user, (uid_t)user) < 0))
         _exit(1);
+}
+
+int system_kills_on_debugger_exit(void)
+{
+    int kills = -1;
+    size_t size = sizeof kills;
+    return sysctlbyname("kern.kill_on_debugger_exit", &kills, &size, NULL, 0) < 0 ? -1 : kills;
 }
 
 void system_kill_all(void)

@@ -24,6 +24,7 @@
 
 const char system_name[] = "Linux";
 const bool system_has_lwp_pending = true;
+const unsigned system_most_rounds = 0;
 const bool system_is_reaper = true, system_has_users = true, system_spawns_image = false;
 bool private_numbers;
 static __thread struct slot *self;
@@ -366,6 +367,9 @@ bool system_process(pid_t process, struct process_facts *facts)
         look_at_lwps(process, facts);
     return facts->state != STATE_GONE;
 }
+
+/* A tracee always goes on: PTRACE_O_EXITKILL is an option of its own. */
+int system_kills_on_debugger_exit(void) { return -1; }
 
 void system_why_untraced(char *text, size_t size)
 {

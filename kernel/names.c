@@ -77,19 +77,22 @@ unsigned event_of_word(const char *word)
     return strcmp(word, "PTRACE_SYSCALL") == 0 ? event_of_word("PTRACE_SCE") | event_of_word("PTRACE_SCX") : 0;
 }
 
+/* An error that the model doesn't have has the system's number. */
 void error_reply(int error, char *text, size_t size)
 {
     static const struct {
         int error;
-        const char *reply;
-    } replies[] = {{EPERM, "EPERM 1"}, {ESRCH, "ESRCH 3"}, {ECHILD, "ECHILD 10"}, {EBUSY, "EBUSY 16"}, {EINVAL, "EINVAL 22"},
-        {EAGAIN, "EAGAIN 35"}};
-    for (size_t i = 0; i < sizeof replies / sizeof *replies; i++)
-        if (replies[i].error == error) {
-            snprintf(text, size, "error %s", replies[i].reply);
+        const char *name;
+        int number;
+    } errors[] = {{EPERM, "EPERM", 1}, {ESRCH, "ESRCH", 3}, {ECHILD, "ECHILD", 10}, {EBUSY, "EBUSY", 16}, {EINVAL, "EINVAL", 22},
+        {EAGAIN, "EAGAIN", 35}, {EINTR, "EINTR", EINTR}, {EIO, "EIO", EIO}, {ENOMEM, "ENOMEM", ENOMEM}, {EACCES, "EACCES", EACCES},
+        {EFAULT, "EFAULT", EFAULT}, {ENOSYS, "ENOSYS", ENOSYS}, {EDEADLK, "EDEADLK", EDEADLK}};
+    for (size_t i = 0; i < sizeof errors / sizeof *errors; i++)
+        if (errors[i].error == error) {
+            snprintf(text, size, "error %s %d", errors[i].name, errors[i].number);
             return;
         }
-    snprintf(text, size, "error %s", strerror(error));
+    snprintf(text, size, "error %d", error);
 }
 
 /* Rising numbers joined by commas; `empty` if there is none. */

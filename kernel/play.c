@@ -6,6 +6,8 @@
 enum verdict { VERDICT_SAME, VERDICT_LISTED, VERDICT_DIFFERS, VERDICT_NOT_TRIED };
 enum { MOST_IGNORED = 64, MOST_REASONS = 32, NAME_TEXT = 128 };
 
+int kills_on_debugger_exit = -1;
+
 static struct {
     long sessions, steps, compared, rows, unlisted, not_tried;
     int reasons;
@@ -234,9 +236,19 @@ static void play_group(size_t at, size_t end)
     rows_keep();
 }
 
+static bool setting_differs(const struct session *session)
+{
+    int kills = kills_on_debugger_exit >= 0 ? kills_on_debugger_exit : system_kills_on_debugger_exit();
+    return kills >= 0 && kills != session->kills;
+}
+
 static void play_steps(void)
 {
     const struct session *session = playing.session;
+    if (setting_differs(session)) {
+        not_tried(&session->lines[0], "kern.kill_on_debugger_exit has another value");
+        return;
+    }
     size_t at = 0, end;
     while (at < session->count && session->lines[at].reply == NULL) /* rows before any step */
         at++;
@@ -317,8 +329,6 @@ void play_file(FILE *file, const char *name, FILE *results)
         session_free(&session);
     }
     reader_close(reader);
-    if (reading == READ_FAILED)
-        fault("%s", why);
     if (reading == READ_WRONG) {
         fprintf(stderr, "tracehost-play: %s\n", why);
         finish(STATUS_WRONG);

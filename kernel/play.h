@@ -77,8 +77,9 @@ struct stage {
 };
 
 #define PUPPET_NAME "tracehost-puppet"
+/* What puppets inherit, and nothing else. */
+enum { STAGE_DESCRIPTOR = 3, IMAGE_DESCRIPTOR = 4 };
 extern struct stage *stage;
-extern int stage_descriptor, image_descriptor;
 void puppet_live(int slot) __attribute__((noreturn));
 void puppet_resume(int slot) __attribute__((noreturn));
 int puppet_become_image(int slot);
@@ -99,6 +100,8 @@ unsigned event_of_word(const char *word); /* 0: none of this name */
 
 enum state { STATE_GONE, STATE_RUNS, STATE_WAITS, STATE_JOB_STOP, STATE_TRACE_STOP, STATE_ZOMBIE };
 
+static inline bool is_stopped(enum state state) { return state == STATE_JOB_STOP || state == STATE_TRACE_STOP; }
+
 struct process_facts {
     enum state state;
     long user, parent, tracer;
@@ -112,6 +115,7 @@ struct lwp_facts {
 };
 
 extern const char system_name[];
+extern const unsigned system_most_rounds; /* of a wait; 0: time alone limits it */
 extern const bool system_is_reaper; /* the player is process 1 of its puppets */
 extern const bool system_has_users; /* the super-user can play several */
 extern const bool system_spawns_image; /* a new process has to become an image of its own */
@@ -139,6 +143,7 @@ bool system_process(pid_t process, struct process_facts *facts);
 bool system_lwp(pid_t process, long lwp, struct lwp_facts *facts);
 enum state system_lwp_state(pid_t process, long lwp);
 int system_list(long user, pid_t *found, int most);
+int system_kills_on_debugger_exit(void); /* -1: it has no such setting */
 void system_why_untraced(char *text, size_t size);
 
 /* ---- sessions (sessions.c) */
@@ -164,7 +169,7 @@ struct session {
     struct line *lines;
 };
 
-enum reading { READ_SESSION, READ_END, READ_WRONG, READ_FAILED };
+enum reading { READ_SESSION, READ_END, READ_WRONG };
 struct reader;
 struct reader *reader_open(FILE *file, const char *name);
 enum reading reader_next(struct reader *reader, struct session *session, char *why, size_t size);
@@ -262,6 +267,7 @@ struct known *differences_at(int place);
 
 /* ---- playing (play.c) */
 
+extern int kills_on_debugger_exit; /* what the user says of kern.kill_on_debugger_exit; -1: nothing */
 void play_file(FILE *file, const char *name, FILE *results);
 int play_summary(FILE *results); /* prints it; the status */
 

@@ -59,12 +59,10 @@ static int make_vfork_child(struct slot *self, int slot)
 
 int puppet_become_image(int number)
 {
-    char slot[16], stage_number[16], image_number[16];
+    char slot[16];
     snprintf(slot, sizeof slot, "%d", number);
-    snprintf(stage_number, sizeof stage_number, "%d", stage_descriptor);
-    snprintf(image_number, sizeof image_number, "%d", image_descriptor);
-    char *words[] = {PUPPET_NAME, slot, stage_number, image_number, NULL}, *none[] = {NULL};
-    return fexecve(image_descriptor, words, none);
+    char *words[] = {PUPPET_NAME, slot, NULL}, *none[] = {NULL};
+    return fexecve(IMAGE_DESCRIPTOR, words, none);
 }
 
 static long obey(struct slot *self, const struct command *command, struct answer *answer)

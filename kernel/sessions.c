@@ -5,11 +5,9 @@
 #include "play.h"
 
 struct reader {
-    FILE *file;
     const char *name;
     int line;
-    char *text;
-    size_t room;
+    char *text, *rest; /* rest: NULL at the end */
 };
 
 static const struct {
@@ -26,12 +24,33 @@ static const struct {
     [OP_TURN] = {"turn", 1, MOST_WORDS}};
 enum { OPS = sizeof ops / sizeof *ops };
 
+/* The whole text at once: puppets inherit what is open, so the place in a file is theirs too. */
+static char *text_of(FILE *file, const char *name)
+{
+    enum { ROOM = 1 << 20 };
+    size_t size = 0, room = 0, got;
+    char *text = NULL;
+    do {
+        if (room - size < ROOM && (text = realloc(text, room += room + 2 * ROOM)) == NULL)
+            fault("no memory");
+        got = fread(text + size, 1, room - size - 1, file);
+        size += got;
+    } while (got > 0);
+    if (ferror(file))
+        fault("cannot read %s: %s", name, strerror(errno));
+    text[size] = 0;
+    if (strlen(text) != size)
+        fault("%s isn't a text: it has a NUL", name);
+    return text;
+}
+
 struct reader *reader_open(FILE *file, const char *name)
 {
     struct reader *reader = calloc(1, sizeof *reader);
     if (reader == NULL)
         fault("no memory");
-    *reader = (struct reader){.file = file, .name = name};
+    *reader = (struct reader){.name = name, .text = text_of(file, name)};
+    reader->rest = reader->text;
     return reader;
 }
 
@@ -143,7 +162,7 @@ static bool read_setting(const char *text, struct session *session)
     return true;
 }
 
-static void add_line(struct session *session, const struct reader *reader)
+static void add_line(struct session *session, int number, const char *text)
 {
     enum { STEP = 64 };
     if (session->count % STEP == 0) {
@@ -152,26 +171,28 @@ static void add_line(struct session *session, const struct reader *reader)
             fault("no memory");
         session->lines = more;
     }
-    session->lines[session->count++] = (struct line){.number = reader->line, .text = copy_of(reader->text)};
+    session->lines[session->count++] = (struct line){.number = number, .text = copy_of(text)};
 }
 
-/* The next line without its end; false at the end of the file. */
-static bool next_line(struct reader *reader)
+/* The next line without its end; NULL behind the last one. */
+static char *next_line(struct reader *reader)
 {
-    ssize_t length = getline(&reader->text, &reader->room, reader->file);
-    if (length < 0)
-        return false;
+    char *line = reader->rest;
+    if (line == NULL || *line == 0)
+        return NULL;
     reader->line++;
-    while (length > 0 && strchr("\r\n ", reader->text[length - 1]) != NULL)
-        reader->text[--length] = 0;
-    return true;
+    size_t length = strcspn(line, "\n");
+    reader->rest = line[length] == 0 ? NULL : line + length + 1;
+    line[length] = 0;
+    while (length > 0 && strchr("\r ", line[length - 1]) != NULL)
+        line[--length] = 0;
+    return line;
 }
 
 enum reading reader_next(struct reader *reader, struct session *session, char *why, size_t size)
 {
     *session = (struct session){.kills = true};
-    while (next_line(reader)) {
-        const char *text = reader->text;
+    for (const char *text; (text = next_line(reader)) != NULL;) {
         if (*text == 0 && session->name != NULL && session->count > 0)
             return READ_SESSION;
         if (*text == 0 || (*text == '#' && session->name != NULL))
@@ -184,16 +205,11 @@ enum reading reader_next(struct reader *reader, struct session *session, char *w
             continue;
         snprintf(why, size, "%s:%d: %s: %.200s", reader->name, reader->line,
             session->name == NULL ? "no heading of a session" : "no step, row or setting", text);
-        add_line(session, reader);
+        add_line(session, reader->line, text);
         if (session->name == NULL || !read_line(&session->lines[session->count - 1])) {
             session_free(session);
             return READ_WRONG;
         }
-    }
-    if (ferror(reader->file)) {
-        snprintf(why, size, "cannot read %s: %s", reader->name, strerror(errno));
-        session_free(session);
-        return READ_FAILED;
     }
     if (session->count > 0)
         return READ_SESSION;

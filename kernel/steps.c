@@ -63,8 +63,6 @@ static enum made say_stopped(const struct reply *reply)
 
 /* ---- who makes a step */
 
-static bool is_stopped(enum state state) { return state == STATE_JOB_STOP || state == STATE_TRACE_STOP; }
-
 /* The caller's process; negative if the reply is given. */
 static int caller_of(const struct line *line, const struct reply *reply)
 {
@@ -429,6 +427,13 @@ static enum made make_leave(int lwp, const struct reply *reply)
     return say(reply, cast_state(cast.lwp[lwp].process) == STATE_RUNS ? "ok" : "ended 0");
 }
 
+/* Whether the kernel has no more to do for the call: the LWP has ended, waits for its vfork child, or is in the stop of its exit. */
+static bool left(int lwp, const struct reply *reply)
+{
+    bool stopped = entered[lwp] == OUT_STOPPED && cast_state(cast.lwp[lwp].process) == STATE_TRACE_STOP;
+    return entered[lwp] == OUT_GONE || entered[lwp] == OUT_BORN || (stopped && wants(reply, "stopped "));
+}
+
 static enum made make_turn(const struct line *line, const struct reply *reply)
 {
     const char *act = line->words[0];
@@ -438,7 +443,7 @@ static enum made make_turn(const struct line *line, const struct reply *reply)
         return cannot(reply, "the LWP has a signal to meet: the session isn't settled");
     /* what an LWP that has ended has begun is told as well */
     int known = cast_lwp(line->actor);
-    if (strcmp(act, "leave") == 0 && known >= 0 && (entered[known] == OUT_GONE || entered[known] == OUT_BORN))
+    if (strcmp(act, "leave") == 0 && known >= 0 && left(known, reply))
         return make_leave(known, reply);
     int lwp = lwp_of(line, reply);
     if (lwp < 0)

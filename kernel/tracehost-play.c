@@ -19,7 +19,6 @@
 #include "play.h"
 
 struct stage *stage;
-int stage_descriptor, image_descriptor;
 static bool is_inner;
 static const char *results_name;
 static FILE *results;
@@ -83,19 +82,26 @@ struct options {
 
 static void __attribute__((noreturn)) usage(void)
 {
-    fprintf(stderr, "usage: tracehost-play [--differences FILE] [--time SECONDS] [--results FILE] [SESSIONS ..]\n");
+    fprintf(stderr, "usage: tracehost-play [--differences FILE] [--kill-on-debugger-exit 0|1] [--results FILE] [--time SECONDS] "
+                    "[SESSIONS ..]\n");
     _exit(STATUS_WRONG);
 }
 
 static void read_options(int count, char **words, struct options *options)
 {
-    static const struct option names[] = {{"differences", required_argument, NULL, 'd'}, {"time", required_argument, NULL, 't'},
-        {"results", required_argument, NULL, 'r'}, {NULL, 0, NULL, 0}};
+    static const struct option names[] = {{"differences", required_argument, NULL, 'd'},
+        {"kill-on-debugger-exit", required_argument, NULL, 'k'}, {"results", required_argument, NULL, 'r'},
+        {"time", required_argument, NULL, 't'}, {NULL, 0, NULL, 0}};
     char *end;
     for (int found; (found = getopt_long(count, words, "", names, NULL)) != -1;) {
         switch (found) {
         case 'd': options->differences = optarg; break;
         case 'r': results_name = optarg; break;
+        case 'k':
+            if (strcmp(optarg, "0") != 0 && strcmp(optarg, "1") != 0)
+                usage();
+            kills_on_debugger_exit = *optarg - '0';
+            break;
         case 't':
             time_limit = strtod(optarg, &end);
             if (end == optarg || *end != 0 || !(time_limit > 0 && time_limit <= 86400))
@@ -231,17 +237,23 @@ static int await_inner(pid_t inner)
     return STATUS_FAULT;
 }
 
-static struct stage *map_stage(int descriptor)
+static struct stage *map_stage(void)
 {
-    void *memory = mmap(NULL, sizeof(struct stage), PROT_READ | PROT_WRITE, MAP_SHARED, descriptor, 0);
+    void *memory = mmap(NULL, sizeof(struct stage), PROT_READ | PROT_WRITE, MAP_SHARED, STAGE_DESCRIPTOR, 0);
     return memory == MAP_FAILED ? NULL : memory;
+}
+
+/* Moves the descriptor to the number under which puppets inherit it. */
+static bool keep_as(int descriptor, int number)
+{
+    if (descriptor < 0 || (descriptor != number && dup2(descriptor, number) != number))
+        return false;
+    return descriptor == number || close(descriptor) == 0;
 }
 
 static void resume(char **words)
 {
-    stage_descriptor = atoi(words[2]);
-    image_descriptor = atoi(words[3]);
-    stage = map_stage(stage_descriptor);
+    stage = map_stage();
     int slot = atoi(words[1]);
     if (stage == NULL || slot < 0 || slot >= MOST_LWPS)
         _exit(STATUS_WRONG);
@@ -252,15 +264,14 @@ int main(int count, char **words)
 {
     struct options options = {0};
     int lives[2];
-    if (count == 4 && strcmp(words[0], PUPPET_NAME) == 0)
+    if (count == 2 && strcmp(words[0], PUPPET_NAME) == 0)
         resume(words);
     open_standard();
-    closefrom(STDERR_FILENO + 1);
     read_options(count, words, &options);
-    stage_descriptor = system_stage(sizeof(struct stage));
-    image_descriptor = system_image();
-    stage = map_stage(stage_descriptor);
-    if (stage_descriptor < 0 || image_descriptor < 0 || stage == NULL || pipe(lives) < 0)
+    closefrom(STDERR_FILENO + 1);
+    bool kept = keep_as(system_stage(sizeof(struct stage)), STAGE_DESCRIPTOR) && keep_as(system_image(), IMAGE_DESCRIPTOR);
+    stage = kept ? map_stage() : NULL;
+    if (stage == NULL || pipe(lives) < 0)
         fault("the host refuses memory: %s", strerror(errno));
     if (system_is_reaper)
         catch_signals();

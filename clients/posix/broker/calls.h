@@ -18,6 +18,8 @@ BODY(exit_process);
 BODY(user_call);
 BODY(poke);
 BODY(point);
+BODY(compute);
+BODY(compute);
 BODY(cancel);
 BODY(simple);
 BODY(sched_yield_call);

@@ -257,6 +257,16 @@ BODY(poke)
 	say("ok");
 }
 
+/* What a thread that computes for long comes to, at once; it doesn't hang, however often it asks. */
+BODY(compute)
+{
+	(void)call, (void)arguments;
+	l->yields = true;
+	others(l);
+	user(l);
+	say("ok");
+}
+
 /* No call of the system, but others may go on here. */
 BODY(point)
 {

@@ -25,6 +25,7 @@ static const struct call calls[] = {
 		"a call's return"},
 	{"poke",      poke,            0,  1, 1, "compute",                      FILES | LOCKS, 0, false,
 		"a thread that computes, or sleeps in the host"},
+	{"compute",   compute,         0,  0, 0, "compute",                      0, 0, false, "tracehost_compute"},
 	{"point",     point,           0,  0, 0, "",                             0, LOCKS, false,
 		"locks, semaphores, barriers, pthread_testcancel"},
 	{"cancel",    cancel,          0,  1, 1, "",                             0, NEWS | LOCKS, false, "pthread_cancel"},

@@ -324,4 +324,4 @@ int tracehost_thr_self(long *tid)
 }
 
 int tracehost_sched_yield(void) { return ask("yield"); }
-void tracehost_compute(void) { ask("poke 0"); }
+void tracehost_compute(void) { ask("compute"); }
