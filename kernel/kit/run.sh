@@ -6,6 +6,8 @@
 #   PARTS         shared shared-users freebsd freebsd-users cases: what to run, all of it unless it is set
 #   CC, LIBRARIES, RUN   compiler of the cases, their libraries, and what runs them (nothing, on FreeBSD)
 #   PLAYER_CC     compiler of the player: cc if RUN is set, else CC
+#   SETTINGS      change: sets kern.kill_on_debugger_exit to what sessions ask for, and back at the end; else those of
+#                 another value aren't tried
 #   MINUTES       after which nothing more is begun (28)
 #   CASE_SECONDS  the time of a case (20)
 #
@@ -18,7 +20,7 @@ unset CDPATH MAKEFLAGS MFLAGS GNUMAKEFLAGS MAKELEVEL
 umask 022
 case $0 in */*) cd "${0%/*}" || exit 3 ;; esac
 
-: "${CC:=cc}" "${RUN:=}" "${MINUTES:=28}" "${CASE_SECONDS:=20}" "${PARTS:=shared shared-users freebsd freebsd-users cases}"
+: "${CC:=cc}" "${RUN:=}" "${SETTINGS:=}" "${MINUTES:=28}" "${CASE_SECONDS:=20}" "${PARTS:=shared shared-users freebsd freebsd-users cases}"
 if [ -n "$RUN" ]; then
 	: "${PLAYER_CC:=cc}" "${LIBRARIES:=}"
 else
@@ -29,11 +31,18 @@ results=results-$(printf '%s-%s' "$system" "$(uname -r)" | tr -c 'A-Za-z0-9._-' 
 tab=$(printf '\t')
 not_asked='not among the PARTS'
 running=
+kills_before=
 
 # ---- the end
 
+restore_setting() {
+	[ -z "$kills_before" ] || sysctl kern.kill_on_debugger_exit="$kills_before" >/dev/null
+	kills_before=
+}
+
 fault() {
 	printf 'run.sh: %s\n' "$*" >&2
+	restore_setting
 	rm -f "$results.part"
 	exit 3
 }
@@ -63,6 +72,7 @@ check_variables() {
 		esac
 	done
 	[ -n "${part-}" ] || wrong 'PARTS: no part'
+	case $SETTINGS in '' | change) ;; *) wrong "SETTINGS: change, or nothing, not $SETTINGS" ;; esac
 	for number in "$MINUTES" "$CASE_SECONDS"; do
 		case $number in
 		'' | 0* | *[!0-9]* | ??????*) wrong "MINUTES and CASE_SECONDS are numbers, not $number" ;;
@@ -141,6 +151,15 @@ build_player() {
 	printf '%s\n' "$why_no_player" >&2
 }
 
+# Sets what the sessions of a file ask for, if it may be changed.
+use_setting() {
+	[ "$system" = FreeBSD ] && [ -n "$SETTINGS" ] || return 0
+	[ -n "$kills_before" ] || kills_before=$(sysctl -n kern.kill_on_debugger_exit)
+	wanted=1
+	! grep -q '^kill_on_debugger_exit: 0$' "$1" || wanted=0
+	sysctl kern.kill_on_debugger_exit=$wanted >/dev/null
+}
+
 # Why a run of the player has ended early.
 why_ended() {
 	case $1 in
@@ -189,6 +208,7 @@ play_part() {
 		played=work/played/${name%.txt}
 		if [ -z "$why" ]; then
 			why_left='no time was left'
+			use_setting "$file"
 			play_file "$file"
 			awk -f collect.awk part="$1" why="$why_left" "$file" "$played/rows.tsv" "$played/ended.tsv"
 		else
@@ -232,6 +252,7 @@ shorten() {
 		for cut in whole needed changing; do
 			awk -f cut.awk cut=$cut name="$name" line="$line" "$file" >work/short/$cut.txt
 		done
+		use_setting "$file"
 		chosen=whole
 		for cut in changing needed; do
 			[ $chosen = whole ] && still_differs work/short/$cut.txt "$way" </dev/null && chosen=$cut
@@ -239,6 +260,7 @@ shorten() {
 		printf '%s\t%s\t%s\t%s\n' "$count" "$name" "$chosen" "$(grep -- ' -> ' work/short/$chosen.txt |
 			awk '{ printf "%s%s", (NR > 1 ? " ; " : ""), $0 }')" >>work/shortest.tsv
 	done <work/ways.tsv
+	restore_setting
 }
 
 # ---- cases
