@@ -262,6 +262,7 @@ BODY(compute)
 {
 	(void)call, (void)arguments;
 	l->yields = true;
+	l->ran = run.steps; /* its computation is no step that is kept, but others have their turn all the same */
 	others(l);
 	user(l);
 	say("ok");
