@@ -9,7 +9,6 @@
 #define _GNU_SOURCE
 #include <sys/prctl.h>
 #elif defined(__FreeBSD__)
-#include <sys/param.h>
 #include <sys/procctl.h>
 #endif
 #include <sys/types.h>

@@ -204,6 +204,7 @@ play_part() {
 	[ "$system" = FreeBSD ] || case $1 in freebsd*) why="has FreeBSD's requests" ;; esac
 	is_part "$1" || why=$not_asked
 	for file in sessions/"$1"-[0-9]*.txt; do
+		[ -f "$file" ] || continue
 		name=${file##*/}
 		played=work/played/${name%.txt}
 		if [ -z "$why" ]; then
