@@ -131,6 +131,7 @@ int main(int count, char **words)
         return NOT_RUN;
     }
     pid_t parent = getppid();
+    setpgid(0, 0); /* SIGKILL for the caller's group leaves this process, which ends the command then */
     end_with_parent(SIGTERM);
     set_default_signals();
     block_awaited(&awaited);

@@ -18,6 +18,7 @@ LC_ALL=C
 export LC_ALL
 unset CDPATH MAKEFLAGS MFLAGS GNUMAKEFLAGS MAKELEVEL
 umask 022
+exec 3>&2 # in functions whose standard error goes to a file too
 case $0 in */*) cd "${0%/*}" || exit 3 ;; esac
 
 : "${CC:=cc}" "${RUN:=}" "${SETTINGS:=}" "${MINUTES:=28}" "${CASE_SECONDS:=20}" "${PARTS:=shared shared-users freebsd freebsd-users cases}"
@@ -41,7 +42,7 @@ restore_setting() {
 }
 
 fault() {
-	printf 'run.sh: %s\n' "$*" >&2
+	printf 'run.sh: %s\n' "$*" >&3
 	restore_setting
 	rm -f "$results.part"
 	exit 3
@@ -92,7 +93,7 @@ limited() {
 	[ "$rest" -gt "$1" ] && rest=$1
 	[ "$rest" -gt 0 ] || return 124
 	shift
-	"$limited" "$rest" "$@" &
+	"$limited" "$rest" "$@" 3>&- &
 	running=$!
 	wait "$running"
 	code=$?
