@@ -139,8 +139,8 @@ static void give_way(struct wait *wait, int lwp)
     const struct slot *slot = &stage->slots[lwp];
     int process = atomic_load(&slot->process);
     long native = atomic_load(&slot->lwp);
-    fault("LWP %ld hangs: it does nothing for too long; the kernel says that thread %ld of process %d is `%s`", cast.lwp[lwp].number,
-        native, process, state_word(system_lwp_state(process, native)));
+    fault("LWP %ld hangs: it does nothing for too long; the kernel says that thread %ld of process %d is `%s`",
+        cast.lwp[lwp].number, native, process, state_word(system_lwp_state(process, native)));
 }
 
 enum state cast_lwp_state(int lwp)
@@ -185,13 +185,13 @@ enum outcome cast_await(int lwp)
     struct slot *slot = &stage->slots[lwp];
     unsigned number = atomic_load(&slot->asked);
     while (atomic_load(&slot->done) != number) {
-        if (slot->command.act == ACT_VFORK &&
-            system_find_newborn(&stage->slots[slot->command.child], atomic_load(&slot->process), false))
-            return OUT_BORN;
         give_way(&wait, lwp);
         if (wait.rounds % LOOK != 0)
             continue;
         enum state state = cast_lwp_state(lwp);
+        if (state == STATE_WAITS && slot->command.act == ACT_VFORK &&
+            system_find_newborn(&stage->slots[slot->command.child], atomic_load(&slot->process), false))
+            return OUT_BORN;
         if (state == STATE_GONE || state == STATE_ZOMBIE) {
             if (slot->command.act != ACT_EXEC || cast_state(cast.lwp[lwp].process) != STATE_RUNS)
                 return OUT_GONE;
@@ -214,9 +214,23 @@ enum outcome cast_ask(int lwp, const struct command *command)
     return cast_await(lwp);
 }
 
+/* Without private numbers a signal to all of a user, and the host's limits, concern whoever else is that user. */
+static void claim_user(long user)
+{
+    pid_t found[MOST_LWPS];
+    if (private_numbers || !plays_users())
+        return;
+    for (int i = 0; i < cast.processes; i++)
+        if (cast.process[i].user == user && cast.process[i].native != 0)
+            return;
+    if (system_list(native_user(user), found, MOST_LWPS) > 0)
+        fault("user %ld of the system has processes of their own", native_user(user));
+}
+
 /* Makes the first LWP of a new process: a child of the player, or of process 1 where that is another one. */
 void cast_spawn(int lwp, long user)
 {
+    claim_user(user);
     pid_t child = fork();
     if (child < 0)
         fault("the host refuses a new process: %s", strerror(errno));
@@ -249,6 +263,20 @@ void cast_collect(void)
         ;
 }
 
+/* Whether it is in vfork(2), and the child has neither ended nor become another image. */
+bool cast_waits_for_child(int lwp)
+{
+    const struct command *command = &stage->slots[lwp].command;
+    if (!cast_busy(lwp) || command->act != ACT_VFORK)
+        return false;
+    int process = cast.lwp[command->child].process;
+    enum state state = cast_state(process);
+    for (int i = 0; i < cast.lwps; i++)
+        if (cast.lwp[i].process == process && atomic_load(&stage->slots[i].is_image))
+            return false;
+    return state != STATE_GONE && state != STATE_ZOMBIE;
+}
+
 /* The end of tracing lifts suspensions. */
 static bool still_traced(int process)
 {
@@ -268,7 +296,7 @@ static enum state settle_lwp(int lwp)
         if (wait.rounds % LOOK != 0)
             continue;
         enum state state = cast_lwp_state(lwp);
-        if (state == STATE_WAITS && slot->command.act == ACT_VFORK && cast_busy(lwp))
+        if (state == STATE_WAITS && cast_waits_for_child(lwp))
             return state;
         if (state != STATE_RUNS && state != STATE_WAITS)
             return state;

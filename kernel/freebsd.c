@@ -93,8 +93,8 @@ void system_become(long user)
 {
     const gid_t group = (gid_t)user;
     setpgid(0, 0);
-    if (user >= 0 && (setgroups(1, &group) < 0 || setresgid(group, group, group) < 0 ||
-                         setresuid((uid_t)user, (uid_t)user, (uid_t)user) < 0))
+    if (user >= 0 &&
+        (setgroups(1, &group) < 0 || setresgid(group, group, group) < 0 || setresuid((uid_t)user, (uid_t)user, (uid_t)user) < 0))
         _exit(1);
 }
 

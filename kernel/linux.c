@@ -190,10 +190,7 @@ void system_rest(bool silent)
             __asm__ volatile("" ::: "memory");
 }
 
-static void *run_thread(void *slot)
-{
-    puppet_live((int)((struct slot *)slot - stage->slots));
-}
+static void *run_thread(void *slot) { puppet_live((int)((struct slot *)slot - stage->slots)); }
 
 int system_thread(int slot)
 {
@@ -334,10 +331,10 @@ static void look_at_lwps(pid_t process, struct process_facts *facts)
     }
     if (folder != NULL)
         closedir(folder);
-    facts->state = facts->lwps == 0         ? STATE_ZOMBIE
+    facts->state = facts->lwps == 0        ? STATE_ZOMBIE
                    : stopped < facts->lwps ? STATE_RUNS
-                   : traced > 0             ? STATE_TRACE_STOP
-                                            : STATE_JOB_STOP;
+                   : traced > 0            ? STATE_TRACE_STOP
+                                           : STATE_JOB_STOP;
 }
 
 /* A thread traces: its process. */

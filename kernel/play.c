@@ -298,6 +298,39 @@ static bool reports_calls(const struct session *session)
     return false;
 }
 
+static bool traces(const struct session *session)
+{
+    for (size_t i = 0; i < session->count; i++)
+        if (session->lines[i].reply != NULL && session->lines[i].op == OP_PTRACE)
+            return true;
+    return false;
+}
+
+/* A kernel that lets nobody trace answers no session. */
+static void try_tracing(void)
+{
+    static bool tried;
+    char why[128], error[64];
+    struct command attach = {.act = ACT_PTRACE};
+    if (tried)
+        return;
+    tried = true;
+    int debugger = cast_add_lwp(1, cast_add_process(1, FIRST_USER)), target = cast_add_lwp(2, cast_add_process(2, FIRST_USER));
+    cast_spawn(debugger, FIRST_USER);
+    cast_spawn(target, FIRST_USER);
+    attach.number = atomic_load(&stage->slots[target].process);
+    if (!system_has_request("PT_ATTACH", &attach.option))
+        return;
+    enum outcome outcome = cast_ask(debugger, &attach);
+    int number = stage->slots[debugger].answer.error;
+    error_reply(number, error, sizeof error);
+    system_why_untraced(why, sizeof why);
+    if (outcome != OUT_DONE || number != 0)
+        fault(
+            "the kernel refuses ptrace(2): PT_ATTACH is answered by %s; %s", outcome == OUT_DONE ? error : "the caller's end", why);
+    cast_clear();
+}
+
 static void play_session(const struct session *session, const char *file, FILE *results)
 {
     playing.file = file, playing.session = session;
@@ -306,6 +339,8 @@ static void play_session(const struct session *session, const char *file, FILE *
     for (int i = 0; i < differences_count(); i++)
         differences_at(i)->here = false;
     memset(playing.caught, 0, sizeof playing.caught);
+    if (traces(session))
+        try_tracing();
     atomic_store(&stage->silent, reports_calls(session));
     steps_begin();
     rows_begin();
@@ -352,7 +387,8 @@ int play_summary(FILE *results)
     if (total.unlisted > 0)
         return STATUS_DIFFERS;
     if (total.not_tried > 0 || total.compared == 0) {
-        fprintf(stderr, "tracehost-play: %s\n", total.compared == 0 ? "nothing was played" : "not all of the sessions could be played");
+        fprintf(
+            stderr, "tracehost-play: %s\n", total.compared == 0 ? "nothing was played" : "not all of the sessions could be played");
         return STATUS_FAULT;
     }
     return STATUS_SAME;

@@ -62,6 +62,7 @@ struct answer {
 struct slot {
     atomic_uint asked, begun, done; /* numbers of commands */
     atomic_ulong beat; /* counts rounds in user mode */
+    atomic_bool is_image; /* it has become an image of its own */
     atomic_int process; /* the kernel's numbers */
     atomic_long lwp;
     atomic_uint caught[MODEL_SIGNALS]; /* how often a handler has run */
@@ -216,6 +217,7 @@ enum outcome cast_await(int lwp);
 bool cast_busy(int lwp); /* a command that it has begun isn't done */
 enum state cast_state(int process);
 enum state cast_lwp_state(int lwp);
+bool cast_waits_for_child(int lwp);
 void cast_collect(void);
 void cast_settle(void);
 void cast_clear(void);

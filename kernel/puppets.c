@@ -116,6 +116,7 @@ void puppet_resume(int slot)
     self->answer.result = 0;
     self->answer.error = 0;
     newborn(slot);
+    atomic_store(&self->is_image, true);
     atomic_store(&self->done, atomic_load(&self->begun));
     puppet_live(slot);
 }

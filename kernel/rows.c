@@ -112,11 +112,10 @@ static void compare(struct comparing *comparing, const char *field, const char *
         model_pending(row, model, sizeof model);
     else
         value_of(row, field, model, sizeof model);
-    bool known = strcmp(model, "none") != 0;
-    if (!known && strcmp(field, "state") != 0)
+    if (strcmp(model, "none") == 0 && strcmp(field, "state") != 0)
         return;
     if (row->gone)
-        snprintf(model, sizeof model, "gone");
+        snprintf(model, sizeof model, row->line == NULL ? "none" : "gone");
     struct row_difference difference = {.is_lwp = row->is_lwp,
         .number = row->number,
         .field = field,
@@ -180,11 +179,12 @@ static void compare_lwp(struct comparing *comparing)
 }
 
 /* A process that the model doesn't have. */
-static void compare_unknown(struct comparing *comparing, long number)
+static void compare_unknown(struct comparing *comparing, int process)
 {
-    struct row none = {.number = number, .gone = true};
+    long number = cast.process[process].number;
+    struct row none = {.number = number, .gone = true}; /* no line states it */
     comparing->row = &none;
-    if (number != 0 && find(&now, false, number) == NULL)
+    if (number != 0 && find(&now, false, number) == NULL && cast_state(process) != STATE_GONE)
         compare_process(comparing);
     comparing->row = NULL;
 }
@@ -206,6 +206,6 @@ int rows_compare(rows_difference told, void *with)
         compared++;
     }
     for (int i = 0; i < cast.processes && now.count > 0; i++)
-        compare_unknown(&comparing, cast.process[i].gone ? 0 : cast.process[i].number);
+        compare_unknown(&comparing, i);
     return compared;
 }

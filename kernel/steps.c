@@ -94,7 +94,7 @@ static int lwp_of(const struct line *line, const struct reply *reply)
     int process = lwp < 0 ? -1 : cast.lwp[lwp].process;
     enum state state = lwp < 0 || cast.lwp[lwp].gone || cast.process[process].user != line->user ? STATE_GONE : cast_state(process);
     enum state own = state == STATE_GONE ? STATE_GONE : cast_lwp_state(lwp);
-    bool waits = own != STATE_GONE && cast_busy(lwp) && stage->slots[lwp].command.act == ACT_VFORK;
+    bool waits = own != STATE_GONE && cast_waits_for_child(lwp);
     if (state == STATE_GONE || state == STATE_ZOMBIE || own == STATE_GONE || own == STATE_ZOMBIE)
         refuse(reply, ESRCH);
     else if (is_stopped(state) || is_stopped(own) || cast.lwp[lwp].suspended || waits)
@@ -105,8 +105,8 @@ static int lwp_of(const struct line *line, const struct reply *reply)
 }
 
 /* Asks an LWP of the caller. False: the reply is given, and `made` says whether the call was made. */
-static bool ask_caller(const struct line *line, const struct command *command, const struct reply *reply, struct answer *answer,
-    enum made *made)
+static bool ask_caller(
+    const struct line *line, const struct command *command, const struct reply *reply, struct answer *answer, enum made *made)
 {
     int process = caller_of(line, reply), lwp = process < 0 ? -1 : free_lwp_of(process);
     *made = MADE;
@@ -397,11 +397,12 @@ static enum made leave_birth(int lwp, enum outcome outcome, const struct reply *
             fault("the host refuses a new process or thread: %s", strerror(slot->answer.error));
         return refuse(reply, slot->answer.error);
     }
-    if (outcome != OUT_GONE && (outcome != OUT_STOPPED || strstr(reply->wanted, "PL_FLAG_SCX") != NULL)) {
+    bool born_stopped = outcome == OUT_STOPPED && wants(reply, "new "); /* it is the new LWP that has stopped the process */
+    if (outcome != OUT_GONE && (outcome != OUT_STOPPED || born_stopped || strstr(reply->wanted, "PL_FLAG_SCX") != NULL)) {
         cast_await_newborn(child, lwp);
         give_numbers(child, slot->command.act);
     }
-    if (outcome == OUT_STOPPED)
+    if (outcome == OUT_STOPPED && !born_stopped)
         return say_stopped(reply);
     return say(reply, "new %ld %ld", cast.process[cast.lwp[child].process].number, cast.lwp[child].number);
 }
@@ -424,14 +425,26 @@ static enum made make_leave(int lwp, const struct reply *reply)
         return plain(reply, &slot->answer);
     if (command->act == ACT_EXIT)
         return say(reply, "ended %ld", command->number * 256);
-    return say(reply, cast_state(cast.lwp[lwp].process) == STATE_RUNS ? "ok" : "ended 0");
+    enum state state = cast_state(cast.lwp[lwp].process);
+    return say(reply, state == STATE_GONE || state == STATE_ZOMBIE ? "ended 0" : "ok");
 }
 
-/* Whether the kernel has no more to do for the call: the LWP has ended, waits for its vfork child, or is in the stop of its exit. */
-static bool left(int lwp, const struct reply *reply)
+/* Whether the LWP has made another one, whose stop keeps it in the call. */
+static bool bears(int lwp)
 {
-    bool stopped = entered[lwp] == OUT_STOPPED && cast_state(cast.lwp[lwp].process) == STATE_TRACE_STOP;
-    return entered[lwp] == OUT_GONE || entered[lwp] == OUT_BORN || (stopped && wants(reply, "stopped "));
+    const struct slot *slot = &stage->slots[lwp];
+    return slot->command.act == ACT_THR_NEW &&
+           system_find_newborn(&stage->slots[slot->command.child], atomic_load(&slot->process), true);
+}
+
+/* Whether the LWP is in a call whose end is to be looked at: it is through, has ended in it, waits for its vfork child, goes on, or
+ * has stopped at its exit. */
+static bool leaves(int lwp, const struct reply *reply)
+{
+    if (entered[lwp] == OUT_GONE || entered[lwp] == OUT_BORN || entered[lwp] == OUT_DONE)
+        return true;
+    return entered[lwp] == OUT_STOPPED && !cast.lwp[lwp].gone &&
+           (wants(reply, "stopped ") || bears(lwp) || !is_stopped(cast_state(cast.lwp[lwp].process)));
 }
 
 static enum made make_turn(const struct line *line, const struct reply *reply)
@@ -443,7 +456,7 @@ static enum made make_turn(const struct line *line, const struct reply *reply)
         return cannot(reply, "the LWP has a signal to meet: the session isn't settled");
     /* what an LWP that has ended has begun is told as well */
     int known = cast_lwp(line->actor);
-    if (strcmp(act, "leave") == 0 && known >= 0 && left(known, reply))
+    if (strcmp(act, "leave") == 0 && known >= 0 && leaves(known, reply))
         return make_leave(known, reply);
     int lwp = lwp_of(line, reply);
     if (lwp < 0)

@@ -46,7 +46,6 @@ class Chooser:
             "sigaction": self._sigaction,
             "block": self._block,
             "raise": lambda: f"turn {self._lwp()} raise {self._signal()}",
-            "compute": lambda: f"turn {self._lwp()} compute",
             "exit": lambda: f"turn {self._lwp()} enter exit {self._chance.choice((0, 1, 7, 255))}",
             "other": lambda: f"turn {self._lwp()} enter other 20",
             "refused": lambda: self._rarest_refusal()[1],
@@ -252,7 +251,7 @@ class Chooser:
                 yield f"refusal wait4 {relation}", f"wait4 {caller} -1"
                 yield f"refusal sigaction {relation}", f"sigaction {caller} 15 ignore"
         for reason, lwp in self._idle():
-            for act in ("compute", "raise 30", "block 30", "enter fork"):
+            for act in ("raise 30", "block 30", "enter fork"):
                 yield f"refusal {act.split()[0]} {reason}", f"turn {lwp} {act}"
 
     def _idle(self) -> Iterator[tuple[str, int]]:

@@ -35,7 +35,7 @@ _ANSWERS: dict[str, Sequence[str]] = {
     "kill": ("ok", "ok to all", "ok of 0", "ok of a zombie"),
     "sigaction": ("ok default", "ok ignore", "ok catch"),
     "wait4": ("nothing", *(f"status {status}" for status in _STATUSES)),
-    "compute": ("ok", "stopped", "caught", "ended"),
+    "compute": ("stopped", "caught", "ended"),
     "raise": ("ok", "ended"),
     "block": ("ok",),
     "enter": ("ok", "stopped"),

@@ -8,11 +8,12 @@ from typing import NamedTuple
 from tracehost.names import Signal
 from tracehost.shell_words import Step
 
+from . import asking, habits
 from .model import Lwp, Rows
 
 # how often each step comes; those of ptrace(2) by their requests, those of an LWP by its act or call
 _UNTRACED = {
-    "spawn": 3, "fork": 8, "exit": 4, "kill": 14, "wait4": 16, "sigaction": 9, "block": 6, "raise": 8, "list": 2, "compute": 1, "refused": 4,
+    "spawn": 3, "fork": 8, "exit": 4, "kill": 14, "wait4": 16, "sigaction": 9, "block": 6, "raise": 8, "list": 2, "refused": 4,
 }  # fmt: skip
 _TRACED = {"PT_TRACE_ME": 4, "PT_ATTACH": 8, "PT_CONTINUE": 14, "PT_DETACH": 4, "PT_KILL": 2, "wait4": 24}
 _CALLS = {"vfork": 2, "exec": 2, "thr_new": 4, "thr_exit": 2, "other": 1}
@@ -39,17 +40,14 @@ class Kind(NamedTuple):
     """Whether the kernels of this kind can be asked for the step."""
     unordered: Callable[[Rows, Lwp], bool]
     """Whether kernels may take the LWP's pending signals in another order, so that something else comes of it."""
+    habit: Callable[[Rows, Step], bool]
+    """Whether a habit of the kernels would end most sessions at such a step."""
     kills: float
     """How often the end of a debugger kills its tracees: a kernel without such a setting keeps them."""
 
 
-def _has_caller(rows: Rows, step: Step) -> bool:
-    """A call is made by an LWP that runs: not by one that is suspended or waits for its vfork's child."""
-    lwps = rows.of(step["caller"]) if "caller" in step else []
-    return not lwps or any(lwp["mode"] == "runs" and not lwp.get("suspended") for lwp in lwps)
-
-
-def _in_order(rows: Rows, lwp: Lwp) -> bool:
+def any_order(rows: Rows, lwp: Lwp) -> bool:
+    """The model's order of signals is FreeBSD's."""
     return False
 
 
@@ -69,34 +67,14 @@ def _other_order(rows: Rows, lwp: Lwp) -> bool:
     return _first_on_linux(own or unblocked) != min(unblocked, key=lambda name: int(Signal[name]))
 
 
-def _on_both(rows: Rows, step: Step) -> bool:
-    return _has_caller(rows, step) and _on_linux(rows, step)
-
-
-def _on_linux(rows: Rows, step: Step) -> bool:
-    """On Linux each thread is traced by itself, an exec gives a thread its process's number, and the first thread of a
-    process shows the process's state."""
-    if step["op"] == "turn" and step.get("act") == "enter" and step["lwp"] in rows.lwps:
-        row = rows.processes[rows.lwps[step["lwp"]]["pid"]]
-        threads = rows.of(row["pid"])
-        is_first = threads[0]["lwp"] == step["lwp"]
-        if step["call"] == "thr_new":
-            return not row.get("tracer")
-        if step["call"] == "exec":
-            return is_first
-        return step["call"] != "thr_exit" or not is_first or len(threads) == 1
-    if step["op"] != "ptrace":
-        return True
-    target = step.get("target", step["caller"])
-    owner = rows.lwps[target]["pid"] if target in rows.lwps else target
-    return len(rows.of(owner)) < 2
-
-
 _UNSHARED = frozenset({Signal.SIGEMT, Signal.SIGINFO})
+_SHARED = [signal for signal in Signal if signal not in _UNSHARED]
+_ALL = {**_UNTRACED, **_CALLS, **_TRACED, **_FREEBSD}
 KINDS: dict[str, Kind] = {
-    "untraced": Kind(_UNTRACED, [s for s in Signal if s not in _UNSHARED], _on_both, _other_order, 0.1),
-    "shared": Kind(
-        {**_UNTRACED, **_CALLS, **_TRACED}, [s for s in Signal if s not in _UNSHARED], _on_both, _other_order, 0.1
-    ),
-    "all": Kind({**_UNTRACED, **_CALLS, **_TRACED, **_FREEBSD}, list(Signal), _has_caller, _in_order, 0.7),
+    # what both systems have, without and with tracing
+    "untraced": Kind(_UNTRACED, _SHARED, asking.on_both, _other_order, habits.on_linux, 0.1),
+    "shared": Kind({**_UNTRACED, **_CALLS, **_TRACED}, _SHARED, asking.on_both, _other_order, habits.on_linux, 0.1),
+    # all of FreeBSD, and what the model itself can be asked as a kernel
+    "all": Kind(_ALL, list(Signal), asking.on_freebsd, any_order, habits.none, 0.7),
+    "model": Kind(_ALL, list(Signal), asking.but_all, any_order, habits.none, 0.7),
 }

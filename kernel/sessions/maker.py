@@ -16,6 +16,8 @@ from .starts import Starts
 _STEPS = (20, 30)
 _MOST_LWPS = 12
 _TRIES = 20
+# how often a step is taken to which a habit of a kernel puts an end
+_ENDS = 0.05
 # how often a further user takes part
 _SHARES = 0.3
 # how many candidates there are for a step, of which the one with the rarest goal is taken
@@ -139,7 +141,10 @@ class Maker:
             if len(rows.lwps) >= _MOST_LWPS and words.endswith(("spawn", "fork", "thr_new")):
                 continue
             words = by_user(user, words)
-            if self._kind.allows(rows, step_in(words)):
+            step = step_in(words)
+            if self._kind.habit(rows, step) and self._chance.random() > _ENDS:
+                continue
+            if self._kind.allows(rows, step):
                 tried = self._tried(started, user, words)
                 if tried is not None:
                     return tried

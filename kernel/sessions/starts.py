@@ -34,7 +34,7 @@ def _start(lines: list[str]) -> Start:
     kinds = [line[len(_ONLY_HERE) :].split() for line in rest if line.startswith(_ONLY_HERE)]
     kills = [line == f"{_SETTING}1" for line in rest if line.startswith(_SETTING)]
     steps = [line for line in rest if line.strip() and not line.startswith((_SETTING, _ONLY_HERE))]
-    return Start(name[2:], kills[0] if kills else None, kinds[0] if kinds else ("shared", "all"), steps)
+    return Start(name[2:], kills[0] if kills else None, kinds[0] if kinds else ("shared", "all", "model"), steps)
 
 
 class Starts:

@@ -1,0 +1,147 @@
+"""usage: kernel/run [--kinds NAME] [--users N] [--count N] [--seed N] [--jobs J] ..
+
+Makes sessions, plays them on this machine's kernel, and says what differs. The status is 0 if all were played and nothing
+differs but what is listed, 1 if something does, 2 for wrong words, and 3 if it couldn't be done.
+"""
+
+from __future__ import annotations
+
+import argparse
+import os
+import platform
+import sys
+import tempfile
+from collections import Counter
+from collections.abc import Sequence
+from concurrent.futures import ThreadPoolExecutor
+from pathlib import Path
+from subprocess import PIPE, STDOUT, run
+from typing import NamedTuple
+
+from .kinds import KINDS
+from .playing import DIFFERS, NOT_DONE, SAME, Played, Player, play
+
+KERNEL = Path(__file__).resolve().parents[1]
+MAKE_SESSIONS = KERNEL / "make-sessions"
+_SESSIONS_OF_A_PART = 250
+# a corpus in which each listed difference has to occur
+WHOLE = 3000
+
+
+class Part(NamedTuple):
+    """Some of the sessions, which one player plays."""
+
+    number: int
+    sessions: int
+    said: str
+    played: Played | None
+
+    @property
+    def fault(self) -> str:
+        if self.played is None:
+            return f"part {self.number}: no sessions were made: {self.said.strip()[-600:]}"
+        fault = self.played.fault(self.sessions)
+        return f"part {self.number}: {fault}" if fault else ""
+
+
+def _part(options: argparse.Namespace, folder: Path, number: int, count: int) -> Part:
+    """Makes sessions and plays them."""
+    file = folder / f"{number}.txt"
+    words = ["--kinds", options.kinds, "--users", str(options.users), "--count", str(count), "--seed", f"{options.seed}{number:03}"]
+    made = run([sys.executable, str(MAKE_SESSIONS), *words, str(file)], stdout=PIPE, stderr=STDOUT, text=True, check=False)
+    if made.returncode:
+        return Part(number, count, made.stdout, None)
+    player = Player(options.player, options.differences, options.time)
+    return Part(number, count, made.stdout, play(player, file, folder / f"{number}.tsv"))
+
+
+def _parts(options: argparse.Namespace, folder: Path) -> list[Part]:
+    sizes = [min(_SESSIONS_OF_A_PART, options.count - first) for first in range(0, options.count, _SESSIONS_OF_A_PART)]
+    with ThreadPoolExecutor(options.jobs) as pool:
+        return list(pool.map(lambda place: _part(options, folder, place, sizes[place]), range(len(sizes))))
+
+
+class Total:
+    """What came of all parts."""
+
+    def __init__(self, parts: Sequence[Part]) -> None:
+        self.faults = [part.fault for part in parts if part.fault]
+        played = [part.played for part in parts if part.played is not None]
+        self.results = [result for one in played for result in one.results]
+        self.rows = sum(one.rows for one in played)
+        self.differed: Counter[str] = Counter()
+        self.met: Counter[str] = Counter()
+        for one in played:
+            self.differed.update(one.differed)
+            self.met.update(one.met)
+        self.verdicts = Counter(result.verdict.split()[0] for result in self.results)
+
+    def unlisted(self) -> list[str]:
+        return [
+            f"{result.session}: {result.step}: kernel {result.kernel}, model {result.model}"
+            for result in self.results
+            if not result.is_told
+        ]
+
+    def gone(self) -> list[str]:
+        """The listed differences that didn't occur."""
+        return [name for name in self.met if not self.differed[name]]
+
+    def lines(self) -> list[str]:
+        compared, steps = (sum(getattr(result, field) for result in self.results) for field in ("compared", "steps"))
+        return [
+            f"{len(self.results)} sessions: " + ", ".join(f"{count} {verdict}" for verdict, count in sorted(self.verdicts.items())),
+            f"{steps} steps, {compared} of them compared; {self.rows} rows compared",
+            *(f"listed {name}: {self.differed[name]} of {self.met[name]}" for name in sorted(self.met)),
+        ]
+
+
+_SYSTEM = platform.system().lower()
+
+
+def add_player(parser: argparse.ArgumentParser) -> None:
+    """Adds the options that say how sessions are played."""
+    parser.add_argument("--time", type=int, metavar="SECONDS", default=20, help="how long a step may take")
+    parser.add_argument("--player", type=Path, metavar="FILE", default=KERNEL / "tracehost-play")
+    parser.add_argument("--differences", type=Path, metavar="FILE", default=KERNEL / f"differences/{_SYSTEM}.tsv")
+
+
+def _arguments() -> argparse.ArgumentParser:
+    parser = argparse.ArgumentParser(prog="run", description=__doc__, formatter_class=argparse.RawDescriptionHelpFormatter)
+    parser.add_argument("--kinds", choices=sorted(KINDS), default="shared" if _SYSTEM == "linux" else "all")
+    parser.add_argument("--users", type=int, choices=range(1, 65), metavar="N", default=1)
+    parser.add_argument("--count", type=int, metavar="N", default=1000, help="how many sessions; 1000 if it is missing")
+    parser.add_argument("--seed", type=int, metavar="N", default=1)
+    parser.add_argument("--jobs", type=int, metavar="J", default=os.cpu_count() or 1, help="players side by side")
+    add_player(parser)
+    parser.add_argument("--folder", type=Path, metavar="FOLDER", help="keeps sessions and results here")
+    return parser
+
+
+def _report(total: Total, count: int) -> int:
+    """Prints what came of the sessions, and returns the status."""
+    print("\n".join(total.lines()))
+    unlisted, gone = total.unlisted(), total.gone()
+    for line in unlisted:
+        print(f"unlisted: {line}")
+    if gone:
+        print(f"listed, but it didn't occur: {', '.join(gone)}")
+    for fault in total.faults:
+        print(f"run: {fault}", file=sys.stderr)
+    if total.faults or not total.results:
+        return NOT_DONE
+    return DIFFERS if unlisted or (gone and count >= WHOLE) else SAME
+
+
+def main(words: list[str] | None = None) -> int:
+    options = _arguments().parse_args(words)
+    if options.count < 1 or options.jobs < 1:
+        print("run: --count and --jobs are 1 or more", file=sys.stderr)
+        return 2
+    if not options.player.exists():
+        print(f"run: there is no {options.player}: `make` in {KERNEL} builds it", file=sys.stderr)
+        return NOT_DONE
+    with tempfile.TemporaryDirectory(prefix="tracehost-kernel-") as room:
+        folder = options.folder or Path(room)
+        folder.mkdir(parents=True, exist_ok=True)
+        return _report(Total(_parts(options, folder)), options.count)
