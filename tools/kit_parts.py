@@ -17,14 +17,15 @@ _FILES = {
     "kernel/*.[ch]": "player/",
     "kernel/Makefile": "player/",
     "kernel/example.txt": "player/",
-    "kernel/differences/*.tsv": "differences/",
+    "kernel/differences/freebsd.tsv": "differences/",
+    "kernel/differences/linux.tsv": "differences/",
     f"{CASES}/*_test.c": "cases/",
     f"{CASES}/*.h": "cases/",
     f"{CASES}/DIFFERENCES.txt": "cases/",
     "LICENSE": "",
 }
 # what sessions are made of besides
-_MAKER = ("kernel/sessions/*.py", "kernel/*.py", "format/*.toml")
+_MAKER = ("kernel/sessions/*.*", "kernel/*.py", "format/*.toml")
 # names that the repository has without the dot, or with an ending
 _RENAMED = {"cirrus.yml": ".cirrus.yml", "README.md": "README"}
 
