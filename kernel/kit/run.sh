@@ -18,6 +18,7 @@ LC_ALL=C
 export LC_ALL
 unset CDPATH MAKEFLAGS MFLAGS GNUMAKEFLAGS MAKELEVEL
 umask 022
+{ : >&2; } 2>/dev/null || exec 2>/dev/null
 exec 3>&2 # in functions whose standard error goes to a file too
 case $0 in */*) cd "${0%/*}" || exit 3 ;; esac
 
@@ -49,7 +50,7 @@ fault() {
 }
 
 stopped() {
-	trap '' HUP INT TERM
+	trap '' HUP INT QUIT PIPE TERM
 	if [ -n "$running" ]; then
 		kill -TERM "$running" 2>/dev/null
 		wait "$running"
@@ -231,8 +232,10 @@ play_sessions() {
 		printf '%s: %s\n' "$(date +%H:%M:%S)" "$part"
 		play_part $part
 	done
-	cat work/played/*/rows.tsv 2>/dev/null | awk -F "$tab" '$1 == "difference" && NF == 4 { differed[$2] += $3; met[$2] += $4 }
-		END { for (name in met) printf "difference\t%s\t%d\t%d\n", name, differed[name], met[name] }' | sort >work/met.tsv
+	cat work/played/*/rows.tsv 2>/dev/null >work/rows.tsv
+	awk -F "$tab" '$1 == "difference" && NF == 4 { differed[$2] += $3; met[$2] += $4 }
+		END { for (name in met) printf "difference\t%s\t%d\t%d\n", name, differed[name], met[name] }' work/rows.tsv >work/met.part &&
+		sort work/met.part >work/met.tsv || fault 'this folder takes no more files'
 }
 
 # ---- the shortest session of each way to differ
@@ -379,13 +382,15 @@ count_all() {
 }
 
 write_results() {
+	build=/dev/null
+	[ -z "$why_no_player" ] || [ ! -f work/player.out ] || build=work/player.out
 	{
-		cat work/head.tsv
-		printf 'what\tpart\tname\tverdict\tlisted\tcompared\tsteps\tline\tstep\tmodel\tkernel\tshortest\n'
-		awk -F "$tab" -f join.awk work/shortest.tsv work/sessions.tsv
-		cat work/cases.tsv work/met.tsv
-		[ -z "$why_no_player" ] || [ ! -f work/player.out ] || head -n 200 work/player.out | sed 's/^/# build: /'
-		printf '# end\t%s\n' "$(count_all)"
+		cat work/head.tsv &&
+			printf 'what\tpart\tname\tverdict\tlisted\tcompared\tsteps\tline\tstep\tmodel\tkernel\tshortest\n' &&
+			awk -F "$tab" -f join.awk work/shortest.tsv work/sessions.tsv &&
+			cat work/cases.tsv work/met.tsv &&
+			sed 's/^/# build: /; 200q' $build &&
+			printf '# end\t%s\n' "$(count_all)"
 	} >"$results.part" || fault "$results cannot be written"
 	rows=$(grep -c -e "^session$tab" -e "^case$tab" "$results.part")
 	[ "$(tail -n 1 "$results.part")" = "# end$tab$rows" ] || fault "$results cannot be written whole"
@@ -412,16 +417,24 @@ verdict() {
 		}' "$results"
 }
 
-start=$(date +%s)
-end=$((start + MINUTES * 60))
+# Sets when nothing more is begun: at so many sixtieths of the time.
+until_part() {
+	end=$((start + MINUTES * $1))
+}
+
 check_variables
-trap stopped HUP INT TERM
+start=$(date +%s)
+trap stopped HUP INT QUIT PIPE TERM
 rm -f "$results.part"
 [ ! -f "$results" ] || mv -f "$results" "$results.old" || fault "$results of an earlier run cannot be renamed"
+until_part 60
 build_limited
 write_head >work/head.tsv || fault 'this folder takes no more files'
+until_part 36 # a player that hangs again and again leaves time for the cases
 play_sessions
+until_part 42
 shorten
+until_part 60
 run_cases
 write_results
 awk -F "$tab" -f way.awk -f table.awk "$results" || fault 'the table cannot be printed'

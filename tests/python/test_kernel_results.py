@@ -20,6 +20,8 @@ PAGE = TOP / "docs/DIFFERENCES.md"
 HEADING = "what\tpart\tname\tverdict\tlisted\tcompared\tsteps\tline\tstep\tmodel\tkernel\tshortest"
 VERDICTS = {"exec_test vfork_shares_memory": "listed", "waits_test orphans": "not tried", "wait_test orphans": "differs"}
 """Of cases; the others are the same."""
+NO_ROWS = {"ignored_by_default", "kill_no_signal", "raise_0"}
+"""Differences that no manual page's sentence is about."""
 
 
 def made_up(identity: str) -> list[str]:
@@ -130,9 +132,11 @@ def test_each_row_has_a_line_and_each_name_is_known() -> None:
     ties = tool.read_ties()
     tool.check_names(ties)
     assert len(ties) == len(rows_of_the_page())
+    differences = {row["name"] for row in tool.rows_of(tool.FREEBSD)}
     listed = re.findall(r"^([a-z]\w*) (\w+)$", (TOP / "clients/posix/tests/DIFFERENCES.txt").read_text(), re.MULTILINE)
     tied = {name for tie in ties for name in tie.names}
     assert {".".join(case) for case in listed} <= tied
+    assert differences - tied == NO_ROWS
 
 
 # ---- files that are refused
