@@ -106,9 +106,14 @@ time_is_left() {
 	[ "$(date +%s)" -lt "$end" ]
 }
 
-# A file's first line that tells what is wrong, or its last one; without tabs.
+# What a cell of a table takes: printable characters, and not too many.
+cell() {
+	tr '\t' ' ' | tr -cd '\040-\176\n' | cut -c 1-300
+}
+
+# A file's first line that tells what is wrong, or its last one.
 first_error() {
-	awk '/error|undefined|fatal/ && !found { found = $0 } { last = $0 } END { print found ? found : last }' "$1" | tr '\t' ' ' | cut -c 1-300
+	awk '/error|undefined|fatal/ && !found { found = $0 } { last = $0 } END { print found ? found : last }' "$1" | cell
 }
 
 build_limited() {
@@ -129,9 +134,9 @@ processors() {
 
 write_head() {
 	printf '# tracehost-kit\t%s\n' "$(tr ' ' '\t' <VERSION)"
-	printf '# kernel\t%s\t%s\t%s\n' "$system" "$(uname -r)" "$(uname -v | tr '\t' ' ')"
+	printf '# kernel\t%s\t%s\t%s\n' "$system" "$(uname -r)" "$(uname -v | cell)"
 	printf '# machine\t%s\t%s processors\n' "$(uname -m)" "$(processors)"
-	printf '# compiler\t%s\t%s\n' "$PLAYER_CC" "$($PLAYER_CC --version 2>&1 | head -n 1 | tr '\t' ' ')"
+	printf '# compiler\t%s\t%s\n' "$PLAYER_CC" "$($PLAYER_CC --version 2>&1 | head -n 1 | cell)"
 	printf '# date\t%s\n' "$(date -u +%Y-%m-%dT%H:%M:%SZ)"
 	printf '# user\t%s\n' "$(id -u)"
 	for name in kern.kill_on_debugger_exit security.bsd.see_other_uids security.bsd.unprivileged_proc_debug \
@@ -166,7 +171,7 @@ use_setting() {
 why_ended() {
 	case $1 in
 	124) printf 'no end in time' ;;
-	*) printf 'status %s: %s' "$1" "$(tail -n 1 "$2" | tr '\t' ' ' | cut -c 1-300)" ;;
+	*) printf 'status %s: %s' "$1" "$(tail -n 1 "$2" | cell)" ;;
 	esac
 }
 
@@ -187,7 +192,7 @@ play_file() {
 	tries=0
 	while [ "$tries" -lt 20 ] && time_is_left; do
 		tries=$((tries + 1))
-		limited 300 work/player/tracehost-play --differences "$differences" --time 20 --results "$played/new.tsv" \
+		limited 300 work/player/tracehost-play --differences "$differences" --time 30 --results "$played/new.tsv" \
 			"$played/rest.txt" >"$played/new.out" 2>&1
 		code=$?
 		[ ! -f "$played/new.tsv" ] || whole_lines "$played/new.tsv" >>"$played/rows.tsv"
@@ -233,17 +238,20 @@ play_sessions() {
 		play_part $part
 	done
 	cat work/played/*/rows.tsv 2>/dev/null >work/rows.tsv
-	awk -F "$tab" '$1 == "difference" && NF == 4 { differed[$2] += $3; met[$2] += $4 }
-		END { for (name in met) printf "difference\t%s\t%d\t%d\n", name, differed[name], met[name] }' work/rows.tsv >work/met.part &&
-		sort work/met.part >work/met.tsv || fault 'this folder takes no more files'
+	if ! awk -F "$tab" '$1 == "difference" && NF == 4 { differed[$2] += $3; met[$2] += $4 }
+		END { for (name in met) printf "difference\t%s\t%d\t%d\n", name, differed[name], met[name] }' work/rows.tsv >work/met.part ||
+		! sort work/met.part >work/met.tsv; then
+		fault 'this folder takes no more files'
+	fi
 }
 
 # ---- the shortest session of each way to differ
 
 # Plays a cut session, and says whether it differs in the way of this class.
 still_differs() {
+	rm -f work/short/new.tsv
 	limited 60 work/player/tracehost-play --differences "$differences" --time 20 --results work/short/new.tsv "$1" >/dev/null 2>&1
-	awk -f way.awk -f ways.awk select="$2" work/short/new.tsv | grep -q .
+	[ -f work/short/new.tsv ] && awk -f way.awk -f ways.awk select="$2" work/short/new.tsv | grep -q .
 }
 
 # Writes a line for each way: how many sessions, which is the shortest, and its steps.
@@ -284,8 +292,7 @@ write_case() { # PROGRAM CASE VERDICT LISTED MODEL KERNEL
 
 # What a case's output says, in a line.
 said() {
-	awk '/^(failed|skipped|expected_failure)/ { found = $0 } NF { last = $0 } END { print found ? found : last }' work/case.out |
-		tr '\t' ' ' | cut -c 1-300
+	awk '/^(failed|skipped|expected_failure)/ { found = $0 } NF { last = $0 } END { print found ? found : last }' work/case.out | cell
 }
 
 # How a case went: pass, `fail: TEXT`, or `not tried: TEXT`.
@@ -389,7 +396,7 @@ write_results() {
 			printf 'what\tpart\tname\tverdict\tlisted\tcompared\tsteps\tline\tstep\tmodel\tkernel\tshortest\n' &&
 			awk -F "$tab" -f join.awk work/shortest.tsv work/sessions.tsv &&
 			cat work/cases.tsv work/met.tsv &&
-			sed 's/^/# build: /; 200q' $build &&
+			cell <$build | sed 's/^/# build: /; 200q' &&
 			printf '# end\t%s\n' "$(count_all)"
 	} >"$results.part" || fault "$results cannot be written"
 	rows=$(grep -c -e "^session$tab" -e "^case$tab" "$results.part")
