@@ -85,6 +85,15 @@ def test_full_disk_of_the_maker(library: Path) -> None:
     assert done.returncode != 0 and done.stdout == b""
 
 
+def test_no_library(tmp_path: Path) -> None:
+    """A maker that fails is told, and leaves no archive."""
+    words: list[str | Path] = [sys.executable, TOP / "tools/kit", "--sessions", "1", tmp_path / "kit.tar.gz"]
+    environment = {**os.environ, "TRACEHOST_LIB_DIR": str(tmp_path)}
+    done = subprocess.run(words, env=environment, capture_output=True, text=True, check=False)
+    assert (done.returncode, done.stdout) == (1, "") and "kit: the maker of sessions has failed" in done.stderr
+    assert not list(tmp_path.iterdir())
+
+
 def test_readme_names_what_there_is() -> None:
     text = (KIT / "README.md").read_text()
     for part, sessions in PARTS.items():
