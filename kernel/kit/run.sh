@@ -280,9 +280,9 @@ shorten() {
 
 # The model's word for a case: `pass`, or `fail` if DIFFERENCES.txt lists it; `either` if a kernel may answer otherwise.
 expected() {
-	awk -v program="$1" -v case="$2" '
-		$1 == program && $2 == case { word = "fail" }
-		$1 == "#" && $2 == program && $3 == case { word = "either" }
+	awk -v program="$1" -v name="$2" '
+		$1 == program && $2 == name { word = "fail" }
+		$1 == "#" && $2 == program && $3 == name { word = "either" }
 		END { print word ? word : "pass" }' cases/DIFFERENCES.txt
 }
 
@@ -290,25 +290,30 @@ write_case() { # PROGRAM CASE VERDICT LISTED MODEL KERNEL
 	printf 'case\tcases\t%s %s\t%s\t%s\t-\t-\t-\t-\t%s\t%s\t-\n' "$1" "$2" "$3" "$4" "$5" "$6" >>work/cases.tsv
 }
 
-# What a case's output says, in a line.
+# What a case's output says, in a line; the result is that of atf-c(3), or of tracehost's behind the case's name.
 said() {
-	awk '/^(failed|skipped|expected_failure)/ { found = $0 } NF { last = $0 } END { print found ? found : last }' work/case.out | cell
+	awk -v name="$1" '
+		{ sub("^" name ": ", "") }
+		/^(passed|failed|skipped|expected_failure)/ { found = $0 }
+		NF { last = $0 }
+		END { print found ? found : last }' work/case.out | cell
 }
 
-# How a case went: pass, `fail: TEXT`, or `not tried: TEXT`.
+# How a case of this name went: pass, `fail: TEXT`, or `not tried: TEXT`.
 outcome() {
-	if [ "$1" -eq 0 ] && grep -qx passed work/case.out; then
+	said=$(said "$2")
+	if [ "$1" -eq 0 ] && [ "$said" = passed ]; then
 		echo pass
 	elif [ "$1" -eq 0 ]; then
-		echo "not tried: $(said)"
+		echo "not tried: $said"
 	elif [ "$1" -eq 124 ] && ! time_is_left; then
 		echo 'not tried: no time was left'
 	elif [ "$1" -eq 124 ]; then
 		echo "fail: no end in $CASE_SECONDS seconds"
 	elif [ "$1" -eq 125 ] || { [ -n "$RUN" ] && [ "$1" -ne 1 ]; }; then
-		echo "not tried: status $1: $(said)"
+		echo "not tried: status $1: $said"
 	else
-		echo "fail: status $1: $(said)"
+		echo "fail: status $1: $said"
 	fi
 }
 
@@ -341,7 +346,7 @@ run_case() {
 	limited "$CASE_SECONDS" $RUN "../cases/$1" "$2" >../case.out 2>&1
 	code=$?
 	cd ../.. || fault 'the folder is gone'
-	judge_case "$1" "$2" "$(outcome "$code")"
+	judge_case "$1" "$2" "$(outcome "$code" "$2")"
 }
 
 run_program() {
