@@ -100,12 +100,23 @@ long model_lwp(long native)
 
 /* The super-user plays each user of the model by another one of the kernel, anybody else one user by themselves. */
 static bool plays_users(void) { return system_has_users && geteuid() == 0; }
-long native_user(long user) { return plays_users() ? FIRST_NATIVE_USER + user - FIRST_USER : (long)geteuid(); }
+
+/* Users of the system that stand for the model's. Where others can be met, players that run side by side take others. */
+static long first_native_user(void)
+{
+    enum { BLOCKS = 62 };
+    static long first;
+    if (first == 0)
+        first = FIRST_NATIVE_USER + (private_numbers ? 0 : USERS * (1 + getpid() % BLOCKS));
+    return first;
+}
+
+long native_user(long user) { return plays_users() ? first_native_user() + user - FIRST_USER : (long)geteuid(); }
 
 long model_user(long native)
 {
     if (plays_users())
-        return native - FIRST_NATIVE_USER + FIRST_USER;
+        return native - first_native_user() + FIRST_USER;
     return native == (long)geteuid() ? FIRST_USER : 0;
 }
 

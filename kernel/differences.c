@@ -58,7 +58,8 @@ void differences_read(const char *name)
     FILE *file = fopen(name, "r");
     if (file == NULL)
         fault("cannot read %s: %s", name, strerror(errno));
-    for (int line = 1; getline(&text, &room, file) >= 0; line++) {
+    int line = 1;
+    for (; getline(&text, &room, file) >= 0; line++) {
         if (!cut_columns(text, cells))
             wrong(name, line, "not the eight columns of a difference, with tabs between them");
         for (int i = 0; line == 1 && i < COLUMNS; i++)
@@ -70,8 +71,8 @@ void differences_read(const char *name)
     }
     if (ferror(file))
         fault("cannot read %s: %s", name, strerror(errno));
-    if (text == NULL && known_count == 0)
-        wrong(name, 1, "an empty list of differences");
+    if (line == 1)
+        wrong(name, line, "not even the heading of a list of differences");
     fclose(file);
 }
 

@@ -63,6 +63,7 @@ struct slot {
     atomic_uint asked, begun, done; /* numbers of commands */
     atomic_ulong beat; /* counts rounds in user mode */
     atomic_bool is_image; /* it has become an image of its own */
+    atomic_int lender; /* 1 + the slot of the LWP whose thread and memory it has, by vfork(2); or 0 */
     atomic_int process; /* the kernel's numbers */
     atomic_long lwp;
     atomic_uint caught[MODEL_SIGNALS]; /* how often a handler has run */

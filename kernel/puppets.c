@@ -6,10 +6,18 @@
 #include <unistd.h>
 #include "play.h"
 
+/* Whose handler runs. As vfork(2) returns, the child's slot is still that of the thread which it had. */
+static struct slot *slot_of_handler(void)
+{
+    struct slot *self = system_self();
+    int lender = self == NULL ? 0 : atomic_load(&self->lender);
+    return lender != 0 && getpid() != atomic_load(&self->process) ? &stage->slots[lender - 1] : self;
+}
+
 static void count_signal(int signal)
 {
     int number = model_signal(signal);
-    struct slot *self = system_self();
+    struct slot *self = slot_of_handler();
     if (self != NULL && number > 0)
         atomic_fetch_add(&self->caught[number], 1);
 }
@@ -50,6 +58,7 @@ static int make_child(int slot)
 /* The child has its maker's memory and thread until it ends or becomes another image: it never returns from here. */
 static int make_vfork_child(struct slot *self, int slot)
 {
+    atomic_store(&stage->slots[slot].lender, (int)(self - stage->slots) + 1);
     pid_t child = vfork();
     if (child == 0)
         puppet_live(slot);

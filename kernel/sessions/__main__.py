@@ -18,7 +18,7 @@ class Reached(NamedTuple):
     """A goal, how often it was reached, and why it can't be if it is listed so."""
 
     goal: str
-    count: int
+    times: int
     why: str
 
 
@@ -36,8 +36,8 @@ def write_goals(maker: Maker, file: TextIO) -> None:
 
 def summary(maker: Maker, count: int) -> str:
     goals = [reached for reached in coverage(maker) if not reached.why]
-    enough = sum(reached.count >= LEAST for reached in goals)
-    never = sum(reached.count == 0 for reached in goals)
+    enough = sum(reached.times >= LEAST for reached in goals)
+    never = sum(reached.times == 0 for reached in goals)
     unsettled = ", ".join(f"{reason}: {times}" for reason, times in sorted(maker.unsettled.items())) or "none"
     return (
         f"{count} sessions, {maker.steps} steps; of {len(goals)} goals {enough} reached at least {LEAST} times, {never} never;"
@@ -75,9 +75,9 @@ def main(words: Optional[list[str]] = None) -> int:
         print(f"make-sessions: {error}", file=sys.stderr)
         return 3
     print(f"make-sessions: {summary(maker, options.count)}", file=sys.stderr)
-    wrong = [reached for reached in coverage(maker) if reached.why and reached.count]
-    for goal, count, why in wrong:
-        print(f"make-sessions: {goal}: reached {count} times, though it is listed as never: {why}", file=sys.stderr)
+    wrong = [reached for reached in coverage(maker) if reached.why and reached.times]
+    for goal, times, why in wrong:
+        print(f"make-sessions: {goal}: reached {times} times, though it is listed as never: {why}", file=sys.stderr)
     return 1 if wrong or not options.count else 0
 
 

@@ -71,18 +71,23 @@ def _is_news(row: Process, step: Step) -> bool:
 
 
 def _on_linux(rows: Rows, step: Step) -> bool:
-    """On Linux each thread is traced by itself, an exec gives a thread its process's number, and the first thread of a
+    """On Linux each thread is traced, and traces, by itself, an exec gives a thread its process's number, and the first thread of a
     process shows the process's state."""
     if step.get("act") == "enter" and step["lwp"] in rows.lwps:
         row = rows.processes[rows.lwps[step["lwp"]]["pid"]]
         threads = rows.of(row["pid"])
-        is_first = threads[0]["lwp"] == step["lwp"]
+        is_first = bool(threads[0]["lwp"] == step["lwp"])
         if step["call"] == "thr_new":
-            return not row.get("tracer")
+            return not any(row["pid"] in (other["pid"], other.get("tracer")) for other in _tracees(rows))
         if step["call"] == "exec":
             return is_first
-        return step["call"] != "thr_exit" or not is_first or len(threads) == 1
+        return bool(step["call"] != "thr_exit" or not is_first or len(threads) == 1)
     if step["op"] != "ptrace":
         return True
-    row_of_target = _owner(rows, step.get("target", step["caller"]))
-    return row_of_target is None or len(rows.of(row_of_target["pid"])) < 2
+    caller, target = _owner(rows, step["caller"]), _owner(rows, step.get("target", step["caller"]))
+    tracer = caller if caller is None or "target" in step else rows.processes.get(caller["parent"])
+    return all(row is None or len(rows.of(row["pid"])) < 2 for row in (target, tracer))
+
+
+def _tracees(rows: Rows) -> list[Process]:
+    return [row for row in rows.processes.values() if row.get("tracer")]

@@ -134,7 +134,9 @@ class Chooser:
 
     def _no_process(self) -> int:
         """A number that isn't a process of the user."""
-        return self._chance.choice([*self._seen.gone_processes, *self._seen.others, 999, 1 + max(self._rows.processes, default=1000)])
+        return self._chance.choice(
+            [*self._seen.gone_processes, *self._seen.others, 999, 1 + max(self._rows.processes, default=1000)]
+        )
 
     def _no_lwp(self) -> int:
         """A number that isn't an LWP of the user."""
@@ -193,7 +195,8 @@ class Chooser:
         return lambda: f"turn {self._lwp(may)} enter {call}"
 
     def _wait4(self) -> str:
-        parents = {row[key] for row in self._rows.processes.values() if _has_news(row) for key in ("tracer", "parent") if key in row}
+        news = self._where(_has_news)
+        parents = {row["parent"] for row in news} | {row["tracer"] for row in news if "tracer" in row}
         caller = self._pid(self._where(lambda row: row["pid"] in parents and row["state"] == "runs"))
         mine = self._where(lambda row: caller in (row["parent"], row.get("tracer")))
         which = -1 if self._is(0.6) else self._chance.choice((0, -3)) if self._is(0.03) else self._pid(mine)

@@ -11,20 +11,23 @@ DISCARDED = {16: "SIGURG", 19: "SIGCONT", 20: "SIGCHLD", 23: "SIGIO", 28: "SIGWI
 _SIGIO = 23
 
 
-def none(rows: Rows, step: Step) -> bool:
+def none(rows: Rows, step: Step) -> str:
     """No habit of FreeBSD was seen yet."""
-    return False
+    return ""
 
 
-def on_linux(rows: Rows, step: Step) -> bool:
+def on_linux(rows: Rows, step: Step) -> str:
+    """What the habit is about; "" for none."""
     if step["op"] == "ptrace":
         return _requests(rows, step)
+    if step["op"] == "kill" and step["which"] == 0:
+        return "its own process group"
+    named: list[Process] = []
     if step["op"] == "kill":
-        named = rows.processes.values() if step["which"] == -1 else [rows.processes.get(step["which"])]
-        return step["which"] == 0 or any(_discards(rows, row, step["signal"]) for row in named if row is not None)
-    if step.get("act") == "raise" and step["lwp"] in rows.lwps:
-        return _discards(rows, rows.processes[rows.lwps[step["lwp"]]["pid"]], step["signal"])
-    return False
+        named = [row for row in rows.processes.values() if step["which"] in (-1, row["pid"])]
+    elif step.get("act") == "raise" and step["lwp"] in rows.lwps:
+        named = [rows.processes[rows.lwps[step["lwp"]]["pid"]]]
+    return "a signal that is discarded" if any(_discards(rows, row, step["signal"]) for row in named) else ""
 
 
 def _discards(rows: Rows, row: Process, signal: int) -> bool:
@@ -35,22 +38,35 @@ def _discards(rows: Rows, row: Process, signal: int) -> bool:
     return signal == _SIGIO or any(name in lwp.get("blocked", ()) for lwp in rows.of(row["pid"]))
 
 
-def _requests(rows: Rows, step: Step) -> bool:
+def _requests(rows: Rows, step: Step) -> str:
     caller = rows.processes.get(step["caller"])
     if caller is None or caller["state"] != "runs":
-        return False
+        return ""
     if step["request"] == "PT_TRACE_ME":
-        return caller["parent"] == 1 or caller["parent"] in _tracees(rows, caller["pid"])
+        if caller["parent"] in _tracees(rows, caller["pid"]):
+            return "a parent traces its tracer"
+        return "a reaper traces" if caller["parent"] == 1 else ""
     target = step["target"]
     row = rows.processes.get(rows.lwps[target]["pid"] if target in rows.lwps else target)
     if row is None:
-        return False
-    if step["request"] == "PT_ATTACH":
-        waits = any(lwp["mode"] == "waits_for_vfork" for lwp in rows.of(row["pid"]))
-        return row["state"] == "job_stop" or waits or caller["pid"] in _tracees(rows, row["pid"])
+        return ""
+    return _attaches(rows, caller, row) if step["request"] == "PT_ATTACH" else _commands(caller, row, step)
+
+
+def _attaches(rows: Rows, caller: Process, row: Process) -> str:
+    if caller["pid"] in _tracees(rows, row["pid"]):
+        return "a tracee attaches to its tracer"
+    if any(lwp["mode"] == "waits_for_vfork" for lwp in rows.of(row["pid"])):
+        return "an attach in a vfork"
+    return "an attach to a stopped process" if row["state"] == "job_stop" else ""
+
+
+def _commands(caller: Process, row: Process, step: Step) -> str:
     if row.get("tracer") != caller["pid"]:
-        return False
-    return step.get("data", 0) in range(1, 32) or not row.get("reported")
+        return ""
+    if not row.get("reported"):
+        return f"{step['request']} of {row['state']}"
+    return f"{step['request']} with a signal" if step.get("data", 0) in range(1, 32) else ""
 
 
 def _tracees(rows: Rows, tracer: int) -> set[int]:

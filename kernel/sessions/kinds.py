@@ -40,8 +40,8 @@ class Kind(NamedTuple):
     """Whether the kernels of this kind can be asked for the step."""
     unordered: Callable[[Rows, Lwp], bool]
     """Whether kernels may take the LWP's pending signals in another order, so that something else comes of it."""
-    habit: Callable[[Rows, Step], bool]
-    """Whether a habit of the kernels would end most sessions at such a step."""
+    habit: Callable[[Rows, Step], str]
+    """The habit of a kernel that would end most sessions at such a step; "" for none."""
     kills: float
     """How often the end of a debugger kills its tracees: a kernel without such a setting keeps them."""
 

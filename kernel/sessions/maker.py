@@ -16,8 +16,8 @@ from .starts import Starts
 _STEPS = (20, 30)
 _MOST_LWPS = 12
 _TRIES = 20
-# how often a step is taken to which a habit of a kernel puts an end
-_ENDS = 0.05
+# how many steps are made that a habit of a kernel would end, and how often further ones
+_ENOUGH, _ENDS = 10, 0.05
 # how often a further user takes part
 _SHARES = 0.3
 # how many candidates there are for a step, of which the one with the rarest goal is taken
@@ -90,6 +90,7 @@ class Maker:
         self.counts: Counter[str] = Counter()
         self.unsettled: Counter[str] = Counter()
         self.steps = 0
+        self._habits: Counter[str] = Counter()
         self._kind, self._chance = KINDS[kind], random.Random(seed)
         self._users = [FIRST_USER + number for number in range(users)]
         self._chooser = Chooser(self._chance, self._kind, self.counts)
@@ -142,13 +143,20 @@ class Maker:
                 continue
             words = by_user(user, words)
             step = step_in(words)
-            if self._kind.habit(rows, step) and self._chance.random() > _ENDS:
-                continue
-            if self._kind.allows(rows, step):
+            if self._kind.allows(rows, step) and self._is_wanted(self._kind.habit(rows, step)):
                 tried = self._tried(started, user, words)
                 if tried is not None:
                     return tried
         return None
+
+    def _is_wanted(self, habit: str) -> bool:
+        """Whether a step is to be made that a habit of a kernel would end."""
+        if not habit:
+            return True
+        if self._habits[habit] >= _ENOUGH and self._chance.random() > _ENDS:
+            return False
+        self._habits[habit] += 1
+        return True
 
     def _tried(self, started: _Started, user: int, words: str) -> Optional[_Tried]:
         model = self._free.pop()

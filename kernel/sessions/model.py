@@ -253,7 +253,7 @@ def _yes(holds: object) -> str:
     return "yes" if holds else "no"
 
 
-def process_line(user: int, row: Process, lwps: Sequence[Lwp]) -> str:
+def process_line(user: int, row: Process, lwps: Sequence[Lwp], rows: Rows) -> str:
     """The fields that kernels show, and then those that conditions of differences ask for."""
     line = (
         f"process {row['pid']} user={user} state={row['state']} parent={row['parent']} tracer={row.get('tracer', 0)}"
@@ -265,7 +265,9 @@ def process_line(user: int, row: Process, lwps: Sequence[Lwp]) -> str:
     if row["state"] in ("trace_stop", "job_stop"):
         line += f" told={_yes(row.get('reported'))}"
     waits = any(lwp["mode"] == "waits_for_vfork" for lwp in lwps)
-    return f"{line} continued={_yes(row.get('continued'))} waits={_yes(waits)}"
+    vforked = any(lwp.get("vfork_child") == row["pid"] for lwp in rows.lwps.values())
+    unwaited = "SIGCHLD" in rows.processes.get(row["parent"], {}).get("ignore", ())
+    return f"{line} continued={_yes(row.get('continued'))} waits={_yes(waits)} vforked={_yes(vforked)} unwaited={_yes(unwaited)}"
 
 
 def lwp_line(row: Lwp) -> str:
@@ -278,7 +280,7 @@ def lines_of(user: int, rows: Rows) -> dict[str, str]:
     owned: dict[int, list[Lwp]] = {}
     for lwp in rows.lwps.values():
         owned.setdefault(lwp["pid"], []).append(lwp)
-    lines = {f"process {pid}": process_line(user, row, owned.get(pid, ())) for pid, row in rows.processes.items()}
+    lines = {f"process {pid}": process_line(user, row, owned.get(pid, ()), rows) for pid, row in rows.processes.items()}
     lines.update((f"lwp {number}", lwp_line(row)) for number, row in rows.lwps.items())
     return lines
 

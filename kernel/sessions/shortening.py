@@ -14,9 +14,9 @@ from pathlib import Path
 from typing import Optional
 
 from .form import Text, texts_in
-from .playing import DIFFERS, SAME, Player, Result, play
+from .playing import DIFFERS, NOT_DONE, SAME, Player, Result, play
 from .remaking import remade
-from .running import NOT_DONE, add_player
+from .running import add_player
 
 _NUMBERS = re.compile(r"\b\d{4,}\b")
 
@@ -54,7 +54,10 @@ class Shortener:
 
         def still_differs(steps: Sequence[str]) -> bool:
             text = remade(session.name, session.kills, steps)
-            return text is not None and self.differs(text) == wanted
+            try:
+                return text is not None and self.differs(text) == wanted
+            except CannotPlay:  # without some steps another may be none that the kernel can be asked for
+                return False
 
         steps = session.steps()
         if not still_differs(steps):

@@ -24,6 +24,7 @@ PARTS: dict[str, tuple[list[str], list[str]]] = {
     "its package": (["clients/python/setup.py"], []),
     "tests of the client in C": (["clients/c/tests/*.py"], ["clients/python"]),
     "C programs on the model": (["clients/posix/*", "clients/posix/**/*.py"], ["clients/posix", "clients/python"]),
+    "sessions for kernels": (["kernel/*.py", "kernel/*", "kernel/sessions/*.py"], [".", "clients/python"]),
     "the tests": (
         ["test", "conftest.py", "tests/python/*.py"],
         [
