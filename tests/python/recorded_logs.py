@@ -56,7 +56,8 @@ class _Lwp:
 class Converter:
     """Takes the steps of a record in turn."""
 
-    def __init__(self, seed: int) -> None:
+    def __init__(self, steps: Sequence[Step], seed: int) -> None:
+        self._steps = steps
         self._lwps: dict[int, _Lwp] = {}
         self._found: list[tuple[int, int, int, str, Any]] = []
         self._last = {"pid": 999, "lwp": 99_999}
@@ -78,7 +79,7 @@ class Converter:
         elif asked["op"] == "turn":
             self._turn(at, asked["lwp"], step)
         elif asked["op"] != "list":
-            self._effect(step)
+            self._effect(at, step)
 
     def _new(self, pid: int, lwp: int, origin: Optional[_Episode]) -> None:
         self._lwps[lwp] = _Lwp(pid, origin)
@@ -90,15 +91,32 @@ class Converter:
             self._found.append((at, _BEGINS, number, "begins", lwp.origin if not lwp.has_begun else None))
             lwp.has_begun, lwp.is_image = True, False
 
-    def _effect(self, step: Step) -> None:
-        """A step of a process is that of its LWP that is in such a call."""
-        if step.reply[0] == "held" or (step.reply == ["nothing"] and "WNOHANG" not in step.asked.get("options", ())):
+    def _effect(self, at: int, step: Step) -> None:
+        """A step of a process is that of its LWP that is in such a call, and leaves it next."""
+        if step.reply[0] == "held" or (step.reply == ["nothing"] and "WNOHANG" not in step.asked["options"]):
             return
-        for lwp in self._lwps.values():
-            open = lwp.open
-            if lwp.pid == step.asked["caller"] and open and not open.left and not open.effect and open.call == step.asked["op"]:
-                open.effect = step
-                return
+        pid, call = step.asked["caller"], step.asked["op"]
+        able = self._in_call(pid, call)
+        if not able or (call == "wait4" and self._is_of_broker(at, step)):
+            return
+        turns = (later.asked for later in self._steps[at + 1 :] if later.asked.get("lwp") in able)
+        turn = next(turns, None)
+        if turn is not None and turn["act"] == "leave":
+            able[turn["lwp"]].effect = step
+
+    def _in_call(self, pid: int, call: str) -> dict[int, _Episode]:
+        """The LWPs of a process that are in such a call, and have no answer."""
+        return {
+            number: lwp.open
+            for number, lwp in self._lwps.items()
+            if lwp.pid == pid and lwp.open and not lwp.open.left and not lwp.open.effect and lwp.open.call == call
+        }
+
+    def _is_of_broker(self, at: int, step: Step) -> bool:
+        """The broker passes over a stop by a wait and a request to go on."""
+        after = self._steps[at + 1].asked if at + 1 < len(self._steps) else {}
+        is_resuming = after.get("request") in ("PT_CONTINUE", "PT_STEP") and after.get("target") == step.asked["which"]
+        return is_resuming and after["caller"] == step.asked["caller"] and not self._in_call(after["caller"], "ptrace")
 
     def _turn(self, at: int, number: int, step: Step) -> None:
         lwp, act, reply = self._lwps[number], step.asked["act"], step.reply[0]
@@ -265,7 +283,7 @@ def status_text(word: int) -> str:
 
 def log_of(steps: Sequence[Step], seed: int = 0, kill_on_debugger_exit: bool = True) -> list[str]:
     """The lines of a log of these steps."""
-    converter = Converter(seed)
+    converter = Converter(steps, seed)
     for at, step in enumerate(steps):
         converter.take(at, step)
     return converter.lines(kill_on_debugger_exit)

@@ -95,7 +95,10 @@ def _info(state: State, reply: LwpInfo, line: Line) -> Optional[Numbers]:
     if "flags" in line.words:
         flags = {flag.name for flag in StopFlag if flag in reply.pl_flags}
         child = state.host_of(reply.pl_child_pid) if reply.pl_child_pid else 0
-        is_same = set(line.items("flags")) == flags and child in (None, line.whole("child"))
+        if child is None:
+            named = _with_pid(state, line.whole("child"), reply.pl_child_pid)
+            return None if named is None else _info(state.changed_pids(named[0]), reply, line)
+        is_same = set(line.items("flags")) == flags and child == line.whole("child")
         is_same = is_same and reply.pl_syscall_code in (0, line.whole("code"))
         for name, signals in (("mask", reply.pl_sigmask), ("pending", reply.pl_siglist)):
             is_same = is_same and {item for item in line.items(name) if item in Signal.__members__} == {s.name for s in signals}

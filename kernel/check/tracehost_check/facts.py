@@ -85,6 +85,7 @@ class Facts:
         """Processes that were there before, and that a debugger has attached to."""
         self.unborn = told - self.begun - self.forked - self.strangers
         """Processes of which only a wait tells."""
+        self.known = self.begun | self.forked | told
 
     def _take(self, line: Line) -> None:
         pid = line.caller.pid

@@ -47,6 +47,7 @@ class Moves:
         """The states after one move, each at once in the machine. If `is_wide`, programs may do what no line tells of."""
         for caller, calls in state.open.items():
             yield from self._part(state, caller, calls[-1])
+            yield from self._guessed(state, calls[-1])
         for late in state.late:
             yield from self._late(state, late)
         for lwp in state.rows.lwps:
@@ -104,6 +105,16 @@ class Moves:
     def _session(state: State) -> Any:
         assert state.session is not None
         return state.session
+
+    def _guessed(self, state: State, open: Open) -> Iterator[State]:
+        """A number that no line has explained yet may be that of any process that has none."""
+        part = open.next
+        number = part.target if isinstance(part, Ptrace) else part.which if isinstance(part, (Wait, Kill)) else -1
+        if number in self._facts.known and state.pids.get(number) not in state.rows.processes:
+            named = set(state.pids.values())
+            for pid in state.rows.processes.keys() - named:
+                self._machine.load(self._session(state))
+                yield state.changed(pids={**state.pids, number: pid})
 
     def _turn_of(self, state: State, caller: Caller, open: Open, part: Turn) -> Iterator[State]:
         lwp = state.lwps[caller]
@@ -268,11 +279,10 @@ class Moves:
         if status.kind == "continued" or not status.number:
             return
         if status.number in UNSENT or is_unlogged:
-            first = state.rows.lwps_of(pid)[0]
-            row = state.rows.lwps[first]
-            is_there = (row.pending | state.rows.processes[pid].pending) >> (status.number - 1) & 1
-            if not is_there and self.turn(state, first, Raise(status.number)) is not None:
-                yield state.changed(turns=1, unsent=0 if is_unlogged else 1)
+            for lwp in state.rows.lwps_of(pid):
+                pending = state.rows.lwps[lwp].pending | state.rows.processes[pid].pending
+                if not pending >> (status.number - 1) & 1 and self.turn(state, lwp, Raise(status.number)) is not None:
+                    yield state.changed(turns=1, unsent=0 if is_unlogged else 1)
         if is_unlogged and status.kind == "stopped":
             yield from self._calls(state, pid, Enter(Call.EXEC))
 

@@ -74,6 +74,12 @@ class State:
             self.unsent + unsent,
         )
 
+    def changed_pids(self, pids: Mapping[int, int]) -> State:
+        """The same rows with other numbers."""
+        after = self.changed(pids=pids)
+        after.rows = self.rows
+        return after
+
     def innermost(self, caller: Caller) -> Optional[Open]:
         calls = self.open.get(caller)
         return calls[-1] if calls else None
