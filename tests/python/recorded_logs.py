@@ -51,6 +51,9 @@ class _Lwp:
         self.has_begun = False
         self.open: Optional[_Episode] = None
         self.is_image = False
+        self.blocked: list[int] = []
+        self.masked: list[tuple[list[int], Optional[_Episode]]] = []
+        """What was blocked before each handler and each sigsuspend that goes on, which are blocks without a call."""
 
 
 class Converter:
@@ -161,10 +164,26 @@ class Converter:
                 open.left = False
         elif open is not None and open.left and open.effect is None and open.call in ("raise", "sigprocmask"):
             open.effect = step
+            lwp.blocked = sorted(step.asked.get("set", lwp.blocked))
         elif act == "block":
-            mask = _Episode(number, "sigprocmask", at)
-            mask.effect = step
-            self._found += [(at, _ASKS, number, "asks", mask), (at, _ASKS + 1, number, "told", mask)]
+            self._block(at, number, step, lwp)
+
+    def _block(self, at: int, number: int, step: Step, lwp: _Lwp) -> None:
+        mask = sorted(step.asked["set"])
+        turns = (later.asked for later in self._steps[at + 1 :] if later.asked.get("lwp") == number)
+        ends_handler = bool(lwp.masked) and lwp.masked[-1] == (mask, None)
+        if next(turns, {}).get("code") == 341 and not ends_handler:
+            suspend = _Episode(number, "sigsuspend", at)
+            suspend.effect = step
+            self._found.append((at, _ASKS, number, "asks", suspend))
+            lwp.masked.append((lwp.blocked, suspend))
+        elif lwp.masked and lwp.masked[-1][0] == mask:
+            _, ended = lwp.masked.pop()
+            if ended is not None:
+                self._found.append((at, _ASKS + 1, number, "told", ended))
+        else:
+            lwp.masked.append((lwp.blocked, None))
+        lwp.blocked = mask
 
     def _leave(self, at: int, number: int, step: Step) -> None:
         lwp = self._lwps[number]
@@ -175,8 +194,10 @@ class Converter:
         if open.call in ("fork", "vfork"):
             open.made = self._last["pid"] + 1
             self._new(open.made, self._last["lwp"] + 1, open)
+            self._lwps[self._last["lwp"]].blocked = lwp.blocked
         elif open.call == "pthread_create":
             self._new(lwp.pid, self._last["lwp"] + 1, None)
+            self._lwps[self._last["lwp"]].blocked = lwp.blocked
             self._last["pid"] = max(other.pid for other in self._lwps.values())
         elif open.call == "execve":
             lwp.is_image = True
@@ -228,6 +249,8 @@ class Converter:
             return f" signal={signal_name(asked['signal'])} action={asked['action']}"
         if open.call == "sigprocmask":
             return f" how=set signals={','.join(map(signal_name, asked['set'])) or '-'}"
+        if open.call == "sigsuspend":
+            return f" signals={','.join(map(signal_name, asked['set'])) or '-'}"
         if open.call == "raise":
             return f" signal={signal_name(asked['signal'])}"
         return self._request(asked)
@@ -245,6 +268,8 @@ class Converter:
     def _told(self, open: _Episode) -> str:
         if open.call == "fork":
             return str(self.host(open.made))
+        if open.call == "sigsuspend":
+            return "-1 errno=EINTR"
         if open.effect is None:
             return "0"
         reply = open.effect.reply

@@ -24,6 +24,8 @@ Numbers = tuple[Mapping[int, int], Mapping[Caller, int]]
 def matches(state: State, open: Open, line: Line) -> Optional[Numbers]:
     """The host's numbers if the answers are the same, with those that the answer shows first; None if they aren't."""
     reply, name = open.reply, line.name
+    if open.call.line.name == "sigsuspend":
+        return (state.pids, state.lwps) if line.words.get("errno") == "EINTR" else None
     if name == "-1" or isinstance(reply, Refused):
         is_same = isinstance(reply, Refused) and line.words.get("errno") == reply.name and name == "-1"
         return (state.pids, state.lwps) if is_same else None

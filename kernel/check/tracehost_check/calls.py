@@ -11,7 +11,7 @@ from .log import Line, LogFault
 
 SIGNALS = {signal.name: signal for signal in Signal}
 _ACTIONS = {"default": Action.SIG_DFL, "ignore": Action.SIG_IGN, "catch": Action.CATCH}
-_CODES = {"ptrace": 26, "wait4": 7, "waitid": 7, "wait6": 7, "kill": 37, "raise": 433, "sigaction": 416, "sigprocmask": 340}
+_CODES = {"ptrace": 26, "wait4": 7, "waitid": 7, "wait6": 7, "kill": 37, "raise": 433, "sigaction": 416, "sigprocmask": 340, "sigsuspend": 341}
 """FreeBSD's numbers of the calls that are reported under PT_SYSCALL as `other`."""
 _RESUMING = (
     Request.PT_CONTINUE,
@@ -255,6 +255,10 @@ def call_of(line: Line, is_reported: bool) -> Asked:
     if is_reported and line.name in _CODES:
         entry: list[Part] = [Turn(Enter(Call.OTHER, _CODES[line.name]))]
         exit: list[Part] = [Turn(Leave())]
-        is_turn = line.name in ("raise", "sigprocmask")
-        parts = entry + exit + parts if is_turn else entry + parts + exit
+        if line.name == "sigsuspend":
+            parts = parts[:1] + entry + exit + parts[1:]
+        elif line.name in ("raise", "sigprocmask"):  # a turn in user mode
+            parts = entry + exit + parts
+        else:
+            parts = entry + parts + exit
     return Asked(line, (*parts, Settled()))

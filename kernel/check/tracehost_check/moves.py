@@ -95,7 +95,11 @@ class Moves:
             if open.part + 1 < len(open.call.parts) and is_settled(state, lwp):
                 self._machine.load(self._session(state))
                 yield state.changed(open=state.with_innermost(caller, open._replace(part=open.part + 1)))
-        elif not isinstance(part, Handler):
+        elif isinstance(part, Handler):
+            if state.rows.processes[state.rows.lwps[lwp].pid].tracer:  # it may have passed a signal on
+                self._machine.load(self._session(state))
+                yield state.changed(open=state.with_innermost(caller, open._replace(part=open.part + 1)))
+        else:
             for reply in self.replies(state, open):
                 yield state.changed(open=state.with_innermost(caller, open._replace(part=open.part + 1, reply=reply)))
             if isinstance(part, Wait):
@@ -317,8 +321,8 @@ class Moves:
 def is_made(act: Act, reply: Any) -> bool:
     """Whether a turn with this reply has made its act."""
     if isinstance(reply, Stopped):
-        flag = StopFlag.PL_FLAG_SCE if isinstance(act, Enter) else StopFlag.PL_FLAG_SCX
-        return isinstance(act, (Enter, Leave)) and bool(reply.flags & flag)
+        flags = StopFlag.PL_FLAG_SCE if isinstance(act, Enter) else StopFlag.PL_FLAG_SCX | StopFlag.PL_FLAG_EXITED
+        return isinstance(act, (Enter, Leave)) and bool(reply.flags & flags)
     if isinstance(reply, Ended):
         return isinstance(act, Leave) or act == Raise(9)
     return not isinstance(reply, Caught)
