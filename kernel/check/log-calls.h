@@ -24,12 +24,14 @@
 #else
 #define CALLS_OF_SYSTEM(CALL) CALL(execvpe)
 #endif
-#define CALLS(CALL)                                                                                                       \
-    CALL(ptrace)                                                                                                          \
-    CALL(wait4) CALL(waitid) CALL(kill) CALL(raise) CALL(abort) CALL(sigaction) CALL(signal) CALL(sigprocmask)            \
-        CALL(pthread_sigmask) CALL(sigsuspend) CALL(sigwait) CALL(sigtimedwait) CALL(pthread_kill) CALL(fork) CALL(vfork) \
-            CALL(pthread_create) CALL(pthread_exit) CALL(execve) CALL(execvp) CALL(fexecve) CALL(exit) CALL(_exit)        \
-                CALL(quick_exit) CALLS_OF_SYSTEM(CALL)
+#define CALLS(CALL)                                                                                                             \
+    CALL(ptrace)                                                                                                                \
+    CALL(wait4)                                                                                                                 \
+    CALL(waitid)                                                                                                                \
+    CALL(kill)                                                                                                                  \
+    CALL(raise) CALL(abort) CALL(sigaction) CALL(signal) CALL(sigprocmask) CALL(pthread_sigmask) CALL(sigsuspend) CALL(sigwait) \
+        CALL(sigtimedwait) CALL(pthread_kill) CALL(fork) CALL(vfork) CALL(pthread_create) CALL(pthread_exit) CALL(execve)       \
+            CALL(execvp) CALL(fexecve) CALL(exit) CALL(_exit) CALL(quick_exit) CALLS_OF_SYSTEM(CALL)
 
 #define DECLARE(name) static __typeof__(name) *next_##name;
 CALLS(DECLARE)

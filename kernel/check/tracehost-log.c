@@ -409,9 +409,7 @@ pid_t fork(void)
     return (0);
 }
 
-/* What the call returns isn't seen: a function that returns in the child leaves no stack to its parent. The child's first line
- * names this one. */
-pid_t vfork(void)
+static __attribute__((noinline)) void log_vfork(void)
 {
     struct call call;
 
@@ -421,7 +419,14 @@ pid_t vfork(void)
         this.child.pid = 0;
     }
     errno = call.saved;
-    return (next_vfork());
+}
+
+/* What the call returns isn't seen: a function that returns in the child leaves no stack to its parent, so this one has to end in
+ * a jump. The child's first line names the call. */
+pid_t vfork(void)
+{
+    log_vfork();
+    return (((pid_t(*)(void))next_vfork)());
 }
 
 int pthread_create(pthread_t *thread, const pthread_attr_t *attributes, void *(*start)(void *), void *argument)
