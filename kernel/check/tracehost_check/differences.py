@@ -76,7 +76,6 @@ class Differences:
             for difference in self._listed:
                 patterns = ((difference.step, step), (difference.model, model), (difference.kernel, kernel))
                 if all(fnmatchcase(text, pattern) for pattern, text in patterns) and _holds(difference, state, open):
-                    self.met[difference.name] += 1
                     yield difference
                     return
 
