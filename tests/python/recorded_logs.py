@@ -233,7 +233,7 @@ class Converter:
             return f" {origin.call}={self.host(self._lwps[lwp].pid)}/{self.host(lwp)}.{call}"
         if any(lwp.pid == self._lwps[number].pid for other, lwp in self._lwps.items() if other < number):
             return " thread"
-        return f" log=1 system=model parent=1 blocked=- ignored=- kill_on_debugger_exit={int(kills)} program=model"
+        return f" log=1 system=tracehost-run parent=1 blocked=- ignored=- kill_on_debugger_exit={int(kills)} program=model"
 
     def _asked(self, open: _Episode) -> str:
         if open.call in _CALLS.values():

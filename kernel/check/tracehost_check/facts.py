@@ -63,6 +63,10 @@ class Facts:
         """Raises LogFault."""
         first = read[0][0]
         self.system = first.word("system")
+        self.passes_over = self.system in ("FreeBSD", "tracehost-run")
+        """Whether a traced process doesn't stop for signals that it ignores, or that are discarded by default."""
+        self.is_late = self.system != "tracehost-run" and self.system != "model"
+        """Whether an attach, and a SIGKILL, may take effect after the call: on kernels."""
         self.kills = first.words.get("kill_on_debugger_exit", "0" if self.system == "Linux" else "1") == "1"
         self.last: dict[int, Line] = {}
         """The last line of each process."""
@@ -137,7 +141,9 @@ class Facts:
 
     def may_exit(self, pid: int, place: int) -> bool:
         """Whether it may exit by a call that the log doesn't have."""
-        return pid not in self.last or self.last[pid].place < place
+        if pid not in self.last:
+            return True
+        return self.last[pid].place < place and self.last[pid].name != "exit"
 
 
 def unfinished(facts: Facts, pids: Iterable[int]) -> list[int]:

@@ -52,7 +52,7 @@ class Moves:
             yield from self._late(state, late)
         for lwp in state.rows.lwps:
             yield from self._meet(state, lwp)
-        if self._facts.system != "Linux":
+        if self._facts.passes_over:
             yield from self._passed_over(state)
         if is_wide:
             yield from self._unlogged(state, place)
