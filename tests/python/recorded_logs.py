@@ -13,7 +13,14 @@ from typing import Any, NamedTuple, Optional
 from tracehost import Signal
 
 _CODES = {26: "ptrace", 7: "wait4", 37: "kill", 416: "sigaction", 340: "sigprocmask", 433: "raise"}
-_CALLS = {"fork": "fork", "vfork": "vfork", "exec": "execve", "thr_new": "pthread_create", "thr_exit": "pthread_exit", "exit": "exit"}
+_CALLS = {
+    "fork": "fork",
+    "vfork": "vfork",
+    "exec": "execve",
+    "thr_new": "pthread_create",
+    "thr_exit": "pthread_exit",
+    "exit": "exit",
+}
 _UNTOLD = ("vfork", "execve", "exit", "pthread_exit")
 _TOLD, _BEGINS, _ASKS = range(3)
 
@@ -170,9 +177,10 @@ class Converter:
 
     def _block(self, at: int, number: int, step: Step, lwp: _Lwp) -> None:
         mask = sorted(step.asked["set"])
-        turns = (later.asked for later in self._steps[at + 1 :] if later.asked.get("lwp") == number)
+        turns = (other.asked for other in self._steps[at + 1 :] if other.asked.get("lwp") == number)
         ends_handler = bool(lwp.masked) and lwp.masked[-1] == (mask, None)
-        if next(turns, {}).get("code") == 341 and not ends_handler:
+        later = next(turns, None)
+        if later is not None and later.get("code") == 341 and not ends_handler:
             suspend = _Episode(number, "sigsuspend", at)
             suspend.effect = step
             self._found.append((at, _ASKS, number, "asks", suspend))

@@ -6,12 +6,12 @@ import re
 from collections.abc import Mapping
 from typing import Any, Optional
 
-from tracehost import Caught, EventMask, Held, LwpInfo, Signal, StopFlag, Waited
+from tracehost import Caught, EventMask, LwpInfo, Signal, StopFlag, Waited
 from tracehost.refusals import Asked as Question
 from tracehost.refusals import Rows, explanation
 from tracehost.replies import NOTHING
 
-from .calls import Asked, Kill, Ptrace, SetAction, Settled, Turn, Wait
+from .calls import Kill, Ptrace, SetAction, Settled, Turn, Wait
 from .facts import Status, told_status
 from .log import Caller, Line
 from .machine import RUNS, USER, USER_MODE, Machine
@@ -215,6 +215,3 @@ def _not_made(moves: Moves, state: State, open: Open) -> str:
     if isinstance(part, (Settled, Turn)) or part is None:
         return _cannot_write(state, open.call.line.caller)
     return f"{open.call} isn't made: {_cannot_write(state, open.call.line.caller)}"
-
-
-__all__ = ["Asked", "Held", "answer_of", "describe", "matches"]

@@ -11,7 +11,17 @@ from .log import Line, LogFault
 
 SIGNALS = {signal.name: signal for signal in Signal}
 _ACTIONS = {"default": Action.SIG_DFL, "ignore": Action.SIG_IGN, "catch": Action.CATCH}
-_CODES = {"ptrace": 26, "wait4": 7, "waitid": 7, "wait6": 7, "kill": 37, "raise": 433, "sigaction": 416, "sigprocmask": 340, "sigsuspend": 341}
+_CODES = {
+    "ptrace": 26,
+    "wait4": 7,
+    "waitid": 7,
+    "wait6": 7,
+    "kill": 37,
+    "raise": 433,
+    "sigaction": 416,
+    "sigprocmask": 340,
+    "sigsuspend": 341,
+}
 """FreeBSD's numbers of the calls that are reported under PT_SYSCALL as `other`."""
 _RESUMING = (
     Request.PT_CONTINUE,

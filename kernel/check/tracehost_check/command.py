@@ -24,7 +24,9 @@ wrong, and 3 if the search gave up, a listed difference ended it, or something f
 def _parser() -> argparse.ArgumentParser:
     parser = argparse.ArgumentParser(prog="tracehost-check", description=_DESCRIPTION, epilog=_EPILOG)
     parser.add_argument("--differences", metavar="FILE", type=Path, help="a table of known differences of the kernel's")
-    parser.add_argument("--states", metavar="N", type=_count, default=_STATES, help="give up beyond so many states at a line (%(default)s)")
+    parser.add_argument(
+        "--states", metavar="N", type=_count, default=_STATES, help="give up beyond so many states at a line (%(default)s)"
+    )
     parser.add_argument("log", metavar="LOG", type=Path)
     return parser
 

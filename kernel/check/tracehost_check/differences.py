@@ -15,7 +15,7 @@ from tracehost.replies import NOTHING
 from .calls import Kill, Ptrace, SetAction, Turn, Wait
 from .facts import told_status
 from .log import Line
-from .machine import Process
+from .machine import USER, WAITS_FOR_VFORK, Process
 from .moves import Moves, Refused
 from .states import Open, State
 
@@ -131,7 +131,8 @@ def told_reply(state: State, line: Line) -> str:
 def _holds(difference: Difference, state: State, open: Open) -> bool:
     caller = state.rows.processes.get(state.pid(open.call.line.caller.pid))
     target = _target(state, open)
-    return all(_word_holds(word, {"caller": caller, "target": target}) for word in difference.condition.split())
+    rows, data = {"caller": caller, "target": target}, getattr(open.call.decisive, "data", 0)
+    return all(_word_holds(word, rows, state, data) for word in difference.condition.split())
 
 
 def _target(state: State, open: Open) -> Optional[Process]:
@@ -142,27 +143,48 @@ def _target(state: State, open: Open) -> Optional[Process]:
     return state.rows.processes.get(number)
 
 
-def _word_holds(word: str, rows: dict[str, Optional[Process]]) -> bool:
-    name, _, wanted = word.replace("!=", "=").partition("=")
-    who, _, field = name.partition(".")
-    row = rows.get(who)
-    if row is None:
+def _word_holds(word: str, rows: dict[str, Optional[Process]], state: State, data: int) -> bool:
+    """Whether a word `WHO.FIELD=VALUE` or `!=` holds. Words about what a log doesn't show don't."""
+    name, equals, wanted = word.partition("=")
+    is_other = name.endswith("!")
+    value = _value(name.removesuffix("!"), rows, state, data)
+    if not equals or value is None:
         return False
-    other = rows.get(wanted)
-    value = str(other.pid) if other is not None else wanted
-    is_same = _field(row, field) == value
-    return is_same != ("!=" in word)
+    other = _value(wanted, rows, state, data)
+    return fnmatchcase(value, wanted if other is None else other) != is_other
 
 
-_FIELDS: dict[str, Callable[[Process], str]] = {
-    "": lambda row: str(row.pid),
-    "state": lambda row: _STATES[row.state],
-    "told": lambda row: "yes" if row.told else "no",
-    "parent": lambda row: str(row.parent),
-    "tracer": lambda row: str(row.tracer),
-    "stop": lambda row: str(row.signal),
+def _value(name: str, rows: dict[str, Optional[Process]], state: State, data: int) -> Optional[str]:
+    """The value of `WHO`, `WHO.FIELD` or `data`; None if that is none."""
+    who, _, field = name.partition(".")
+    if name == "data":
+        return str(data)
+    if who not in rows:
+        return None
+    row = rows[who]
+    if row is None:
+        return "none" if field == "state" else None
+    return _FIELDS[field](row, state) if field in _FIELDS else None
+
+
+def _signals(bits: int) -> str:
+    return ",".join(str(number) for number in range(1, 32) if bits >> (number - 1) & 1) or "-"
+
+
+def _waits(row: Process, state: State) -> str:
+    lwps = [state.rows.lwps[lwp] for lwp in state.rows.lwps_of(row.pid)]
+    return "yes" if lwps and all(lwp.mode == WAITS_FOR_VFORK for lwp in lwps) else "no"
+
+
+_FIELDS: dict[str, Callable[[Process, State], str]] = {
+    "": lambda row, state: str(row.pid),
+    "user": lambda row, state: str(USER),
+    "state": lambda row, state: _STATES[row.state],
+    "told": lambda row, state: "yes" if row.told else "no",
+    "parent": lambda row, state: str(row.parent),
+    "tracer": lambda row, state: str(row.tracer),
+    "stop": lambda row, state: str(row.signal),
+    "lwps": lambda row, state: str(len(state.rows.lwps_of(row.pid))),
+    "pending": lambda row, state: _signals(row.pending),
+    "waits": _waits,
 }
-
-
-def _field(row: Process, field: str) -> Optional[str]:
-    return _FIELDS[field](row) if field in _FIELDS else None

@@ -61,9 +61,7 @@ class Rows(NamedTuple):
     def runs(self, lwp: int) -> bool:
         """Whether the LWP can have a turn."""
         row = self.lwps.get(lwp)
-        return (
-            row is not None and not row.suspended and row.mode != WAITS_FOR_VFORK and self.processes[row.pid].state == RUNS
-        )
+        return row is not None and not row.suspended and row.mode != WAITS_FOR_VFORK and self.processes[row.pid].state == RUNS
 
     def meets(self, lwp: int, of_process: bool = True) -> bool:
         """Whether a turn in user mode begins with a signal, or a stop that is due."""

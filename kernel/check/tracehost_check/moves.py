@@ -3,9 +3,9 @@
 from __future__ import annotations
 
 from collections.abc import Callable, Iterator
-from typing import Any, NamedTuple, Optional
+from typing import Any, NamedTuple, Optional, Union
 
-from tracehost import Act, Action, Block, Call, Caught, Compute, Ended, Enter, Held, Leave, Raise, Request, Stopped, StopFlag
+from tracehost import Act, Action, Call, Caught, Compute, Ended, Enter, Held, Leave, Raise, Request, Stopped, StopFlag
 from tracehost import Waited, WaitOption
 from tracehost.replies import NOTHING, Answered
 from tracehost.typed import TypedCalls
@@ -31,10 +31,6 @@ class Made(NamedTuple):
     """A call has made this process or LWP."""
 
     number: int
-
-
-Move = tuple[State, bool]
-"""Another state whose session the machine has loaded, and whether its model differs."""
 
 
 class Moves:
@@ -140,7 +136,7 @@ class Moves:
         new = after.lwps.keys() - state.rows.lwps.keys() if is_lwp else after.processes.keys() - state.rows.processes.keys()
         return Made(max(new))
 
-    def _mask(self, state: State, caller: Caller, open: Open, part: Mask | Back) -> Iterator[State]:
+    def _mask(self, state: State, caller: Caller, open: Open, part: Union[Mask, Back]) -> Iterator[State]:
         lwp = state.lwps[caller]
         before = state.rows.lwps[lwp].blocked
         if isinstance(part, Back):
@@ -174,16 +170,23 @@ class Moves:
         """What the model may answer a step of a process; after each one the machine is in the state that it leads to."""
         part, pid = open.next, state.pid(open.call.line.caller.pid)
         try:
-            if isinstance(part, Ptrace):
-                yield self.ask(state, lambda calls: calls.ptrace(USER, pid, part.request, self.target(state, part), part.data))
-            elif isinstance(part, Kill):
-                yield self.ask(state, lambda calls: calls.kill(USER, pid, state.pid(part.which), part.signal))
-            elif isinstance(part, SetAction):
-                yield self.ask(state, lambda calls: calls.sigaction(USER, pid, part.signal, part.action))
+            if isinstance(part, (Ptrace, Kill, SetAction)):
+                yield self.ask(state, self._step(state, pid, part))
             elif isinstance(part, Wait):
                 yield from self._waits(state, pid, part)
         except Held:
             return
+
+    def _step(self, state: State, pid: int, part: Union[Ptrace, Kill, SetAction]) -> Callable[[TypedCalls], Any]:
+        if isinstance(part, Ptrace):
+            request, target, data = part.request, self.target(state, part), part.data
+            return lambda calls: calls.ptrace(USER, pid, request, target, data)
+        signal = part.signal
+        if isinstance(part, Kill):
+            which = state.pid(part.which)
+            return lambda calls: calls.kill(USER, pid, which, signal)
+        action = part.action
+        return lambda calls: calls.sigaction(USER, pid, signal, action)
 
     def _waits(self, state: State, pid: int, part: Wait) -> Iterator[Any]:
         """A wait for any child may report each child that has news."""
@@ -233,9 +236,7 @@ class Moves:
         open = state.innermost(caller) if caller is not None else None
         if caller is not None and open is not None and isinstance(reply, Caught):
             is_due = isinstance(open.next, Handler)
-            yield state.changed(
-                open=state.with_innermost(caller, open._replace(part=open.part + is_due, caught=True)), turns=1
-            )
+            yield state.changed(open=state.with_innermost(caller, open._replace(part=open.part + is_due, caught=True)), turns=1)
         else:
             yield state.changed(turns=1)
 
@@ -341,4 +342,3 @@ def late_set(state: State, open: Open) -> Optional[frozenset[Open]]:
     return state.late | {open} if len(state.late) < _MOST_LATE else None
 
 
-__all__ = ["Block", "Made", "Moves", "Refused", "is_made", "is_settled", "late_set"]

@@ -2,7 +2,7 @@
 
 from __future__ import annotations
 
-from collections.abc import Iterable, Mapping
+from collections.abc import Mapping
 from typing import Any, NamedTuple, Optional
 
 from tracehost.library import Session
@@ -114,7 +114,25 @@ def _without_empty(open: Mapping[Caller, tuple[Open, ...]]) -> dict[Caller, tupl
     return {caller: calls for caller, calls in open.items() if calls}
 
 
-def ended(state: State, hosts: Iterable[int]) -> dict[int, int]:
-    """The numbers without those of processes that are gone."""
-    gone = {host for host in hosts if state.pids.get(host) not in state.rows.processes}
-    return {host: pid for host, pid in state.pids.items() if host not in gone}
+_SLACK = 16
+
+
+def forget_ended(state: State) -> None:
+    """Leaves out what is known of processes and LWPs that are gone, once it is much."""
+    rows = state.rows
+    if max(len(state.pids), len(state.lwps), len(state.open)) <= 2 * len(rows.lwps) + _SLACK:
+        return
+    state.pids = {host: pid for host, pid in state.pids.items() if pid in rows.processes}
+    state.lwps = {caller: lwp for caller, lwp in state.lwps.items() if lwp in rows.lwps}
+    state.open = {caller: calls for caller, calls in state.open.items() if caller in state.lwps}
+
+
+def ended(state: State, host: int) -> tuple[dict[int, int], dict[Caller, int], dict[Caller, tuple[Open, ...]]]:
+    """The numbers and the open calls without those of a process, if it is gone."""
+    if state.pids.get(host) in state.rows.processes:
+        return dict(state.pids), dict(state.lwps), dict(state.open)
+    return (
+        {other: pid for other, pid in state.pids.items() if other != host},
+        {caller: lwp for caller, lwp in state.lwps.items() if caller.pid != host},
+        {caller: calls for caller, calls in state.open.items() if caller.pid != host},
+    )
