@@ -6,7 +6,7 @@ from collections.abc import Callable, Iterator
 from typing import Any, NamedTuple, Optional, Union
 
 from tracehost import Act, Action, Call, Caught, Compute, Ended, Enter, Held, Leave, Raise, Request, Stopped, StopFlag
-from tracehost import Waited, WaitOption
+from tracehost import Signal, Waited, WaitOption
 from tracehost.replies import NOTHING, Answered
 from tracehost.typed import TypedCalls
 
@@ -163,7 +163,7 @@ class Moves:
                 self.ask_more(lambda calls: calls.sigaction(USER, row.pid, signal, old))
             except Held:
                 continue
-            if reply == Caught(signal):
+            if reply == Caught(Signal(signal)):
                 yield state.changed(open=state.with_innermost(caller, open._replace(part=open.part + 1, reply=reply)))
 
     def replies(self, state: State, open: Open) -> Iterator[Any]:
@@ -340,5 +340,3 @@ def is_settled(state: State, lwp: int) -> bool:
 def late_set(state: State, open: Open) -> Optional[frozenset[Open]]:
     """The late steps with this one; None if there are too many."""
     return state.late | {open} if len(state.late) < _MOST_LATE else None
-
-
