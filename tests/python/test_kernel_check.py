@@ -110,7 +110,8 @@ def recorded(posix: Posix, folder: Path, source: str, *words: str, flags: Sequen
 @needs("cc")
 @pytest.mark.parametrize("race", RACES)
 def test_logs_of_races(posix: Posix, checker: Checker, tmp_path: Path, race: str) -> None:
-    for flags in ([], ["-DRIGHT"]):
+    ways: list[list[str]] = [[], ["-DRIGHT"]]
+    for flags in ways:
         for seed in range(3 * SCALE):
             lines = recorded(posix, tmp_path, f"races/{race}.c", flags=flags, seed=seed)
             assert len(lines) > 10

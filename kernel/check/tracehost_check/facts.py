@@ -135,7 +135,7 @@ class Facts:
     def is_unlogged(self, pid: int, place: int) -> bool:
         """Whether the program that it runs by then has no lines."""
         if pid not in self.last:
-            return True
+            return pid not in self.forked
         last = self.last[pid]
         return last.place < place and last.kind == "asks" and last.name == "execve"
 
