@@ -254,10 +254,15 @@ _PARTS: dict[str, Callable[[Line], list[Part]]] = {
 }
 
 
-def call_of(line: Line, is_reported: bool) -> Asked:
-    """The call of a line `asks`. If it `is_reported`, a debugger may see its entry and its exit. Raises LogFault."""
+def call_of(line: Line, is_reported: bool, is_linux: bool) -> Asked:
+    """The call of a line `asks`. If it `is_reported`, a debugger may see its entry and its exit. Raises LogFault.
+
+    On Linux an exec lets its vfork's parent go on before it stops, so a vfork is a fork there. That the parent waits is looked
+    for in its lines.
+    """
+    name = "fork" if is_linux and line.name == "vfork" else line.name
     try:
-        parts = _PARTS[line.name](line) if line.name in _PARTS else None
+        parts = _PARTS[name](line) if name in _PARTS else None
     except Unknown:
         parts = None
     if parts is None:

@@ -77,6 +77,7 @@ class Facts:
         """Processes that a call which the log has has made."""
         self.outside: set[int] = set()
         """Processes that are traced in a way that the model doesn't have."""
+        self._leaves: dict[int, list[int]] = defaultdict(list)
         self.has_call_stops = False
         self._traced: set[int] = set()
         attached: set[int] = set()
@@ -100,6 +101,8 @@ class Facts:
             number = int(parent.partition("/")[0]) if parent.partition("/")[0].isdigit() else 0
             if number in self._traced:
                 self._traced.add(pid)
+        elif line.kind == "asks" and line.name in ("execve", "exit"):
+            self._leaves[pid].append(line.place)
         elif line.kind == "asks" and line.name == "ptrace":
             name = line.word("request")
             if name == Request.PT_TRACE_ME.name:
@@ -127,6 +130,12 @@ class Facts:
         found = self.statuses.get(pid, [])
         at = bisect_left(found, place, key=lambda status: status.place)
         return found[at] if at < len(found) else None
+
+    def leaves_program(self, pid: int, after: int, before: int) -> bool:
+        """Whether the process asks for an exec, or an exit, between two lines."""
+        found = self._leaves.get(pid, [])
+        at = bisect_left(found, after)
+        return at < len(found) and found[at] < before
 
     def is_reported(self, pid: int) -> bool:
         """Whether a debugger may see the entries and exits of its calls."""

@@ -13,12 +13,11 @@ from tracehost.typed import TypedCalls
 from .calls import Back, Handler, Kill, Mask, Ptrace, SetAction, Settled, Take, Turn, Wait, signals_of
 from .facts import UNSENT, Facts, Status
 from .log import Caller
-from .machine import IN_CALL, JOB_STOP, OTHER_CALL, RUNS, TRACE_STOP, USER, USER_MODE, ZOMBIE, Machine
+from .machine import IN_CALL, OTHER_CALL, RUNS, TRACE_STOP, USER, USER_MODE, Machine
 from .states import NO_LWP, NO_PROCESS, Open, State
 
 _CALL_EVENTS = 0x6  # PTRACE_SCE and PTRACE_SCX
 _DISCARDED = frozenset((16, 19, 20, 23, 28, 29))
-_EXEC = 0x4  # PL_FLAG_EXEC
 _MOST_LATE = 8
 
 
@@ -206,16 +205,6 @@ class Moves:
             reply = self.ask(state, lambda calls: calls.wait4(USER, pid, numbers[0] if numbers else -1, options))
             if reply == NOTHING or not numbers:
                 yield reply
-        if has_news and part.options & WaitOption.WNOHANG and self._facts.is_late and self._only_exec_stops(state, numbers):
-            self._machine.load(self._session(state))
-            yield NOTHING
-
-    def _only_exec_stops(self, state: State, numbers: list[int]) -> bool:
-        """Whether all news are stops of execs: on kernels an exec lets its vfork's parent go on before it stops."""
-        rows = [state.rows.processes[number] for number in numbers if number in state.rows.processes]
-        stops = [row for row in rows if row.state == TRACE_STOP and not row.told]
-        are_execs = all(state.rows.lwps[row.lwp].flags & _EXEC for row in stops)
-        return are_execs and not any(row.state == ZOMBIE or row.continued or row.state == JOB_STOP for row in rows)
 
     def _interrupted(self, state: State, caller: Caller, open: Open) -> Iterator[State]:
         """A wait that a signal interrupts is left, and entered again if no handler ends it."""
