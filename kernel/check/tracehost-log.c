@@ -1,8 +1,8 @@
 /*
  * A log of what programs ask the kernel about processes, and of what it tells them, for tracehost-check. FreeBSD and Linux.
  *
- *     cc -O2 -fPIC -shared -pthread -o libtracehost-log.so tracehost-log.c    (Linux with an old C library: -ldl)
- *     TRACEHOST_LOG=/tmp/log LD_PRELOAD=$PWD/libtracehost-log.so debugger ..
+ *     make    (Linux with an old C library: make LIBS=-ldl)
+ *     TRACEHOST_LOG=/tmp/log LD_PRELOAD=$PWD/build/libtracehost-log.so debugger ..
  *
  * All programs that inherit both variables append to one file. A line has words with a space between them:
  *
@@ -31,8 +31,10 @@
 #include "log-requests.h"
 #include <sys/resource.h>
 #include <sys/time.h>
+#include <errno.h>
 #include <stdarg.h>
 #include <stdint.h>
+#include <string.h>
 #ifndef __OPTIMIZE__
 #error "compile with -O2: the wrapper of vfork has to end in a jump"
 #endif
@@ -198,189 +200,6 @@ pid_t wait6(idtype_t kind, id_t id, int *status, int options, struct __wrusage *
     return (pid);
 }
 #endif
-
-/* ---- signals */
-
-int kill(pid_t pid, int sig)
-{
-    struct call call;
-    int result;
-
-    if (ask(&call, "kill")) {
-        number_word(&call.line, "pid", pid);
-        signal_word(&call.line, "signal", sig);
-    }
-    asked(&call);
-    result = next_kill(pid, sig);
-    tell_result(&call, result);
-    return (result);
-}
-
-static void ask_signal(struct call *call, const char *name, int sig)
-{
-    if (ask(call, name))
-        signal_word(&call->line, "signal", sig);
-    asked(call);
-}
-
-int raise(int sig)
-{
-    struct call call;
-    int result;
-
-    ask_signal(&call, "raise", sig);
-    result = next_raise(sig);
-    tell_result(&call, result);
-    return (result);
-}
-
-int pthread_kill(pthread_t thread, int sig)
-{
-    struct call call;
-    int error;
-
-    ask_signal(&call, pthread_equal(thread, pthread_self()) ? "raise" : "pthread_kill", sig);
-    error = next_pthread_kill(thread, sig);
-    tell_error(&call, error);
-    return (error);
-}
-
-void abort(void)
-{
-    struct call call;
-
-    ask(&call, "abort");
-    asked(&call);
-    next_abort();
-    __builtin_unreachable();
-}
-
-static const char *action_of(void (*handler)(int))
-{
-    return (handler == SIG_DFL ? "default" : handler == SIG_IGN ? "ignore" : "catch");
-}
-
-static void ask_action(struct call *call, int sig, const char *action)
-{
-    if (ask(call, "sigaction")) {
-        signal_word(&call->line, "signal", sig);
-        word(&call->line, "action");
-        put(&call->line, action);
-    }
-    asked(call);
-}
-
-int sigaction(int sig, const struct sigaction *act, struct sigaction *old)
-{
-    struct call call;
-    int result;
-
-    ask_action(&call, sig, act == NULL ? "-" : action_of(act->sa_handler));
-    result = next_sigaction(sig, act, old);
-    tell_result(&call, result);
-    return (result);
-}
-
-void (*signal(int sig, void (*handler)(int)))(int)
-{
-    struct call call;
-    void (*old)(int);
-
-    ask_action(&call, sig, action_of(handler));
-    old = next_signal(sig, handler);
-    tell_result(&call, old == SIG_ERR ? -1 : 0);
-    return (old);
-}
-
-static void ask_mask(struct call *call, int how, const sigset_t *set)
-{
-    static const struct name hows[] = {{SIG_BLOCK, "block"}, {SIG_UNBLOCK, "unblock"}, {SIG_SETMASK, "set"}, {0, NULL}};
-
-    if (ask(call, "sigprocmask")) {
-        word(&call->line, "how");
-        if (set == NULL)
-            put(&call->line, "-");
-        else {
-            put_named(&call->line, hows, how);
-            signals_word(&call->line, "signals", set);
-        }
-    }
-    asked(call);
-}
-
-int sigprocmask(int how, const sigset_t *set, sigset_t *old)
-{
-    struct call call;
-    int result;
-
-    ask_mask(&call, how, set);
-    result = next_sigprocmask(how, set, old);
-    tell_result(&call, result);
-    return (result);
-}
-
-int pthread_sigmask(int how, const sigset_t *set, sigset_t *old)
-{
-    struct call call;
-    int error;
-
-    ask_mask(&call, how, set);
-    error = next_pthread_sigmask(how, set, old);
-    tell_error(&call, error);
-    return (error);
-}
-
-static void ask_set(struct call *call, const char *name, const sigset_t *set)
-{
-    if (ask(call, name))
-        signals_word(&call->line, "signals", set);
-    asked(call);
-}
-
-int sigsuspend(const sigset_t *set)
-{
-    struct call call;
-    int result;
-
-    ask_set(&call, "sigsuspend", set);
-    result = next_sigsuspend(set);
-    tell_result(&call, result);
-    return (result);
-}
-
-static void tell_taken(struct call *call, int sig)
-{
-    if (tell(call, sig > 0 ? 0 : -1) && sig > 0)
-        signal_word(&call->line, "signal", sig);
-    told(call);
-}
-
-int sigtimedwait(const sigset_t *set, siginfo_t *info, const struct timespec *limit)
-{
-    struct call call;
-    int sig;
-
-    ask_set(&call, "sigwait", set);
-    sig = next_sigtimedwait(set, info, limit);
-    tell_taken(&call, sig);
-    return (sig);
-}
-
-int sigwaitinfo(const sigset_t *set, siginfo_t *info) { return (sigtimedwait(set, info, NULL)); }
-
-int sigwait(const sigset_t *set, int *sig)
-{
-    struct call call;
-    int error;
-
-    ask_set(&call, "sigwait", set);
-    error = next_sigwait(set, sig);
-    if (error == 0)
-        tell_taken(&call, *sig);
-    else
-        tell_error(&call, error);
-    return (error);
-}
 
 /* ---- processes and threads */
 
@@ -564,11 +383,11 @@ static void log_exit(int code, void *unused)
     ask_exit(&code);
 }
 
-static void log_exit_later(void) { on_exit(log_exit, NULL); }
+void log_exit_later(void) { on_exit(log_exit, NULL); }
 #else
 static int exit_code = -1; /* not known if main has returned it */
 
-static void log_exit_later(void) {}
+void log_exit_later(void) {}
 
 void exit(int code)
 {

@@ -41,12 +41,12 @@ class Checker:
     """tracehost-check with the library that is tested."""
 
     def __init__(self, library: Path, folder: Path) -> None:
-        self._environment = {**os.environ, "TRACEHOST_LIBRARY": str(library / "libtracehost.so")}
+        self.environment = {**os.environ, "TRACEHOST_LIBRARY": str(library / "libtracehost.so")}
         self._file = folder / "log"
 
     def run(self, *words: object, **more: Any) -> subprocess.CompletedProcess[str]:
-        command = [sys.executable, CHECK / "tracehost-check", *map(str, words)]
-        return subprocess.run(command, env=self._environment, capture_output=True, text=True, timeout=600, check=False, **more)
+        command = [sys.executable, str(CHECK / "tracehost-check"), *map(str, words)]
+        return subprocess.run(command, env=self.environment, capture_output=True, text=True, timeout=600, check=False, **more)
 
     def of(self, log: Path, *words: object) -> Verdict:
         done = self.run(*words, log)
@@ -69,17 +69,21 @@ def checker(library: Path, tmp_path: Path) -> Checker:
 def logger(tmp_path_factory: pytest.TempPathFactory) -> Path:
     """libtracehost-log.so, by the system's compiler, without a warning."""
     made = shared_folder(tmp_path_factory) / "libtracehost-log.so"
-    return once(made, lambda: compile_c(CHECK / "tracehost-log.c", made, "-O2", "-std=gnu11", "-fPIC", "-shared"))
+    return once(made, lambda: compile_c(LOGGER, made, *LIBRARY))
 
 
 @pytest.fixture(scope="module")
 def tracer(tmp_path_factory: pytest.TempPathFactory) -> Path:
     made = shared_folder(tmp_path_factory) / "tracer"
-    return once(made, lambda: compile_c(CHECK / "tests/tracer.c", made))
+    return once(made, lambda: compile_c([CHECK / "tests/tracer.c"], made))
 
 
-def compile_c(source: Path, made: Path, *flags: str, compiler: str = "cc") -> None:
-    words = [compiler, "-g", "-Wall", "-Wextra", "-Werror", *flags, "-pthread", "-o", made, source]
+LOGGER = [CHECK / name for name in ("tracehost-log.c", *(f"log-{part}.c" for part in ("calls", "requests", "signals", "words")))]
+LIBRARY = ["-O2", "-std=gnu11", "-fPIC", "-shared"]
+
+
+def compile_c(sources: Sequence[Path], made: Path, *flags: str, compiler: str = "cc") -> None:
+    words = [compiler, "-g", "-Wall", "-Wextra", "-Werror", *flags, "-pthread", "-o", str(made), *map(str, sources)]
     done = subprocess.run(words, capture_output=True, text=True, check=False)
     assert done.returncode == 0, done.stderr
 
@@ -318,14 +322,14 @@ def test_command_line(checker: Checker, tmp_path: Path) -> None:
     log.write_text(ROOT)
     folder.mkdir()
     assert checker.run(log).returncode == 0
-    assert [checker.run(*words).returncode for words in ([], [missing], [folder], ["--states", "0", log])] == [2, 2, 2, 2]
-    assert checker.run("--differences", missing, log).returncode in (2, 3)
+    commands: list[list[object]] = [[], [missing], [folder], ["--states", "0", log], ["--differences", missing, log]]
+    assert [checker.run(*words).returncode for words in commands] == [2, 2, 2, 2, 3]
     (tmp_path / "table").write_text("name\n")
     assert checker.run("--differences", tmp_path / "table", log).returncode == 2
     with open("/dev/full", "w") as full:
-        command = [sys.executable, CHECK / "tracehost-check", log]
-        environment = {**os.environ, "TRACEHOST_LIBRARY": checker._environment["TRACEHOST_LIBRARY"]}
-        assert subprocess.run(command, env=environment, stdout=full, stderr=subprocess.PIPE, check=False).returncode == 3
+        command = [sys.executable, str(CHECK / "tracehost-check"), str(log)]
+        done = subprocess.run(command, env=checker.environment, stdout=full, stderr=subprocess.PIPE, check=False)
+        assert done.returncode == 3 and b"Traceback" not in done.stderr
 
 
 # ---- programs on this host's kernel
@@ -391,10 +395,9 @@ def test_gdb(logger: Path, tracer: Path, checker: Checker, tmp_path: Path) -> No
 
 @needs("cc", "clang")
 def test_compilers(tmp_path: Path) -> None:
-    flags = ["-O2", "-std=gnu11", "-fPIC", "-shared"]
     for compiler in ("cc", "clang"):
-        compile_c(CHECK / "tracehost-log.c", tmp_path / compiler, *flags, compiler=compiler)
-    slow = ["cc", "-O0", "-fPIC", "-shared", "-o", tmp_path / "slow", CHECK / "tracehost-log.c"]
+        compile_c(LOGGER, tmp_path / compiler, *LIBRARY, compiler=compiler)
+    slow = ["cc", "-O0", "-fPIC", "-shared", "-o", str(tmp_path / "slow"), str(CHECK / "tracehost-log.c")]
     assert subprocess.run(slow, capture_output=True, check=False).returncode != 0  # vfork needs a jump
 
 
@@ -436,7 +439,7 @@ int main(void) {
 }
 """
     )
-    compile_c(source, program)
+    compile_c([source], program)
     logged(logger, tmp_path / "log", program)
     lines = (tmp_path / "log").read_text().splitlines()
     assert [line.split(" ", 2)[2] for line in lines[3:]] == [
@@ -464,7 +467,7 @@ int main(void) {
 }
 """
     )
-    compile_c(source, program)
+    compile_c([source], program)
     logged(logger, log, program)
     text = log.read_text()
     for caller in {line.split(" ")[0] for line in text.splitlines()}:

@@ -15,6 +15,8 @@ C_PARTS = [
     "clients/c/examples/*.c",
     "clients/posix/broker/*.[ch]",
     "clients/posix/runtime/*.[ch]",
+    "kernel/check/*.[ch]",
+    "kernel/check/tests/*.c",
 ]
 
 

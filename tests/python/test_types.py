@@ -24,6 +24,10 @@ PARTS: dict[str, tuple[list[str], list[str]]] = {
     "its package": (["clients/python/setup.py"], []),
     "tests of the client in C": (["clients/c/tests/*.py"], ["clients/python"]),
     "C programs on the model": (["clients/posix/*", "clients/posix/**/*.py"], ["clients/posix", "clients/python"]),
+    "the checker of logs": (
+        ["kernel/check/tracehost-check", "kernel/check/tracehost_check/*.py"],
+        ["kernel/check", "clients/python"],
+    ),
     "the tests": (
         ["test", "conftest.py", "tests/python/*.py"],
         [

@@ -3,7 +3,9 @@
 from __future__ import annotations
 
 import argparse
+import os
 import sys
+import traceback
 from collections.abc import Sequence
 from pathlib import Path
 from typing import Optional
@@ -41,13 +43,19 @@ def _count(text: str) -> int:
 def main(words: Optional[Sequence[str]] = None) -> int:
     given = _parser().parse_args(words)
     try:
-        return _check(given.log, given.differences, given.states)
+        status = _check(given.log, given.differences, given.states)
+        sys.stdout.flush()
     except LogFault as fault:
         return _fault(f"{given.log}:{fault.line}: {fault.why}", NO_LOG)
     except BadTable as fault:
         return _fault(str(fault), NO_LOG)
     except (OSError, MemoryError) as error:
+        os.dup2(os.open(os.devnull, os.O_WRONLY), 1)  # what couldn't be written isn't tried again at the end
         return _fault(str(error) or "no memory is left", NOT_JUDGED)
+    except Exception:  # a fault of this program's is no verdict
+        traceback.print_exc()
+        return NOT_JUDGED
+    return status
 
 
 def _fault(text: str, status: int) -> int:
@@ -88,7 +96,6 @@ def _explained(facts: Facts, verdict: Verdict) -> int:
     left = unfinished(facts, facts.last)
     if left:
         print(f"  the log doesn't tell the end of {', '.join(map(str, left))}")
-    sys.stdout.flush()
     return EXPLAINED
 
 
