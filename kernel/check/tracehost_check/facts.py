@@ -73,6 +73,10 @@ class Facts:
         self.last_of: dict[Caller, int] = {}
         self.statuses: dict[int, list[Status]] = defaultdict(list)
         self.begun: set[int] = set()
+        self.unseen: set[int] = set()
+        """Children of forks that the log doesn't have: their parent's wait may not be in it either, as in system(3)."""
+        self._spread: dict[int, int] = {}
+        """Signals that were sent to a group or to another thread, which the model doesn't have, and where first."""
         self.forked: set[int] = set()
         """Processes that a call which the log has has made."""
         self.outside: set[int] = set()
@@ -96,11 +100,15 @@ class Facts:
         pid = line.caller.pid
         self.last[pid], self.last_of[line.caller] = line, line.place
         if line.kind == "begins":
+            if pid not in self.begun and "parent" in line.words:
+                self.unseen.add(pid)
             self.begun.add(pid)
             parent = next((line.words[name] for name in ("fork", "vfork", "parent") if name in line.words), "0")
             number = int(parent.partition("/")[0]) if parent.partition("/")[0].isdigit() else 0
             if number in self._traced:
                 self._traced.add(pid)
+        elif line.kind == "asks" and (line.name == "pthread_kill" or (line.name == "kill" and line.whole("pid") < 1)):
+            self._spread.setdefault(SIGNALS.get(line.word("signal"), 0), line.place)
         elif line.kind == "asks" and line.name in ("execve", "exit"):
             self._leaves[pid].append(line.place)
         elif line.kind == "asks" and line.name == "ptrace":
@@ -140,6 +148,10 @@ class Facts:
     def is_reported(self, pid: int) -> bool:
         """Whether a debugger may see the entries and exits of its calls."""
         return self.has_call_stops and pid in self._traced
+
+    def is_spread(self, signal: int, place: int) -> bool:
+        """Whether any process may have been sent the signal by then."""
+        return self._spread.get(signal, place) < place
 
     def is_unlogged(self, pid: int, place: int) -> bool:
         """Whether the program that it runs by then has no lines."""

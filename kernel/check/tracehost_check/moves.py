@@ -13,7 +13,7 @@ from tracehost.typed import TypedCalls
 from .calls import Back, Handler, Kill, Mask, Ptrace, SetAction, Settled, Take, Turn, Wait, signals_of
 from .facts import UNSENT, Facts, Status
 from .log import Caller
-from .machine import IN_CALL, OTHER_CALL, RUNS, TRACE_STOP, USER, USER_MODE, Machine
+from .machine import IN_CALL, OTHER_CALL, RUNS, TRACE_STOP, USER, USER_MODE, ZOMBIE, Machine, Process
 from .states import NO_LWP, NO_PROCESS, Open, State
 
 _CALL_EVENTS = 0x6  # PTRACE_SCE and PTRACE_SCX
@@ -262,9 +262,10 @@ class Moves:
         hosts = {pid: host for host, pid in state.pids.items()}
         anonymous = [host for host in self._facts.unborn if host not in state.pids]
         for row in state.rows.processes.values():
-            if row.state != RUNS:
-                continue
             host = hosts.get(row.pid)
+            if row.state != RUNS:
+                yield from self._collected(state, row, host, place)
+                continue
             known = [host] if host is not None else anonymous
             for number in known:
                 status = self._facts.next_status(number, place)
@@ -273,6 +274,17 @@ class Moves:
             if anonymous and host is not None and self._facts.is_unlogged(host, place):
                 yield from self._calls(state, row.pid, Enter(Call.FORK))
             yield from self._hidden_calls(state, row.pid)
+
+    def _collected(self, state: State, row: Process, host: Optional[int], place: int) -> Iterator[State]:
+        """A wait that isn't in the log has told the end of a child whose fork isn't there either."""
+        if row.state != ZOMBIE or host not in self._facts.unseen or self._facts.next_status(host, place) is not None:
+            return
+        try:
+            reply = self.ask(state, lambda calls: calls.wait4(USER, row.parent, row.pid, WaitOption(0)))
+        except Held:
+            return
+        if isinstance(reply, Waited) and reply != NOTHING:
+            yield state.changed(turns=1)
 
     def _demanded(self, state: State, pid: int, status: Status, host: int, place: int) -> Iterator[State]:
         """Acts of a process that may lead to the status that a wait tells next."""
@@ -283,11 +295,12 @@ class Moves:
             return
         if status.kind == "continued" or not status.number:
             return
-        if status.number in UNSENT or is_unlogged:
+        is_sent = is_unlogged or self._facts.is_spread(status.number, place)
+        if is_sent or status.number in UNSENT:
             for lwp in state.rows.lwps_of(pid):
                 pending = state.rows.lwps[lwp].pending | state.rows.processes[pid].pending
                 if not pending >> (status.number - 1) & 1 and self.turn(state, lwp, Raise(status.number)) is not None:
-                    yield state.changed(turns=1, unsent=0 if is_unlogged else 1)
+                    yield state.changed(turns=1, unsent=not is_sent)
         if is_unlogged and status.kind == "stopped":
             yield from self._calls(state, pid, Enter(Call.EXEC))
 
