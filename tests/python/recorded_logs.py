@@ -58,6 +58,7 @@ class _Lwp:
         self.has_begun = False
         self.open: Optional[_Episode] = None
         self.is_image = False
+        self.has_caught = False
         self.blocked: list[int] = []
         self.masked: list[tuple[list[int], Optional[_Episode]]] = []
         """What was blocked before each handler and each sigsuspend that goes on, which are blocks without a call."""
@@ -132,6 +133,7 @@ class Converter:
         lwp, act, reply = self._lwps[number], step.asked["act"], step.reply[0]
         if reply in ("held", "error"):
             return
+        lwp.has_caught = lwp.has_caught or reply == "caught"
         is_stop = reply == "stopped"
         if act == "leave" and (not is_stop or "SCX" in step.reply[-1]):
             self._leave(at, number, step)
@@ -180,7 +182,10 @@ class Converter:
         turns = (other.asked for other in self._steps[at + 1 :] if other.asked.get("lwp") == number)
         ends_handler = bool(lwp.masked) and lwp.masked[-1] == (mask, None)
         later = next(turns, None)
-        if later is not None and later.get("code") == 341 and not ends_handler:
+        if lwp.has_caught:
+            lwp.has_caught = False
+            lwp.masked.append((lwp.blocked, None))
+        elif later is not None and later.get("code") == 341 and not ends_handler:
             suspend = _Episode(number, "sigsuspend", at)
             suspend.effect = step
             self._found.append((at, _ASKS, number, "asks", suspend))

@@ -6,6 +6,8 @@ search on the second model, `small_logs.py`: verdict and line have to be the sam
 
 from __future__ import annotations
 
+import contextlib
+import io
 import os
 import random
 import re
@@ -16,7 +18,7 @@ import subprocess
 import sys
 from collections.abc import Callable, Sequence
 from pathlib import Path
-from typing import Any, NamedTuple, Optional
+from typing import NamedTuple, Optional
 
 import pytest
 
@@ -24,6 +26,7 @@ from checking import TOP, needs
 from posix_kit import RACES, SCALE, Posix, once, shared_folder
 from recorded_logs import log_of, read_record, signal_name
 from small_logs import SENT, Event, small_log, unexplained
+from tracehost_check.command import main
 
 CHECK = TOP / "kernel/check"
 TABLE = "name\tstep\tcondition\tmodel\tkernel\tthen\twhy\twhere\n"
@@ -44,16 +47,20 @@ class Checker:
         self.environment = {**os.environ, "TRACEHOST_LIBRARY": str(library / "libtracehost.so")}
         self._file = folder / "log"
 
-    def run(self, *words: object, **more: Any) -> subprocess.CompletedProcess[str]:
+    def run(self, *words: object) -> subprocess.CompletedProcess[str]:
         command = [sys.executable, str(CHECK / "tracehost-check"), *map(str, words)]
-        return subprocess.run(command, env=self.environment, capture_output=True, text=True, timeout=600, check=False, **more)
+        return subprocess.run(command, env=self.environment, capture_output=True, text=True, timeout=600, check=False)
 
     def of(self, log: Path, *words: object) -> Verdict:
-        done = self.run(*words, log)
-        text = done.stdout + done.stderr
+        """As `run`, in this process."""
+        with pytest.MonkeyPatch.context() as patch, io.StringIO() as printed:
+            patch.setenv("TRACEHOST_LIBRARY", self.environment["TRACEHOST_LIBRARY"])
+            with contextlib.redirect_stdout(printed), contextlib.redirect_stderr(printed):
+                status = main([*map(str, words), str(log)])
+            text = printed.getvalue()
         assert "Traceback" not in text, text
         place = re.search(rf"{re.escape(str(log))}:(\d+): ", text)
-        return Verdict(done.returncode, int(place[1]) if place else None, text)
+        return Verdict(status, int(place[1]) if place else None, text)
 
     def of_text(self, text: str | bytes, *words: object) -> Verdict:
         self._file.write_bytes(text if isinstance(text, bytes) else text.encode())

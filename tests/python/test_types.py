@@ -40,6 +40,7 @@ PARTS: dict[str, tuple[list[str], list[str]]] = {
             "bench",
             "viewer",
             "tools",
+            "kernel/check",
         ],
     ),
 }
