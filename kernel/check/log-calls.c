@@ -199,8 +199,10 @@ static struct caller *this_caller(void)
     pid_t pid = getpid();
     struct line line;
 
-    if (this.self.pid == pid)
+    if (this.self.pid == pid) {
+        this.vforked = 0; /* it has returned */
         return (&this.self);
+    }
     if (this.self.pid == 0) {
         begin_caller(&this.self);
         start_line(&line, &this.self, 0, " begins thread");

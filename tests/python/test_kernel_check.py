@@ -266,6 +266,53 @@ def test_a_signal_that_no_call_sends(checker: Checker) -> None:
     assert (verdict.status, verdict.line) == (1, 5)
 
 
+def test_a_kernel_may_be_late(checker: Checker) -> None:
+    """There SIGKILL and an attach take effect after the call; in the model at once."""
+    log = f"""{ROOT}1/1 1 asks fork
+1/1 1 told 20
+20/20 0 begins fork=1/1.1
+1/1 2 asks ptrace request=PT_ATTACH pid=20
+1/1 2 told 0
+20/20 1 asks sigaction signal=SIGUSR1 action=catch
+20/20 1 told 0
+1/1 3 asks wait4 pid=20 options=-
+1/1 3 told 20 status=stopped:SIGSTOP
+1/1 4 asks kill pid=20 signal=SIGKILL
+1/1 4 told 0
+1/1 5 asks wait4 pid=20 options=WNOHANG
+1/1 5 told 0
+1/1 6 asks wait4 pid=20 options=-
+1/1 6 told 20 status=signaled:SIGKILL
+"""
+    for system in ("Linux", "FreeBSD"):
+        assert checker.of_text(log.replace("system=model", f"system={system}")).status == 0
+    verdict = checker.of_text(log)
+    assert (verdict.status, verdict.line) == (1, 7), verdict.text
+    assert "a debugger has stopped 20 by SIGSTOP" in verdict.text
+
+
+def test_a_signal_to_a_group(checker: Checker) -> None:
+    """The model has no groups: the call is left out, but may have sent the signal to any process."""
+    log = f"""{ROOT}1/1 1 asks fork
+1/1 1 told 20
+1/1 2 asks wait4 pid=20 options=-
+1/1 2 told 20 status=signaled:SIGTERM
+"""
+    assert (checker.of_text(log).status, checker.of_text(log).line) == (1, 5)
+    sent = log.replace("1/1 2", "1/1 3").replace("1/1 3 asks", "1/1 2 asks kill pid=-9 signal=SIGTERM\n1/1 2 told 0\n1/1 3 asks")
+    verdict = checker.of_text(sent)
+    assert verdict.status == 0 and verdict.text.startswith("explained, except 1 call "), verdict.text
+
+
+def test_a_vfork_waits(checker: Checker) -> None:
+    """Its parent has no line before the child has asked for an exec or its exit."""
+    begin = ROOT.replace("system=model", "system=Linux")
+    log = f"{begin}1/1 1 asks vfork\n20/20 0 begins vfork=1/1.1\n{{early}}20/20 1 asks execve path=a\n{{late}}"
+    early = checker.of_text(log.format(early="1/1 2 asks kill pid=20 signal=0\n", late=""))
+    late = checker.of_text(log.format(early="", late="1/1 2 asks kill pid=20 signal=0\n1/1 2 told 0\n"))
+    assert (early.status, early.line, late.status) == (1, 4, 0), early.text + late.text
+
+
 def test_too_many_states(checker: Checker) -> None:
     """It gives up, and says where: that is no explanation."""
     asks = "".join(f"{pid}/{pid} 1 asks kill pid=1 signal={name}\n" for pid, name in zip(range(20, 29), ["SIGUSR1", "SIGUSR2"] * 5))
@@ -348,7 +395,7 @@ OTHERS = """fixed\tsigaction *\t\tok\terror EINVAL 22\tfollow\tSIGKILL and SIGST
 
 @needs("cc")
 @pytest.mark.skipif(sys.platform != "linux", reason="a kernel of Linux")
-@pytest.mark.parametrize("what", ["exec", "attach", "jobs", "threads", "vfork", "handlers"])
+@pytest.mark.parametrize("what", ["exec", "attach", "jobs", "threads", "vfork", "handlers", "library"])
 def test_tracer(logger: Path, tracer: Path, checker: Checker, tmp_path: Path, what: str) -> None:
     log, table = tmp_path / "log of a tracer", tmp_path / "table"
     table.write_text(TABLE + NOT_TRACED)

@@ -186,6 +186,15 @@ static void handlers(void)
     }
 }
 
+/* A child that the C library makes and waits for: neither is logged. */
+static void library_calls(void)
+{
+    int status = system("true; exit 3");
+
+    need(WIFEXITED(status) && WEXITSTATUS(status) == 3, "system");
+    need(waitpid(-1, &status, 0) == -1 && errno == ECHILD, "no child");
+}
+
 int main(int argc, char **argv)
 {
     const char *what = argc > 1 ? argv[1] : "";
@@ -202,8 +211,10 @@ int main(int argc, char **argv)
         vforks(argv[0]);
     else if (strcmp(what, "handlers") == 0)
         handlers();
+    else if (strcmp(what, "library") == 0)
+        library_calls();
     else if (strcmp(what, "nothing") != 0) {
-        fprintf(stderr, "usage: tracer exec|attach|jobs|threads|vfork|handlers|nothing\n");
+        fprintf(stderr, "usage: tracer exec|attach|jobs|threads|vfork|handlers|library|nothing\n");
         return (2);
     }
     return (0);
