@@ -17,6 +17,8 @@ C_PARTS = [
     "clients/posix/runtime/*.[ch]",
     "kernel/*.[ch]",
     "kernel/kit/*.c",
+    "kernel/check/*.[ch]",
+    "kernel/check/tests/*.c",
 ]
 
 

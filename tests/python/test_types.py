@@ -25,6 +25,10 @@ PARTS: dict[str, tuple[list[str], list[str]]] = {
     "tests of the client in C": (["clients/c/tests/*.py"], ["clients/python"]),
     "C programs on the model": (["clients/posix/*", "clients/posix/**/*.py"], ["clients/posix", "clients/python"]),
     "sessions for kernels": (["kernel/*.py", "kernel/*", "kernel/sessions/*.py"], [".", "clients/python"]),
+    "the checker of logs": (
+        ["kernel/check/tracehost-check", "kernel/check/tracehost_check/*.py"],
+        ["kernel/check", "clients/python"],
+    ),
     "the tests": (
         ["test", "conftest.py", "tests/python/*.py"],
         [
@@ -37,6 +41,7 @@ PARTS: dict[str, tuple[list[str], list[str]]] = {
             "bench",
             "viewer",
             "tools",
+            "kernel/check",
         ],
     ),
 }
