@@ -19,7 +19,6 @@ BODY(user_call);
 BODY(poke);
 BODY(point);
 BODY(compute);
-BODY(compute);
 BODY(cancel);
 BODY(simple);
 BODY(sched_yield_call);
