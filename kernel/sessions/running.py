@@ -19,6 +19,7 @@ from pathlib import Path
 from subprocess import PIPE, STDOUT, run
 from typing import NamedTuple
 
+from .ending import status_of
 from .faults import found_by
 from .kinds import KINDS
 from .playing import DIFFERS, NOT_DONE, SAME, Played, Player, play
@@ -167,6 +168,10 @@ def _report_faults(options: argparse.Namespace, folder: Path, parts: Sequence[Pa
 
 
 def main(words: list[str] | None = None) -> int:
+    return status_of("run", lambda: _main(words))
+
+
+def _main(words: list[str] | None) -> int:
     options = _arguments().parse_args(words)
     if options.count < 1 or options.jobs < 1:
         print("run: --count and --jobs are 1 or more", file=sys.stderr)

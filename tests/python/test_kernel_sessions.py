@@ -255,6 +255,18 @@ def test_runs_that_cannot_be_made(tmp_path: Path) -> None:
     assert run(SHORTEN, tmp_path / "none.txt", "x").status == NOT_DONE
 
 
+def test_output_that_cannot_be_written(tmp_path: Path) -> None:
+    """A run in which all is the same, on a full disk."""
+    same = tmp_path / "player"
+    same.write_text('#!/bin/sh\nprintf "session\\tverdict\\nx\\tsame\\t1\\t1\\t\\t\\t\\t\\n" > "$4"\n')
+    same.chmod(0o755)
+    words = [sys.executable, RUN, "--player", same, "--count", "1", "--jobs", "1"]
+    assert subprocess.run(words, stdout=subprocess.DEVNULL, check=False).returncode == SAME
+    with open("/dev/full", "w", encoding="utf-8") as full:
+        ran = subprocess.run(words, stdout=full, stderr=subprocess.PIPE, text=True, check=False)
+    assert (ran.returncode, ran.stderr) == (NOT_DONE, "run: [Errno 28] No space left on device\n")
+
+
 # ---- the lists of differences
 
 
