@@ -257,6 +257,31 @@ def test_calls_that_the_model_lacks(checker: Checker) -> None:
     assert verdict.status == 0
 
 
+def test_children_of_such_processes(checker: Checker) -> None:
+    """Who is traced in a way that the model lacks, and each child, is left out; other calls aren't."""
+    log = f"""{ROOT.replace("model", "Linux")}1/1 1 asks fork
+1/1 1 told 20
+1/1 2 asks ptrace request=PTRACE_SEIZE pid=20
+1/1 2 told 0
+20/20 0 begins fork=1/1.1
+20/20 1 asks fork
+20/20 1 told 21
+1/1 3 asks wait4 pid=-1 options=0x40000000
+1/1 3 told 21 status=stopped:SIGTRAP event=stop
+1/1 4 asks ptrace request=PT_SYSCALL pid=21 data=0
+1/1 4 told 0
+20/20 2 asks exit code=0
+1/1 5 asks wait4 pid=-1 options=-
+1/1 5 told 20 status=exited:0
+1/1 6 asks kill pid=1 signal=0
+1/1 6 told {{answer}}
+"""
+    right = checker.of_text(log.format(answer=0))
+    assert right.status == 0 and right.text.startswith("explained, except 4 calls "), right.text
+    wrong = checker.of_text(log.format(answer="-1 errno=ESRCH"))
+    assert (wrong.status, wrong.line) == (1, 17), wrong.text
+
+
 def test_a_signal_that_no_call_sends(checker: Checker) -> None:
     """A trap needs no call; SIGUSR1 does."""
     log = f"{ROOT}1/1 1 asks fork\n1/1 1 told 20\n1/1 2 asks wait4 pid=20 options=-\n1/1 2 told 20 status=signaled:SIGSEGV\n"

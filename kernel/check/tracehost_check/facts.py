@@ -56,6 +56,13 @@ def told_status(line: Line) -> Optional[tuple[int, Status]]:
     return pid, Status(line.place, kind, number)
 
 
+def parent_of(line: Line) -> int:
+    """The parent that a line `begins` tells; 0 for none."""
+    text = next((line.words[name] for name in ("fork", "vfork", "parent") if name in line.words), "0")
+    number = text.partition("/")[0]
+    return int(number) if number.isdigit() else 0
+
+
 class Facts:
     """Of a log that was read."""
 
@@ -89,6 +96,7 @@ class Facts:
             self._take(line)
             if asks is not None:
                 self._answered(line, asks, attached)
+        self._follow(read)
         told = set(self.statuses)
         self.strangers = attached - self.begun - self.forked
         """Processes that were there before, and that a debugger has attached to."""
@@ -103,9 +111,7 @@ class Facts:
             if pid not in self.begun and "parent" in line.words:
                 self.unseen.add(pid)
             self.begun.add(pid)
-            parent = next((line.words[name] for name in ("fork", "vfork", "parent") if name in line.words), "0")
-            number = int(parent.partition("/")[0]) if parent.partition("/")[0].isdigit() else 0
-            if number in self._traced:
+            if parent_of(line) in self._traced:
                 self._traced.add(pid)
         elif line.kind == "asks" and (line.name == "pthread_kill" or (line.name == "kill" and line.whole("pid") < 1)):
             self._spread.setdefault(SIGNALS.get(line.word("signal"), 0), line.place)
@@ -120,11 +126,21 @@ class Facts:
             names = line.words.get("events", "")
             self.has_call_stops |= name in [request.name for request in CALL_STOPS] or "_SC" in names
 
+    def _follow(self, read: Read) -> None:
+        """The children of processes that are traced in such a way are so too."""
+        for line, asks in read:
+            if line.kind == "begins" and parent_of(line) in self.outside:
+                self.outside.add(line.caller.pid)
+            elif asks is not None and asks.name == "fork" and line.caller.pid in self.outside and int(line.name) > 0:
+                self.outside.add(int(line.name))
+
     def _answered(self, line: Line, asks: Line, attached: set[int]) -> None:
         if asks.name in WAITS:
             status = told_status(line)
             if status is not None:
                 self.statuses[status[0]].append(status[1])
+                if line.words.get("event") == "stop":  # of PTRACE_SEIZE
+                    self.outside.add(status[0])
         elif asks.name == "fork" and int(line.name) > 0:
             self.forked.add(int(line.name))
         elif asks.name == "ptrace" and line.name == "0":
