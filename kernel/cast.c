@@ -257,7 +257,7 @@ void cast_spawn(int lwp, long user)
         closefrom(IMAGE_DESCRIPTOR + 1);
         if (system_spawns_image && plays_users())
             _exit(puppet_become_image(lwp) < 0);
-        puppet_live(lwp);
+        puppet_begin(lwp);
     }
     int status = 0;
     if (!system_is_reaper && (waitpid(child, &status, 0) != child || status != 0))
@@ -346,7 +346,11 @@ void cast_settle(void)
 
 void cast_clear(void)
 {
+    enum { ROUNDS = 64 };
     struct wait wait = {0};
+    atomic_fetch_add(&stage->session, 1); /* a child that isn't known yet sees it */
+    for (int i = 0; i < ROUNDS && !system_is_reaper; i++)
+        sched_yield();
     for (;;) {
         system_kill_all();
         pid_t ended = waitpid(-1, NULL, WNOHANG);

@@ -1,6 +1,6 @@
 /* The player's view of FreeBSD: sysctl(3), reapers of procctl(2), threads of thr_new(2). With tracehost-cc also of the model itself,
  * which has its own process 1, one user, and no groups of processes. */
-#ifdef TRACEHOST_POSIX_H
+#if defined TRACEHOST_POSIX_H && !defined FREEBSD_STAND_IN_H /* which a test has in front: FreeBSD's part is compiled, and not run */
 #define ON_MODEL 1
 #else
 #define ON_MODEL 0

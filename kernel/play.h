@@ -74,6 +74,7 @@ struct slot {
 /* All of the shared memory. */
 struct stage {
     atomic_int interrupted; /* the signal that has come to the outer process */
+    atomic_uint session; /* a puppet of an earlier one ends */
     atomic_bool silent; /* LWPs make no calls of their own: calls are reported */
     struct slot slots[MOST_LWPS];
 };
@@ -82,6 +83,7 @@ struct stage {
 /* What puppets inherit, and nothing else. */
 enum { STAGE_DESCRIPTOR = 3, IMAGE_DESCRIPTOR = 4 };
 extern struct stage *stage;
+void puppet_begin(int slot) __attribute__((noreturn)); /* the first LWP of a process */
 void puppet_live(int slot) __attribute__((noreturn));
 void puppet_resume(int slot) __attribute__((noreturn));
 int puppet_become_image(int slot);

@@ -105,10 +105,18 @@ static void do_command(struct slot *self, unsigned number)
     atomic_store(&self->done, number);
 }
 
+static unsigned session;
+
+void puppet_begin(int slot)
+{
+    session = atomic_load(&stage->session);
+    puppet_live(slot);
+}
+
 void puppet_live(int slot)
 {
     newborn(slot);
-    for (;;) {
+    while (atomic_load(&stage->session) == session) {
         struct slot *self = system_self();
         unsigned asked = atomic_load(&self->asked);
         if (asked != atomic_load(&self->begun))
@@ -116,6 +124,7 @@ void puppet_live(int slot)
         system_rest(atomic_load(&stage->silent));
         atomic_fetch_add(&system_self()->beat, 1);
     }
+    _exit(0);
 }
 
 /* A new image of a puppet: its exec is done. */
@@ -127,5 +136,5 @@ void puppet_resume(int slot)
     newborn(slot);
     atomic_store(&self->is_image, true);
     atomic_store(&self->done, atomic_load(&self->begun));
-    puppet_live(slot);
+    puppet_begin(slot);
 }

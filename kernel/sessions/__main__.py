@@ -9,6 +9,7 @@ from collections.abc import Iterator
 from pathlib import Path
 from typing import NamedTuple, Optional, TextIO
 
+from .ending import status_of
 from .goals import LEAST, goals_of, read_unreached, why_unreached
 from .kinds import KINDS
 from .maker import Maker
@@ -67,18 +68,18 @@ def make(options: argparse.Namespace) -> Maker:
     return maker
 
 
-def main(words: Optional[list[str]] = None) -> int:
-    options = _arguments().parse_args(words)
-    try:
-        maker = make(options)
-    except OSError as error:
-        print(f"make-sessions: {error}", file=sys.stderr)
-        return 3
+def _main(options: argparse.Namespace) -> int:
+    maker = make(options)
     print(f"make-sessions: {summary(maker, options.count)}", file=sys.stderr)
     wrong = [reached for reached in coverage(maker) if reached.why and reached.times]
     for goal, times, why in wrong:
         print(f"make-sessions: {goal}: reached {times} times, though it is listed as never: {why}", file=sys.stderr)
     return 1 if wrong or not options.count else 0
+
+
+def main(words: Optional[list[str]] = None) -> int:
+    options = _arguments().parse_args(words)
+    return status_of("make-sessions", lambda: _main(options))
 
 
 if __name__ == "__main__":

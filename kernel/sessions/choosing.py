@@ -214,24 +214,6 @@ class Chooser:
         often = 0.6 if len(lwps) > 1 else 0.1
         return self._chance.choice(lwps)["lwp"] if lwps and self._is(often) else pid
 
-    def _request(self, name: str) -> str:
-        """A request, of each relation between its caller and its target as often as of any other."""
-        pairs = self._pairs()
-        return self._with_data(f"ptrace {{}} {name} {{}}".format(*self._chance.choice(list(pairs.values()))), name)
-
-    def _pairs(self) -> dict[str, tuple[int, int]]:
-        """Of each relation a caller and a target; by the condition that refuses requests, if there is one."""
-        pairs: dict[str, list[tuple[int, int]]] = {
-            "target_process_gone": [(self._caller(), self._no_process())],
-            "target_lwp_gone": [(self._caller(), self._no_lwp())],
-            "target_is_0": [(self._caller(), 0)],
-            "caller_gone": [(self._no_process(), self._pid())],
-        }
-        for caller in self._rows.processes.values():
-            for target in self._rows.processes.values():
-                pairs.setdefault(_relation(caller, target), []).append((caller["pid"], target["pid"]))
-        return {relation: self._chance.choice(found) for relation, found in pairs.items()}
-
     # ---- refusals
 
     def _rarest_refusal(self) -> tuple[str, str]:
@@ -248,7 +230,8 @@ class Chooser:
                 if name != "PT_ATTACH" or relation.startswith(("caller", "target")):
                     yield f"refusal {name} {relation}", f"ptrace {caller} {name} {target}"
             if relation.startswith("caller"):
-                yield f"refusal PT_TRACE_ME {relation}", f"ptrace {caller} PT_TRACE_ME"
+                if "PT_TRACE_ME" in self._names:
+                    yield f"refusal PT_TRACE_ME {relation}", f"ptrace {caller} PT_TRACE_ME"
                 yield f"refusal list {relation}", f"list {caller}"
                 yield f"refusal kill {relation}", f"kill {caller} {target} 0"
                 yield f"refusal wait4 {relation}", f"wait4 {caller} -1"
@@ -270,6 +253,24 @@ class Chooser:
                 yield "lwp_waits", number
 
     # ---- requests
+
+    def _request(self, name: str) -> str:
+        """A request, of each relation between its caller and its target as often as of any other."""
+        pairs = self._pairs()
+        return self._with_data(f"ptrace {{}} {name} {{}}".format(*self._chance.choice(list(pairs.values()))), name)
+
+    def _pairs(self) -> dict[str, tuple[int, int]]:
+        """Of each relation a caller and a target; by the condition that refuses requests, if there is one."""
+        pairs: dict[str, list[tuple[int, int]]] = {
+            "target_process_gone": [(self._caller(), self._no_process())],
+            "target_lwp_gone": [(self._caller(), self._no_lwp())],
+            "target_is_0": [(self._caller(), 0)],
+            "caller_gone": [(self._no_process(), self._pid())],
+        }
+        for caller in self._rows.processes.values():
+            for target in self._rows.processes.values():
+                pairs.setdefault(_relation(caller, target), []).append((caller["pid"], target["pid"]))
+        return {relation: self._chance.choice(found) for relation, found in pairs.items()}
 
     def _request_to(self, name: str, caller: int, target: int) -> str:
         return self._with_data(f"ptrace {caller} {name} {self._target(target)}", name)

@@ -9,11 +9,12 @@ import random
 import re
 from collections import Counter, defaultdict
 from collections.abc import Iterator, Mapping, Sequence
+from pathlib import Path
 from typing import NamedTuple
 
-from .form import Text, made_in
+from .form import Text, made_in, texts_in
 from .model import step_in
-from .playing import Result
+from .playing import Player, Result, play
 
 _NO_SUCH_ANSWER = "error EAGAIN 35"
 _STOPS = re.compile(r"state=(?:trace|job)_stop")
@@ -106,6 +107,20 @@ class Counts(NamedTuple):
 
     def missed(self) -> list[str]:
         return [kind for kind, count in self.planted.items() if self.found[kind] < count]
+
+
+def found_by(player: Player, sessions: Path, results: Sequence[Result], each: int, folder: Path) -> tuple[Counts, str]:
+    """Plants faults in the sessions of a file that were the same as the model's, and plays them: what was found, and why the
+    player failed, "" if it didn't."""
+    same = {result.session for result in results if result.verdict == "same"}
+    faults = planted([text for text in texts_in(sessions) if text.name in same], 1, each)
+    if not faults:
+        return Counts(Counter(), Counter()), "no session was the same as the model's, in which a fault could be planted"
+    file = folder / "faults.txt"
+    file.write_text("".join(f"{fault.session}\n" for fault in faults), encoding="utf-8")
+    played = play(player, file, folder / "faults.tsv")
+    fault = played.fault(len(faults))
+    return Counts(Counter(), Counter()) if fault else count(faults, played.results), fault
 
 
 def count(faults: Sequence[Fault], results: Sequence[Result]) -> Counts:

@@ -17,7 +17,7 @@ _STEPS = (20, 30)
 _MOST_LWPS = 12
 _TRIES = 20
 # how many steps are made that a habit of a kernel would end, and how often further ones
-_ENOUGH, _ENDS = 10, 0.05
+_ENOUGH, _ENDS = 4, 0.05
 # how often a further user takes part
 _SHARES = 0.3
 # how many candidates there are for a step, of which the one with the rarest goal is taken

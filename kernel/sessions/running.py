@@ -7,6 +7,7 @@ differs but what is listed, 1 if something does, 2 for wrong words, and 3 if it 
 from __future__ import annotations
 
 import argparse
+import csv
 import os
 import platform
 import sys
@@ -18,6 +19,8 @@ from pathlib import Path
 from subprocess import PIPE, STDOUT, run
 from typing import NamedTuple
 
+from .ending import status_of
+from .faults import found_by
 from .kinds import KINDS
 from .playing import DIFFERS, NOT_DONE, SAME, Played, Player, play
 
@@ -46,9 +49,10 @@ class Part(NamedTuple):
 
 def _part(options: argparse.Namespace, folder: Path, number: int, count: int) -> Part:
     """Makes sessions and plays them."""
-    file = folder / f"{number}.txt"
-    words = ["--kinds", options.kinds, "--users", str(options.users), "--count", str(count), "--seed", f"{options.seed}{number:03}"]
-    made = run([sys.executable, str(MAKE_SESSIONS), *words, str(file)], stdout=PIPE, stderr=STDOUT, text=True, check=False)
+    file, goals = folder / f"{number}.txt", folder / f"{number}.goals.tsv"
+    words = ["--kinds", options.kinds, "--users", str(options.users), "--count", str(count), "--goals", str(goals)]
+    words += ["--seed", f"{options.seed}{number:03}", str(file)]
+    made = run([sys.executable, str(MAKE_SESSIONS), *words], stdout=PIPE, stderr=STDOUT, text=True, check=False)
     if made.returncode:
         return Part(number, count, made.stdout, None)
     player = Player(options.player, options.differences, options.time)
@@ -59,6 +63,21 @@ def _parts(options: argparse.Namespace, folder: Path) -> list[Part]:
     sizes = [min(_SESSIONS_OF_A_PART, options.count - first) for first in range(0, options.count, _SESSIONS_OF_A_PART)]
     with ThreadPoolExecutor(options.jobs) as pool:
         return list(pool.map(lambda place: _part(options, folder, place, sizes[place]), range(len(sizes))))
+
+
+def _merge_goals(folder: Path, parts: int, into: Path) -> None:
+    """Writes what all parts together have reached."""
+    tables = [_rows_of(folder / f"{number}.goals.tsv") for number in range(parts)]
+    with into.open("w", encoding="utf-8") as file:
+        writer = csv.writer(file, delimiter="\t", quoting=csv.QUOTE_NONE, lineterminator="\n")
+        for rows in zip(*tables):
+            goal, first, why = rows[0]
+            writer.writerow((goal, sum(int(row[1]) for row in rows) if first.isdecimal() else first, why))
+
+
+def _rows_of(table: Path) -> list[list[str]]:
+    with table.open(newline="", encoding="utf-8") as file:
+        return list(csv.reader(file, delimiter="\t", quoting=csv.QUOTE_NONE))
 
 
 class Total:
@@ -114,6 +133,8 @@ def _arguments() -> argparse.ArgumentParser:
     parser.add_argument("--seed", type=int, metavar="N", default=1)
     parser.add_argument("--jobs", type=int, metavar="J", default=os.cpu_count() or 1, help="players side by side")
     add_player(parser)
+    parser.add_argument("--goals", type=Path, metavar="FILE", help="gets a table of what the sessions have reached")
+    parser.add_argument("--faults", type=int, metavar="N", default=0, help="plants N faults of each kind in the first part too")
     parser.add_argument("--folder", type=Path, metavar="FOLDER", help="keeps sessions and results here")
     return parser
 
@@ -133,7 +154,24 @@ def _report(total: Total, count: int) -> int:
     return DIFFERS if unlisted or (gone and count >= WHOLE) else SAME
 
 
+def _report_faults(options: argparse.Namespace, folder: Path, parts: Sequence[Part]) -> int:
+    """Prints how many planted faults were found, and returns the status."""
+    results = [result for part in parts[:1] if part.played is not None for result in part.played.results]
+    player = Player(options.player, options.differences, options.time)
+    counts, fault = found_by(player, folder / "0.txt", results, options.faults, folder)
+    for kind, times in sorted(counts.planted.items()):
+        print(f"fault, {kind}: {counts.found[kind]} of {times} found")
+    if fault:
+        print(f"run: {fault}", file=sys.stderr)
+        return NOT_DONE
+    return DIFFERS if counts.missed() else SAME
+
+
 def main(words: list[str] | None = None) -> int:
+    return status_of("run", lambda: _main(words))
+
+
+def _main(words: list[str] | None) -> int:
     options = _arguments().parse_args(words)
     if options.count < 1 or options.jobs < 1:
         print("run: --count and --jobs are 1 or more", file=sys.stderr)
@@ -144,4 +182,10 @@ def main(words: list[str] | None = None) -> int:
     with tempfile.TemporaryDirectory(prefix="tracehost-kernel-") as room:
         folder = options.folder or Path(room)
         folder.mkdir(parents=True, exist_ok=True)
-        return _report(Total(_parts(options, folder)), options.count)
+        parts = _parts(options, folder)
+        status = _report(Total(parts), options.count)
+        if options.goals is not None and status != NOT_DONE:
+            _merge_goals(folder, len(parts), options.goals)
+        if options.faults and status == SAME:
+            status = _report_faults(options, folder, parts)
+        return status

@@ -13,6 +13,7 @@ from collections.abc import Callable, Sequence
 from pathlib import Path
 from typing import Optional
 
+from .ending import status_of
 from .form import Text, texts_in
 from .playing import DIFFERS, NOT_DONE, SAME, Player, Result, play
 from .remaking import remade
@@ -90,6 +91,10 @@ def _find(file: Path, name: str) -> Text:
 
 
 def main(words: Optional[list[str]] = None) -> int:
+    return status_of("shorten", lambda: _main(words))
+
+
+def _main(words: Optional[list[str]]) -> int:
     parser = argparse.ArgumentParser(prog="shorten", description=__doc__, formatter_class=argparse.RawDescriptionHelpFormatter)
     add_player(parser)
     parser.add_argument("sessions", type=Path, metavar="SESSIONS")
@@ -103,7 +108,7 @@ def main(words: Optional[list[str]] = None) -> int:
     except ValueError as error:
         print(f"shorten: {error}", file=sys.stderr)
         return 2
-    except (OSError, CannotPlay) as error:
+    except CannotPlay as error:
         print(f"shorten: {error}", file=sys.stderr)
         return NOT_DONE
     if shortest is None:

@@ -16,7 +16,7 @@ from pathlib import Path
 import pytest
 
 from checking import run
-from kernel.sessions.faults import count, planted
+from kernel.sessions.faults import found_by
 from kernel.sessions.form import texts_in
 from kernel.sessions.goals import LEAST, Group, goals_of, reached, read_unreached, why_unreached
 from kernel.sessions.kinds import KINDS
@@ -184,15 +184,11 @@ def test_this_kernel_plays_them(player: Path, tmp_path: Path) -> None:
 
 def test_planted_faults_are_found(player: Path, tmp_path: Path) -> None:
     """Refusals exchanged, stops left out, and fields of rows altered, where the kernel had said the same."""
-    plays = Player(player, DIFFERENCES)
-    file = tmp_path / "sessions.txt"
+    plays, file = Player(player, DIFFERENCES), tmp_path / "sessions.txt"
     file.write_text("".join(f"{session}\n" for session in made("shared", 150 * SCALE)))
-    same = {result.session for result in play(plays, file, tmp_path / "same.tsv").results if result.verdict == "same"}
-    faults = planted([text for text in texts_in(file) if text.name in same], 1, 4)
-    file.write_text("".join(f"{fault.session}\n" for fault in faults))
-    played = play(plays, file, tmp_path / "faults.tsv")
-    assert (played.status, played.fault(len(faults))) == (DIFFERS, "")
-    counts = count(faults, played.results)
+    played = play(plays, file, tmp_path / "results.tsv")
+    counts, fault = found_by(plays, file, played.results, 4, tmp_path)
+    assert fault == ""
     assert counts.missed() == []
     assert {"row process pending", "row lwp blocked", "row process caught", "stop left out, state=trace_stop"} <= set(
         counts.planted
@@ -257,6 +253,18 @@ def test_runs_that_cannot_be_made(tmp_path: Path) -> None:
     assert run(MAKE, "--count", "3", tmp_path / "no/file").status == NOT_DONE
     assert run(SHORTEN, _written(tmp_path / "x.txt", "spawn -> new 1000 100000\n"), "x").status == 2
     assert run(SHORTEN, tmp_path / "none.txt", "x").status == NOT_DONE
+
+
+def test_output_that_cannot_be_written(tmp_path: Path) -> None:
+    """A run in which all is the same, on a full disk."""
+    same = tmp_path / "player"
+    same.write_text('#!/bin/sh\nprintf "session\\tverdict\\nx\\tsame\\t1\\t1\\t\\t\\t\\t\\n" > "$4"\n')
+    same.chmod(0o755)
+    words = [sys.executable, RUN, "--player", same, "--count", "1", "--jobs", "1"]
+    assert subprocess.run(words, stdout=subprocess.DEVNULL, check=False).returncode == SAME
+    with open("/dev/full", "w", encoding="utf-8") as full:
+        ran = subprocess.run(words, stdout=full, stderr=subprocess.PIPE, text=True, check=False)
+    assert (ran.returncode, ran.stderr) == (NOT_DONE, "run: [Errno 28] No space left on device\n")
 
 
 # ---- the lists of differences
