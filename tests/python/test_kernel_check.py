@@ -558,10 +558,9 @@ int main(void) {
 @needs("cc")
 def test_a_killed_program(logger: Path, tracer: Path, checker: Checker, tmp_path: Path) -> None:
     """Its log is whole, and the checker says whose end it doesn't tell."""
-    log = tmp_path / "log"
-    environment = {**os.environ, "TRACEHOST_LOG": str(log), "LD_PRELOAD": str(logger)}
-    for _ in range(5):
-        log.unlink(missing_ok=True)
+    for number in range(5):
+        log = tmp_path / f"log{number}"  # of its own: children that have outlived a killed program still write to the one before
+        environment = {**os.environ, "TRACEHOST_LOG": str(log), "LD_PRELOAD": str(logger)}
         with subprocess.Popen([tracer, "handlers"], env=environment) as run:
             while not log.exists() or not log.read_bytes().count(b"\n"):
                 pass

@@ -260,7 +260,7 @@ def test_output_that_cannot_be_written(tmp_path: Path) -> None:
     same = tmp_path / "player"
     same.write_text('#!/bin/sh\nprintf "session\\tverdict\\nx\\tsame\\t1\\t1\\t\\t\\t\\t\\n" > "$4"\n')
     same.chmod(0o755)
-    words = [sys.executable, RUN, "--player", same, "--count", "1", "--jobs", "1"]
+    words: list[str | Path] = [sys.executable, RUN, "--player", same, "--count", "1", "--jobs", "1"]
     assert subprocess.run(words, stdout=subprocess.DEVNULL, check=False).returncode == SAME
     with open("/dev/full", "w", encoding="utf-8") as full:
         ran = subprocess.run(words, stdout=full, stderr=subprocess.PIPE, text=True, check=False)
