@@ -15,6 +15,7 @@ C_PARTS = [
     "clients/c/examples/*.c",
     "clients/posix/broker/*.[ch]",
     "clients/posix/runtime/*.[ch]",
+    "kernel/*.[ch]",
 ]
 
 
