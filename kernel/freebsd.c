@@ -1,6 +1,7 @@
 /* The player's view of FreeBSD: sysctl(3), reapers of procctl(2), threads of thr_new(2). With tracehost-cc also of the model itself,
  * which has its own process 1, one user, and no groups of processes. */
-#if defined TRACEHOST_POSIX_H && !defined FREEBSD_STAND_IN_H /* which a test has in front: FreeBSD's part is compiled, and not run */
+/* With the stand-in of a test FreeBSD's part is compiled there, and not run. */
+#if defined TRACEHOST_POSIX_H && !defined FREEBSD_STAND_IN_H
 #define ON_MODEL 1
 #else
 #define ON_MODEL 0
