@@ -54,7 +54,7 @@ def results_of(path: Path) -> list[Result]:
     heading, *lines = path.read_text().splitlines()
     assert tuple(heading.split("\t")) == COLUMNS
     rows = [line.split("\t") for line in lines if not line.startswith("difference\t")]
-    return [Result(row[0], row[1], *map(int, row[2:5]), *row[5:]) for row in rows]
+    return [Result(row[0], row[1], int(row[2]), int(row[3]), int(row[4]), row[5], row[6], row[7]) for row in rows]
 
 
 def counts_of(path: Path) -> dict[str, tuple[int, int]]:

@@ -13,11 +13,10 @@ from collections.abc import Callable
 from pathlib import Path
 
 import pytest
-from checking import needs
+from checking import TOP, needs
 from kernel_player import EXAMPLE, HEADING, KERNEL, STRICT, Done, built, counts_of, results_of, sessions_in, steps_in, text_of
 from posix_kit import once, shared_folder
 from sessions import sessions_of
-from test_types import TOP
 
 SESSIONS = sessions_in(EXAMPLE.read_text())
 STRANGER = 64999
@@ -35,7 +34,7 @@ def refusals(tmp_path_factory: pytest.TempPathFactory) -> Path:
     """Runs a program under a kernel that refuses something."""
     made = shared_folder(tmp_path_factory).parent / "player" / "refusals"
     words = ["cc", *STRICT.split(), "-o", made, TOP / "tests/python/kernel_refusals.c"]
-    return once(made, lambda: subprocess.run(words, check=True))
+    return once(made, lambda: subprocess.run([str(word) for word in words], check=True))
 
 
 def run(*words: object, text: str | None = None, before: Callable[[], None] | None = None) -> Done:
@@ -168,7 +167,7 @@ turn 100000 compute -> caught 20
 def changed_replies() -> list[list[str]]:
     """Each reply of the example exchanged, a session each."""
     other = {"ok": "error EINVAL 22", "held": "ok", "nothing": "error ECHILD 10"}
-    made = []
+    made: list[list[str]] = []
     for session in SESSIONS:
         for place, line in enumerate(session):
             step, arrow, reply = line.partition(" -> ")
@@ -184,7 +183,7 @@ def changed_replies() -> list[list[str]]:
 def changed_fields() -> list[list[str]]:
     """Each field of each row of the example changed, a session each."""
     others = {"state": "job_stop", "process": "1999", "user": "1003", "parent": "1777", "tracer": "1777", "lwps": "9"}
-    made = []
+    made: list[list[str]] = []
     for session in SESSIONS:
         for place, line in enumerate(session):
             for word in re.findall(r"\S+=\S+", line) if line.startswith("= ") else []:
@@ -199,7 +198,7 @@ def changed_fields() -> list[list[str]]:
 
 def dropped() -> list[list[str]]:
     """Each stop and each end dropped, with the row that has it: the process runs on."""
-    made = []
+    made: list[list[str]] = []
     for session in SESSIONS:
         for place, line in enumerate(session):
             if re.search(r"state=(job_stop|trace_stop|zombie)|^= gone", line):
@@ -348,7 +347,13 @@ def test_a_wrong_list_of_differences(text: str, player: Path, tmp_path: Path) ->
 
 def test_nothing_played_is_no_pass(player: Path, tmp_path: Path) -> None:
     assert "nothing was played" in run(player, "/dev/null").stderr
-    for words in (["/dev/null"], [tmp_path / "absent"], [tmp_path], ["--differences", tmp_path / "absent", EXAMPLE]):
+    refused: list[list[object]] = [
+        ["/dev/null"],
+        [tmp_path / "absent"],
+        [tmp_path],
+        ["--differences", tmp_path / "absent", EXAMPLE],
+    ]
+    for words in refused:
         done = run(player, *words)
         assert done.returncode == 3 and done.stderr.startswith("tracehost-play: ")
     assert run("sh", "-c", f'"{player}" <&-').returncode == 3

@@ -45,7 +45,7 @@ def test_the_model_is_as_its_sessions_have_it(path: Path, posix: Posix, player: 
 
 def test_a_changed_reply_is_found(posix: Posix, player: Path, tmp_path: Path) -> None:
     """Each reply of a step of FreeBSD's own, a session each."""
-    sessions = []
+    sessions: list[list[str]] = []
     for session in sessions_in(REQUESTS.read_text()):
         for place, line in enumerate(session):
             step, arrow, reply = line.partition(" -> ")
