@@ -153,7 +153,7 @@ static struct slot *selves[MOST_LWPS + 1]; /* by the stack; the last one is of t
 static size_t stack_here(void)
 {
     const char *here = __builtin_frame_address(0);
-    return here >= stacks[0] && here < stacks[MOST_LWPS] ? (size_t)(here - stacks[0]) / STACK : MOST_LWPS;
+    return here >= stacks[0] && here < stacks[0] + sizeof stacks ? (size_t)(here - stacks[0]) / STACK : MOST_LWPS;
 }
 
 struct slot *system_self(void) { return selves[stack_here()]; }

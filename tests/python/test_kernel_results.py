@@ -206,7 +206,7 @@ def test_torn_files(desk: Desk, whole: list[str]) -> None:
     "old, new, said",
     [
         ("| they are |", "| they are. |\n| vfork(2), BUGS | more | new here |", "0 lines of pages.tsv"),
-        ("| execve(2) | may fail | always succeeds |\n", "", "0 rows are of this line"),
+        ("| execve(2) | may fail | always succeeds |-|\n", "", "0 rows are of this line"),
         ("isn't reported", "is not told", "0 lines of pages.tsv"),
     ],
 )
