@@ -101,7 +101,7 @@ long model_lwp(long native)
 /* The super-user plays each user of the model by another one of the kernel, anybody else one user by themselves. */
 static bool plays_users(void) { return system_has_users && geteuid() == 0; }
 
-/* Users of the system that stand for the model's. Where others can be met, players that run side by side take others. */
+/* Users of the system in place of the model's. If others can be met, players that run side by side take others. */
 static long first_native_user(void)
 {
     enum { BLOCKS = 62 };
@@ -238,7 +238,7 @@ static void claim_user(long user)
         fault("user %ld of the system has processes of their own", native_user(user));
 }
 
-/* Makes the first LWP of a new process: a child of the player, or of process 1 where that is another one. */
+/* Makes the first LWP of a new process: a child of the player, or of process 1 if that is another one. */
 void cast_spawn(int lwp, long user)
 {
     claim_user(user);

@@ -39,7 +39,7 @@ struct command {
     int child; /* the slot of the LWP that is born */
 };
 
-/* What PT_LWPINFO says, in the model's words but for numbers. */
+/* What PT_LWPINFO says, in the model's words, except numbers. */
 struct lwp_info {
     long lwp;
     bool reports;
@@ -119,7 +119,7 @@ struct lwp_facts {
 };
 
 extern const char system_name[];
-extern const unsigned system_most_rounds; /* of a wait; 0: time alone limits it */
+extern const unsigned system_most_rounds; /* of a wait; 0: only time limits it */
 extern const bool system_is_reaper; /* the player is process 1 of its puppets */
 extern const bool system_has_users; /* the super-user can play several */
 extern const bool system_spawns_image; /* a new process has to become an image of its own */

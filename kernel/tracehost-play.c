@@ -1,6 +1,6 @@
 /* tracehost-play: plays sessions of the model on the kernel of this machine, and says what the kernel does otherwise.
  *
- * The outer process reads the command line and waits; the inner one plays. Where the kernel has private numbers of processes the
+ * The outer process reads the command line and waits; the inner one plays. If the kernel has private numbers of processes, the
  * inner one is process 1 of its own, so nothing outlives it; elsewhere each of the two ends what the other leaves. */
 #include <errno.h>
 #include <fcntl.h>

@@ -1,6 +1,6 @@
 """Sessions of a changed model: a refusal exchanged for another answer, a stop that is left out, a row with another field.
 
-Playing them has to find each fault at its line. So faults are planted where a session was compared, and was the same.
+The player has to find each fault at its line. So faults are planted only in steps that it has compared and found the same.
 """
 
 from __future__ import annotations

@@ -20,7 +20,7 @@ _TRIES = 20
 _ENOUGH, _ENDS = 4, 0.05
 # how often a further user takes part
 _SHARES = 0.3
-# how many candidates there are for a step, of which the one with the rarest goal is taken
+# how many candidates there are for a step; the one with the rarest goal is taken
 _CANDIDATES = (1, 3, 6)
 _NOTHING_NEW = 1 << 30
 

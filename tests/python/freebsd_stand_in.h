@@ -1,4 +1,4 @@
-/* What freebsd.c of the player takes of FreeBSD's headers, and tracehost-cc's haven't: declarations alone, from the manual pages. */
+/* What freebsd.c of the player takes of FreeBSD's headers, and tracehost-cc's haven't: only declarations, from the manual pages. */
 #ifndef FREEBSD_STAND_IN_H
 #define FREEBSD_STAND_IN_H
 #include <sys/types.h>

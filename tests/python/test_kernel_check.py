@@ -584,7 +584,7 @@ def test_long_log(checker: Checker) -> None:
 
 
 def test_make(tmp_path: Path) -> None:
-    """The library is built by the Makefile alone."""
+    """The Makefile by itself builds the library."""
     if shutil.which("make") is None or shutil.which("cc") is None:
         pytest.skip("not installed: make, cc")
     shutil.copytree(CHECK, tmp_path / "check", ignore=shutil.ignore_patterns("build", "tracehost_check"))

@@ -198,7 +198,7 @@ def test_limited_ends_the_group(limited: Path) -> None:
 
 
 def test_limited_resets_signals(limited: Path) -> None:
-    """As under nohup(1), in a shell's background, and where something was blocked."""
+    """As under nohup(1), in a shell's background, and with something blocked."""
     script = f"""trap '' HUP INT QUIT PIPE CHLD; exec '{limited}' 9 grep -E '^Sig(Ign|Blk)' /proc/self/status"""
     signal.pthread_sigmask(signal.SIG_BLOCK, {signal.SIGUSR1})
     try:

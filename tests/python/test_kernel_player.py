@@ -111,7 +111,7 @@ def test_the_makefile_is_bsd_make_s_too(tmp_path: Path) -> None:
 
 
 def test_tracing_by_several_users(player: Path) -> None:
-    """A user of the kernel is told EPERM of another one's process, where the model says ESRCH."""
+    """A user of the kernel is told EPERM of another one's process; the model says ESRCH."""
     text = """# Two users
 spawn -> new 1000 100000
 1002: spawn -> new 2000 104000
@@ -280,7 +280,7 @@ kill 1000 1999 0 -> ok
 
 
 def test_a_row_that_differs_is_ignored_while_it_does(player: Path, tmp_path: Path) -> None:
-    """SIGCHLD that is blocked stays pending in Linux, where the model discards it."""
+    """SIGCHLD that is blocked stays pending in Linux; the model discards it."""
     row = "= process 1000 user=1001 state=runs parent=1 tracer=0 lwps=1 pending=- ignored=- caught="
     text = f"""# s
 spawn -> new 1000 100000

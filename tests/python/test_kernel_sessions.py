@@ -183,7 +183,7 @@ def test_this_kernel_plays_them(player: Path, tmp_path: Path) -> None:
 
 
 def test_planted_faults_are_found(player: Path, tmp_path: Path) -> None:
-    """Refusals exchanged, stops left out, and fields of rows altered, where the kernel had said the same."""
+    """Refusals exchanged, stops left out, and fields of rows altered, in what the kernel had answered the same."""
     plays, file = Player(player, DIFFERENCES), tmp_path / "sessions.txt"
     file.write_text("".join(f"{session}\n" for session in made("shared", 150 * SCALE)))
     played = play(plays, file, tmp_path / "results.tsv")

@@ -101,7 +101,7 @@ class Facts:
         self.strangers = attached - self.begun - self.forked
         """Processes that were there before, and that a debugger has attached to."""
         self.unborn = told - self.begun - self.forked - self.strangers
-        """Processes of which only a wait tells."""
+        """Processes that only a wait tells of."""
         self.known = self.begun | self.forked | told
 
     def _take(self, line: Line) -> None:
@@ -184,7 +184,7 @@ class Facts:
 
 
 def unfinished(facts: Facts, pids: Iterable[int]) -> list[int]:
-    """Those of which neither a line nor a wait tells the end."""
+    """Those whose end neither a line nor a wait tells."""
     found = []
     for pid in pids:
         statuses, last = facts.statuses.get(pid, []), facts.last[pid]

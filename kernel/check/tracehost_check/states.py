@@ -64,7 +64,7 @@ class State:
         turns: int = 0,
         unsent: int = 0,
     ) -> State:
-        """The same, but for what is given. The model's part is still to be set."""
+        """The same, except what is given. The model's part is still to be set."""
         return State(
             self.pids if pids is None else pids,
             self.lwps if lwps is None else lwps,
