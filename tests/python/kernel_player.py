@@ -8,9 +8,10 @@ import shutil
 import subprocess
 from collections.abc import Iterator, Sequence
 from pathlib import Path
-from typing import NamedTuple
 
 from checking import TOP
+
+from kernel.sessions.playing import Result
 
 KERNEL = TOP / "kernel"
 EXAMPLE = KERNEL / "example.txt"
@@ -35,19 +36,6 @@ def built(folder: Path, *words: str) -> Path:
     )
     assert done.returncode == 0, done.stderr
     return folder / "tracehost-play"
-
-
-class Result(NamedTuple):
-    """A line of `--results`."""
-
-    session: str
-    verdict: str
-    compared: int
-    steps: int
-    line: int
-    step: str
-    model: str
-    kernel: str
 
 
 def results_of(path: Path) -> list[Result]:
