@@ -5,9 +5,10 @@ ghost use Rattle.pid_blocks.specs.Users.{IsUser};
 ghost use Rattle.pid_blocks.specs.Blocks.{pid_block, tid_block, cursor_after, next_free, first_free, in_block, InBlock, pid_owner, tid_owner};
 ghost use Rattle.pid_blocks.specs.Search.{Decides};
 
-use crate::{Block, FIRST_PID, FIRST_TID, FIRST_USER, PIDS, TIDS, Uid};
+use crate::{Block, FIRST_PID, FIRST_TID, FIRST_USER, PIDS, Pid, TIDS, Uid};
 
 /// Returns the block of a user's process numbers.
+#[inline(always)]
 pub fn pid_block(user: Uid) -> Block
     ensures block { result ≡ pid_block user }
     ensures user { IsUser user }
@@ -19,6 +20,7 @@ pub fn pid_block(user: Uid) -> Block
 }
 
 /// Returns the block of a user's LWP numbers.
+#[inline(always)]
 pub fn tid_block(user: Uid) -> Block
     ensures block { result ≡ tid_block user }
     ensures user { IsUser user }
@@ -27,6 +29,34 @@ pub fn tid_block(user: Uid) -> Block
         first: FIRST_TID + TIDS * user.slot() as u32,
         size: TIDS,
     }
+}
+
+/// Tests whether the number is in the block of the user's process numbers.
+#[inline(always)]
+pub fn in_pid_block(user: Uid, number: u32) -> bool
+    ensures inside { result ≡ in_block (pid_block user) number }
+    ensures user { IsUser user }
+{
+    number.wrapping_sub(pid_block(user).first) < PIDS
+}
+
+/// Tests whether the number is in the block of process numbers that contains a process's number.
+#[inline(always)]
+#[tactic(auto, unfolding(crate::specs::Blocks::pid_owner))]
+pub fn in_block_of(pid: Pid, number: u32) -> bool
+    ensures inside { result ≡ in_block (pid_block (pid_owner pid)) number }
+    ensures user { IsUser (pid_owner pid) }
+{
+    number / PIDS == pid.get() / PIDS
+}
+
+/// Tests whether the number is in the block of the user's LWP numbers.
+#[inline(always)]
+pub fn in_tid_block(user: Uid, number: u32) -> bool
+    ensures inside { result ≡ in_block (tid_block user) number }
+    ensures user { IsUser user }
+{
+    number.wrapping_sub(tid_block(user).first) < TIDS
 }
 
 /// Returns the user whose block contains the process number, or `None` if no user's block does.
@@ -99,16 +129,7 @@ pub fn cursor_after(block: Block, number: u32) -> u32
 }
 
 impl Block {
-    /// Tests whether the number is in the block.
-    #[inline(always)]
-    pub fn contains(self, number: u32) -> bool
-        ensures { result ≡ in_block self number }
-    {
-        self.first <= number && u64::from(number) < self.end()
-    }
-
     /// Returns the number after the block's last one.
-    #[inline(always)]
     fn end(self) -> u64
         ensures { result ≡ self.first + self.size }
     {

@@ -1,7 +1,7 @@
 -- Look-ups by a number that elements have once, with a further test.
-use Rattle.proc_table.proofs.CommonNames.{nat_tests, ◌≡◌, ℕ, ◌<◌, ◌≤◌, Bool, true, false, List, [], ◌∷◌, Option, Some, None, refl, sym, ap, ◌∙◌, nat_eq, cond, arith, is_some, rules, ◌&&◌, filter, find}
-use Rattle.proc_table.proofs.CommonNames.{count_by, option_eq, AllByRecursion, list_any, cases_Bool, sum_by-cons, LwpData, Lacks, Once, Differ, lwp_of, ProcData, process_of, seen_lwp, owns, Rows}
-use Rattle.proc_table.proofs.CommonNames.{keep, Rise, InOwnersBlock, TableInvariant}
+use Rattle.proc_table.proofs.CommonNames.{nat_tests, ◌≡◌, ℕ, ◌<◌, ◌≤◌, Bool, true, false, List, [], ◌∷◌, Some, None, refl, sym, ap, ◌∙◌, nat_eq, cond, arith, is_some, rules, ◌&&◌, filter, find}
+use Rattle.proc_table.proofs.CommonNames.{count_by, AllByRecursion, list_any, sum_by-cons, LwpData, Lacks, Once, Differ, lwp_of, ProcData, process_of, seen_lwp, owns, Rows}
+use Rattle.proc_table.proofs.CommonNames.{keep, Rise, InOwnersBlock, TableInvariant, IsUser}
 use Rattle.std.specs.Prelude.{option_map}
 use Rattle.pid_blocks.specs.Blocks.{tid_owner, in_block, pid_block, tid_block}
 use Rattle.proc_table.specs.Seen.{visible_process}
@@ -65,32 +65,6 @@ module _ (u : ℕ) (rows : Rows) (kept : TableInvariant rows) where
   pub home-outside : (n : ℕ) → (((100000 ≤ n) × (n < 356000)) → ⊥) → lwp_of n rows.lwps ≡ None
   home-outside n out = search (rules, lwp-within, lwp_of-tid)
 
--- a row is kept or not by what its process is
-module _ (u : ℕ) (ps : List ProcData) where
-  abbrev mine : LwpData → Bool
-  mine l = owns u l.pid ps
-
-  pub home-none : (o : Option LwpData) → option_map (λ (l : LwpData). l.pid) o ≡ None → keep mine o ≡ None
-  home-none o h = grind (arith, nat_tests)
-
-  pub home-own : (pid : ℕ) (o : Option LwpData) → option_map (λ (l : LwpData). l.pid) o ≡ Some pid → owns u pid ps ≡ true → keep mine o ≡ o
-  home-own pid o h own = grind (arith, nat_tests)
-
-  pub home-other : (pid : ℕ) (o : Option LwpData) → option_map (λ (l : LwpData). l.pid) o ≡ Some pid → owns u pid ps ≡ false → keep mine o ≡ None
-  home-other pid o h own = grind (arith, nat_tests)
-
--- and a process by its user
-module _ (u : ℕ) where
-  abbrev its_user : ProcData → Bool
-  its_user p = nat_eq p.uid u
-
-  pub eq-kept : (o : Option ProcData) → option_eq nat_eq (option_map (λ (p : ProcData). p.uid) o) (Some u) ≡ is_some (keep its_user o)
-  eq-kept o = grind (arith, nat_tests)
-
-  -- the number of the row that is seen, if one is
-  pub pid-seen : (n : ℕ) (ps : List ProcData) → Rise ps → option_map (λ (p : ProcData). p.pid) (find (λ p. nat_eq p.pid n && nat_eq p.uid u) ps) ≡ cond (owns u n ps) (Some n) None
-  pid-seen n ps r = search (rules, visible_process-kept, owns-kept, is_some, cases_Bool, process_of-pid)
-
 -- no process has a number outside all blocks
 pub pid-outside : (n : ℕ) (rows : Rows) → TableInvariant rows → (((1000 ≤ n) × (n < 65000)) → ⊥) → process_of n rows.processes ≡ None
 pid-outside n rows kept out = search (rules, every_found, process_of-pid)
@@ -113,12 +87,38 @@ module _ (u n : ℕ) (rows : Rows) (kept : TableInvariant rows) (outside : in_bl
       none [] all = refl
       none (l ∷ ls) all = grind (arith, nat_tests, owns-kept u l.pid rows.processes kept.rising, is_some, all.0, none ls all.1)
 
-pub ruleset block_laws = (visible_process-outside, seen_lwp-outside)
+-- the number of the row that a number finds
+pub pid-found : (n : ℕ) (ps : List ProcData) → option_map (λ (p : ProcData). p.pid) (process_of n ps) ≡ cond (list_any (λ p. nat_eq p.pid n) ps) (Some n) None
+pid-found n [] = refl
+pid-found n (p ∷ ps) = grind (arith, nat_tests, pid-found n ps)
+
+-- all processes in a user's block are the user's
+module _ (u n : ℕ) (user : IsUser u) (rows : Rows) (kept : TableInvariant rows) (inside : in_block (pid_block u) n ≡ true) where
+  pub visible_process-inside : visible_process u n rows ≡ process_of n rows.processes
+  visible_process-inside = all rows.processes kept.in_own_blocks
+    where
+      all : (ps : List ProcData) → AllByRecursion InOwnBlock ps → find (λ p. nat_eq p.pid n && nat_eq p.uid u) ps ≡ process_of n ps
+      all [] own = refl
+      all (p ∷ ps) own = grind (arith, nat_tests, user, inside, own.0.user, own.0.block, all ps own.1)
+
+-- and so are those of all LWPs in it
+module _ (u n : ℕ) (user : IsUser u) (rows : Rows) (kept : TableInvariant rows) (inside : in_block (tid_block u) n ≡ true) where
+  owned : (l : LwpData) → InOwnersBlock rows l → nat_eq l.tid n ≡ true → owns u l.pid rows.processes ≡ true
+  owned l (p, at, block) same =
+      let home : InOwnBlock p = every_found InOwnBlock (λ q. nat_eq q.pid l.pid) rows.processes p kept.in_own_blocks at in
+      grind (arith, nat_tests, owns-kept u l.pid rows.processes kept.rising, is_some, at, block, home.user, user, inside, same)
+
+  pub seen_lwp-inside : seen_lwp u n rows ≡ lwp_of n rows.lwps
+  seen_lwp-inside = all rows.lwps kept.in_owners_block
+    where
+      all : (ls : List LwpData) → AllByRecursion (InOwnersBlock rows) ls → find (λ l. nat_eq l.tid n && owns u l.pid rows.processes) ls ≡ lwp_of n ls
+      all [] own = refl
+      all (l ∷ ls) own = grind (arith, nat_tests, owned l own.0, all ls own.1)
 
 -- what a user sees, by what a number finds
-pub ruleset owner_laws = (owns-kept, eq-kept)
+pub ruleset process_laws = (visible_process-outside, visible_process-inside, pid-found)
 
-pub ruleset home_laws = (seen_lwp-kept, home-none, home-own, home-other, home-outside)
+pub ruleset lwp_laws = (seen_lwp-outside, seen_lwp-inside, home-outside)
 
 pub ruleset has_laws = (any-found, has_row, home-outside)
 

@@ -157,13 +157,6 @@ impl Processes {
         self.find(number).copied()
     }
 
-    /// Returns the user of the row with this number, if any.
-    pub fn owner(&self, number: u32) -> Option<Uid>
-        ensures { result ≡ option_map (λ p. p.uid) (process_of number self.now.rows) }
-    {
-        Some(self.find(number)?.uid)
-    }
-
     /// Returns the first row above a number that names this process.
     #[inline(always)]
     fn next_named(&self, kin: ListKind, pid: Pid, after: u32) -> Option<ProcData>

@@ -19,7 +19,8 @@ use crate::bit_sets::NumberSet;
 use crate::processes::Processes;
 use lwp_table::{LwpData, LwpTable, OfProcess, OfUser};
 use pid_blocks::{
-    FIRST_PID, FIRST_TID, PIDS, Pid, TIDS, Tid, Uid, next_free, pid_block, tid_block,
+    FIRST_PID, FIRST_TID, PIDS, Pid, TIDS, Tid, Uid, in_pid_block, in_tid_block, next_free,
+    pid_block, tid_block,
 };
 use std::alloc::{AllocError, Global};
 use std::marker::Model;
@@ -222,71 +223,57 @@ impl Tables {
         self.lwps.of_user(uid)
     }
 
-    /// Returns the user's process with this number, if any. It looks at no row if the number isn't in the user's block.
-    #[tactic(auto, using(crate::proofs::Seen::block_laws))]
+    /// Returns the user's process with this number, if any. It looks at no row if the number isn't in the user's block: all
+    /// processes in it are the user's.
+    #[tactic(auto, using(crate::proofs::Seen::process_laws))]
     pub fn visible_process(&self, uid: Uid, number: u32) -> Option<ProcData>
         ensures row { result ≡ visible_process uid number self.now.rows }
         ensures kept { TableInvariant self.now.rows }
     {
         let _ = &self.processes;
-        if !pid_block(uid).contains(number) {
+        if !in_pid_block(uid, number) {
             return None;
         }
-        let row = self.processes.find(number)?;
-        if row.uid == uid { Some(*row) } else { None }
-    }
-
-    /// Tests whether the process is the user's.
-    #[tactic(auto, using(crate::proofs::Seen::owner_laws))]
-    fn owns(&self, uid: Uid, pid: Pid) -> bool
-        ensures { result ≡ owns uid pid self.now.rows.processes }
-    {
-        self.processes.owner(pid.get()) == Some(uid)
+        self.process_by_number(number)
     }
 
     /// Returns the LWP with this number if its process is the user's. It looks at no row if the number isn't in the user's
-    /// block.
-    #[tactic(auto, using(crate::proofs::Seen::home_laws, crate::proofs::Seen::block_laws))]
+    /// block: all LWPs in it are of the user's processes.
+    #[tactic(auto, using(crate::proofs::Seen::lwp_laws))]
     pub fn seen_lwp(&self, uid: Uid, number: u32) -> Option<LwpData>
         ensures row { result ≡ seen_lwp uid number self.now.rows }
         ensures kept { TableInvariant self.now.rows }
     {
         let _ = &self.lwps;
-        if !tid_block(uid).contains(number) {
+        if !in_tid_block(uid, number) {
             return None;
         }
-        let row = self.lwps.get(Tid::new(number)?)?;
-        if self.owns(uid, row.pid) {
-            Some(row)
+        self.lwp(Tid::new(number)?)
+    }
+
+    /// Returns the number if it is that of one of the user's processes.
+    #[tactic(auto, using(crate::proofs::Seen::process_laws))]
+    fn seen_pid(&self, uid: Uid, number: u32) -> Option<Pid>
+        ensures { result ≡ option_map (λ p. p.pid) (visible_process uid number self.now.rows) }
+    {
+        let _ = &self.processes;
+        if in_pid_block(uid, number) && self.is_process(number) {
+            Pid::new(number)
         } else {
             None
         }
     }
 
-    /// Returns the number if it is that of one of the user's processes.
-    #[tactic(auto, using(crate::proofs::Seen::block_laws))]
-    fn seen_pid(&self, uid: Uid, number: u32) -> Option<Pid>
-        ensures { result ≡ option_map (λ p. p.pid) (visible_process uid number self.now.rows) }
-    {
-        let _ = &self.processes;
-        if !pid_block(uid).contains(number) {
-            return None;
-        }
-        let pid = Pid::new(number)?;
-        if self.owns(uid, pid) { Some(pid) } else { None }
-    }
-
     /// Returns the process of the user's LWP with this number, if any.
-    #[tactic(auto, using(crate::proofs::Seen::home_laws, crate::proofs::Seen::block_laws))]
+    #[tactic(auto, using(crate::proofs::Seen::lwp_laws))]
     fn seen_lwp_pid(&self, uid: Uid, number: u32) -> Option<Pid>
         ensures { result ≡ option_map (λ l. l.pid) (seen_lwp uid number self.now.rows) }
     {
         let _ = &self.lwps;
-        if !tid_block(uid).contains(number) {
+        if !in_tid_block(uid, number) {
             return None;
         }
-        let pid = self.lwp_process(number)?;
-        if self.owns(uid, pid) { Some(pid) } else { None }
+        self.lwp_process(number)
     }
 
     /// Returns the user's process with the number, or with an LWP of that number if it is above 99999.
@@ -424,7 +411,7 @@ impl Tables {
     }
 
     /// Returns the process of the LWP with this number, if any.
-    #[tactic(auto, using(crate::proofs::Seen::home_laws))]
+    #[tactic(auto, using(crate::proofs::Seen::lwp_laws))]
     fn lwp_process(&self, number: u32) -> Option<Pid>
         ensures process { result ≡ option_map (λ l. l.pid) (lwp_of number self.now.rows.lwps) }
         ensures kept { TableInvariant self.now.rows }

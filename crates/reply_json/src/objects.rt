@@ -20,7 +20,7 @@ use std::mem;
 use step_types::{Reply, Status};
 use stop_handlers::{Decision, StopView};
 
-/// The initial capacity for the text of a refusal, in bytes.
+/// The initial capacity for the text of an object, in bytes: most fit.
 const ROOM: usize = 256;
 
 /// Returns the reply's word.
@@ -216,6 +216,7 @@ impl ObjectWriter {
     {
         let mut bytes = mem::replace(&mut self.bytes, Vec::new(alloc));
         bytes.clear();
+        bytes.reserve(ROOM)?;
         let mut out = Writer::new(bytes);
         push_object(&mut out, uid, number, reply)?;
         let object = text_of(out);

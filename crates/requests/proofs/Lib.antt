@@ -11,6 +11,7 @@ pub mod RemainAfterPost
 pub mod KillReaches
 pub mod NothingPosted
 pub mod Outcomes
+pub mod Targets
 pub mod RefusalsChangeNothing
 pub mod IsolationOfNewRows
 pub mod IsolationOfTurns
@@ -19,7 +20,6 @@ pub mod IsolationOfHosts
 pub mod IsolationLaws
 pub mod SoundHostIsApart
 pub mod HasLwpAfterChange
-pub mod SeenTurns
 pub mod HostSteps
 pub mod SoundAfterActing
 pub mod SoundAfterMask

@@ -127,6 +127,7 @@ impl<F: Decider + Send + Drop> Host<F> {
     }
 
     /// Returns the caller with this number, a process that runs. The error is the reply to a step with such a caller.
+    #[inline(always)]
     #[tactic(auto, using(std::proofs::lemmas::Bool::Decides::nat_tests))]
     fn caller(&self, user: Uid, caller: u32) -> Result<ProcData, Reply>
         ensures found { IfOk result (IsCallerByNumber user caller self.now.rows) }

@@ -94,10 +94,17 @@ fn target_of(tables: &Tables, user: Uid, target: u32) -> Option<ProcData>
     ensures kept { TableInvariant tables.now.rows }
 {
     tables.assert_invariant();
-    match tables.find_seen(user, target) {
-        Some(pid) => tables.process(pid),
-        None => None,
+    if target >= pid_blocks::FIRST_TID {
+        return match tables.find_seen(user, target) {
+            Some(pid) => tables.process(pid),
+            None => None,
+        };
     }
+    // all processes in a user's block are the user's
+    if pid_blocks::in_pid_block(user, target) {
+        return tables.process_by_number(target);
+    }
+    None
 }
 
 /// Returns the LWP that the target names: the one with this number, or for a process the LWP that reports its stop.

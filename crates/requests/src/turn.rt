@@ -226,20 +226,16 @@ fn turn_of(tables: &mut Tables, settings: Settings, act: Act, p: &ProcData, l: &
 
 /// Makes the turn of the user's LWP with this number: a due stop, a signal, or its act. Refused with ESRCH if the
 /// user has no such LWP, and with ENOMEM if memory runs out. A refusal changes nothing.
-#[tactic(auto, using(crate::proofs::SeenTurns::turn_laws))]
 pub fn turn(tables: &mut Tables, settings: Settings, user: Uid, tid: u32, act: Act) -> Reply
     requires sound { IsSound tables.old.rows }
     ensures { let outcome = turn settings user tid act tables.old.rows in
         Attempts (turn_makes act (seen_lwp user tid tables.old.rows)) outcome tables.old.rows tables.new.rows result }
 {
     tables.assert_invariant();
-    let Some(number) = Tid::new(tid) else {
+    let Some(l) = tables.seen_lwp(user, tid) else {
         return Reply::Errno(Errno::ESRCH);
     };
-    let Some(l) = tables.lwp(number) else {
-        return Reply::Errno(Errno::ESRCH);
-    };
-    let Some(p) = tables.visible_process(user, l.pid.get()) else {
+    let Some(p) = tables.process(l.pid) else {
         return Reply::Errno(Errno::ESRCH);
     };
     turn_of(tables, settings, act, &p, &l)

@@ -24,6 +24,7 @@ fn collect_reply(collected: Collected) -> Reply
 
 /// Waits for a child of the caller, a process that runs, as wait4(2) with WNOHANG does. Refused with EINVAL if
 /// `which` is 0 or below -1, and with ECHILD if no child fits.
+#[inline(always)]
 pub fn wait(tables: &mut Tables, caller: &ProcData, which: i64, options: Options) -> Reply
     requires sound { IsSound tables.old.rows }
     ensures { Gives (wait caller.now which options tables.old.rows) tables.new.rows result }

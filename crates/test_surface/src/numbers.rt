@@ -2,8 +2,8 @@
 
 use event_masks::{Call, EventMask, StopFlags, call_code, default_mask, entry_flags, exit_flags};
 use pid_blocks::{
-    BadUser, Block, Errno, Pid, Tid, Uid, cursor_after, next_free, owner_of_pid, owner_of_tid,
-    pid_block, tid_block,
+    BadUser, Block, Errno, Pid, Tid, Uid, cursor_after, in_block_of, in_pid_block, in_tid_block,
+    next_free, owner_of_pid, owner_of_tid, pid_block, tid_block,
 };
 use signals::{
     Action, BadDisposition, BadSignal, Disposition, Dispositions, Pass, SigSet, Signal,
@@ -17,6 +17,7 @@ use wait4::Status;
 pub fn check(rt: &impl Print, alloc: Global) -> Result<(), TestError> {
     the_last_user_is_1064()?;
     numbers_have_owners()?;
+    a_block_ends_before_the_next_one()?;
     the_search_for_a_free_number_goes_round()?;
     errors_have_numbers()?;
     signals_have_names()?;
@@ -25,7 +26,7 @@ pub fn check(rt: &impl Print, alloc: Global) -> Result<(), TestError> {
     a_call_stops_by_the_mask(alloc)?;
     words_are_those_of_wait()?;
     a_policy_has_16_rules()?;
-    println!(rt; "numbers and words: 10 checks passed")?;
+    println!(rt; "numbers and words: 11 checks passed")?;
     Ok(())
 }
 
@@ -63,6 +64,26 @@ fn numbers_have_owners() -> Result<(), TestError> {
     )?;
     let is_none = Pid::new(999).is_none() && Tid::new(356000).is_none();
     expect(is_none, "a number of no block is a process's or an LWP's")
+}
+
+fn a_block_ends_before_the_next_one() -> Result<(), TestError> {
+    let user = Uid::new(1063)?;
+    let has_pids = in_pid_block(user, 63000) && in_pid_block(user, 63999);
+    let has_tids = in_tid_block(user, 348000) && in_tid_block(user, 351999);
+    expect(has_pids && has_tids, "a number isn't in its block")?;
+    let has_others = in_pid_block(user, 62999) || in_pid_block(user, 64000);
+    let has_other_lwps = in_tid_block(user, 347999) || in_tid_block(user, 352000);
+    expect(
+        !has_others && !has_other_lwps,
+        "a number is in the next block",
+    )?;
+    let pid = Pid::new(63500).ok_or(TestError::Wrong("a number is lost"))?;
+    let is_near = in_block_of(pid, 63000) && in_block_of(pid, 63999);
+    let is_far = in_block_of(pid, 62999) || in_block_of(pid, 64000);
+    expect(
+        is_near && !is_far,
+        "another block contains a process's number",
+    )
 }
 
 fn the_search_for_a_free_number_goes_round() -> Result<(), TestError> {

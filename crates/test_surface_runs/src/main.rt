@@ -4,6 +4,7 @@
 #![tactic(auto)]
 
 mod hosts;
+mod hosts_by_user;
 mod lines;
 mod session_runs;
 mod shared_host;
@@ -16,5 +17,6 @@ fn main(rt: HostRuntime) -> Result<(), TestError> {
     shared_host::check(&rt, alloc)?;
     session_runs::check(&rt, alloc)?;
     texts::check(&rt, alloc)?;
-    lines::check(&rt, alloc)
+    lines::check(&rt, alloc)?;
+    hosts_by_user::check(&rt, alloc)
 }

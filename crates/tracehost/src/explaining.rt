@@ -146,6 +146,8 @@ pub(crate) struct Explained<'a, R, I> {
     input: I,
     /// The bytes of the line so far, at most one more than a step may have.
     line: Vec<u8>,
+    /// Whether memory ran out for a byte of the line.
+    is_cut: bool,
     /// How many lines have ended.
     ended: usize,
 }
@@ -156,28 +158,39 @@ impl<'a, R: Eprint + AllocGlobal, I: Read> Explained<'a, R, I> {
             rt,
             input,
             line: Vec::new(rt.alloc()),
+            is_cut: false,
             ended: 0,
         }
+    }
+
+    /// The explanation of the line, if all of it is there.
+    fn explanation(&self) -> Result<String, AllocError> {
+        if self.is_cut {
+            return Err(AllocError);
+        }
+        let source = Source::Line(self.ended);
+        explain(self.rt.alloc(), source, self.line.as_slice())
     }
 
     /// Prints the explanation of the line, and begins the next one.
     fn end_line(&mut self) {
         self.ended = self.ended.saturating_add(1);
-        if let Ok(explanation) = explain(
-            self.rt.alloc(),
-            Source::Line(self.ended),
-            self.line.as_slice(),
-        ) {
-            let _ = eprint!(self.rt; "{explanation}");
-        }
+        let _ = match self.explanation() {
+            Ok(explanation) => eprint!(self.rt; "{explanation}"),
+            Err(_) => {
+                let number = self.ended;
+                eprintln!(self.rt; "  line {number}: no memory to explain it")
+            }
+        };
         self.line.clear();
+        self.is_cut = false;
     }
 
     fn take(&mut self, byte: u8) {
         if byte == b'\n' {
             self.end_line();
         } else if self.line.len() <= MAX_STEP_BYTES {
-            let _ = self.line.push(byte);
+            self.is_cut |= self.line.push(byte).is_err();
         }
     }
 }

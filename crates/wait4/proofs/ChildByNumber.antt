@@ -1,15 +1,20 @@
--- A child by its number, among the processes of the caller's user.
-use Rattle.wait4.proofs.CommonNames.{arith, ◌≡◌, ℕ, ℤ, pos, negsuc, true, Option, Some, None, refl, nat_eq, nat_tests, keep, IsUser, pid_owner, ProcData, every_found, IsSound, GoodProc, sound_closed, Rows, is_child, numbered}
+-- A child by its number is in the block of the caller's user.
+use Rattle.wait4.proofs.CommonNames.{arith, ◌≡◌, ℕ, Bool, true, false, Option, Some, None, refl, nat_eq, nat_tests, keep, IsUser, pid_owner, ProcData, every_found, process_of, IsSound, GoodProc, InOwnBlock, sound_closed, Rows, is_child}
+use Rattle.pid_blocks.specs.Blocks.{in_block, pid_block}
+use Rattle.proc_table.proofs.Rows.{process_of-pid}
 use Rattle.wait4.proofs.IsolationOfReports.{child_own}
 
-module _ (u caller : ℕ) where
-  kept_at : (o : Option ProcData) → ((p : ProcData) → o ≡ Some p → is_child caller p ≡ true → p.uid ≡ u) → keep (is_child caller) (keep (λ (p : ProcData). nat_eq p.uid u) o) ≡ keep (is_child caller) o
-  kept_at None own = refl
-  kept_at (Some p) own = grind (arith, nat_tests, own p refl)
+module _ (caller n : ℕ) (user : IsUser (pid_owner caller)) (rows : Rows) (s : IsSound rows) (outside : in_block (pid_block (pid_owner caller)) n ≡ false) where
+  not_child : (p : ProcData) → process_of n rows.processes ≡ Some p → (b : Bool) → is_child caller p ≡ b → b ≡ false
+  not_child p at false is = refl
+  not_child p at true is =
+      let block = (every_found InOwnBlock (λ q. nat_eq q.pid n) rows.processes p s.stands.in_own_blocks at).block in
+      let good = every_found GoodProc (λ q. nat_eq q.pid n) rows.processes p (sound_closed rows s (pid_owner caller) user).processes at in
+      grind (arith, nat_tests, outside, block, child_own (pid_owner caller) caller user refl p good is, process_of-pid n p rows.processes at)
 
--- a child is its user's, so the others' rows needn't be looked at
-module _ (rows : Rows) (s : IsSound rows) (u caller : ℕ) (user : IsUser u) (mine : pid_owner caller ≡ u) where
-  pub own-child : (which : ℤ) → keep (is_child caller) (keep (λ (p : ProcData). nat_eq p.uid u) (numbered which rows.processes)) ≡ keep (is_child caller) (numbered which rows.processes)
-  own-child (pos n) = kept_at u caller (numbered (pos n) rows.processes)
-      (λ p at. child_own u caller user mine p (every_found GoodProc (λ p. nat_eq p.pid n) rows.processes p (sound_closed rows s u user).processes at))
-  own-child (negsuc n) = refl
+  pub child-outside : keep (is_child caller) (process_of n rows.processes) ≡ None
+  child-outside = by_found (process_of n rows.processes) refl
+    where
+      by_found : (o : Option ProcData) → process_of n rows.processes ≡ o → keep (is_child caller) o ≡ None
+      by_found None at = refl
+      by_found (Some p) at = rw (not_child p at (is_child caller p) refl) refl

@@ -1,7 +1,7 @@
 -- The sets of lemmas that functions name: for laws, and for the collection of one process.
 use Rattle.wait4.proofs.CommonNames.{found_row, named-same, named-untraced, below_or_not}
 use Rattle.wait4.proofs.Search.{none_outside}
-use Rattle.proc_table.proofs.Seen.{visible_process-kept}
+use Rattle.wait4.proofs.ChildByNumber.{child-outside}
 use Rattle.wait4.proofs.Candidates.{report-any, report-first, report-numbered, reported-least}
 use Rattle.wait4.proofs.CollectRows.{collected-seen, collected-passed, collected-gone}
 use Rattle.wait4.proofs.IsolationOfWaits.{own_reported, own_collect, own_after_wait, others_after_wait}
@@ -13,4 +13,4 @@ pub ruleset of_one = (found_row, named-same, named-untraced, no_tracee, no_child
 
 pub ruleset of_report = (report-any, report-first, report-numbered)
 
-pub ruleset of_number = (below_or_not, none_outside, visible_process-kept)
+pub ruleset of_number = (below_or_not, none_outside, child-outside)

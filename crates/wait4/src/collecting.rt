@@ -10,7 +10,7 @@ ghost use Rattle.trace_rows.specs.Facts.{IfEnded, IsSound};
 ghost use Rattle.wait4.specs.Collect.{is_child, is_own, fits, numbered, reportable, status_of, stays, names_as, lesser, reported, collect_one, collect, rows_after};
 
 use crate::{Collected, Options, Status};
-use pid_blocks::{Pid, Uid, owner_of_pid};
+use pid_blocks::{Pid, in_block_of, owner_of_pid};
 use proc_table::{ProcData, State, Tables};
 use trace_rows::post_sigchld;
 
@@ -130,28 +130,21 @@ fn lesser(a: Option<ProcData>, b: Option<ProcData>) -> Option<ProcData>
     }
 }
 
-/// Returns the user's process with this number, if there is one. It looks at no other user's row.
+/// Returns the caller's child with this number, if there is one. It looks at no row if the number isn't in the block of the
+/// caller's user: all children are the user's.
+#[inline(always)]
 #[tactic(auto, using(crate::proofs::LemmaSets::of_number))]
-fn own_by_number(tables: &Tables, user: Uid, which: i64) -> Option<ProcData>
-    ensures row { result ≡ keep (λ p. p.uid == user) (numbered which tables.now.rows.processes) }
-    ensures kept { TableInvariant tables.now.rows }
-{
-    tables.assert_invariant();
-    match u32::try_from(which) {
-        Ok(number) => tables.visible_process(user, number),
-        Err(_) => None,
-    }
-}
-
-/// Returns the caller's child with this number, if there is one. Children are processes of the caller's user.
 fn child_by_number(tables: &Tables, caller: Pid, which: i64) -> Option<ProcData>
     requires sound { IsSound tables.now.rows }
     ensures row { result ≡ keep (is_child caller) (numbered which tables.now.rows.processes) }
     ensures kept { TableInvariant tables.now.rows }
 {
     tables.assert_invariant();
-    let user = owner_of_pid(caller.get())?;
-    let p = own_by_number(tables, user, which)?;
+    let number = u32::try_from(which).ok()?;
+    if !in_block_of(caller, number) {
+        return None;
+    }
+    let p = tables.process_by_number(number)?;
     if is_child(caller, &p) { Some(p) } else { None }
 }
 

@@ -1,0 +1,50 @@
+-- A host for each user, and what it has to do with one host of all users.
+use Rattle.std.specs.Prelude.{◌≡◌, ◌≢◌}
+use Rattle.requests.specs.CommonNames.{ℕ, true, List, Option, Some, None, map, set, get_or, slot, users, IsUser, ENOMEM, Settings, PlainStep, Reply}
+use Rattle.step_types.specs.Replies.{is_refusal}
+use Rattle.requests.specs.Machine.{Machine, empty}
+use Rattle.requests.specs.View.{view}
+use Rattle.requests.specs.Isolation.{Apart, reply_of, host_after}
+use Rattle.requests.specs.Memory.{may_want}
+use Rattle.requests.specs.Hosts.{Steps as HostSteps}
+
+-- the host of each of the 64 users in order, if there is one, and the settings of all
+pub record Hosts : Type 0 where
+  pub settings : Settings
+  pub made : List (Option Machine)
+
+abbrev pub unused : Settings → Hosts
+unused settings = record { settings = settings; made = map (λ u. None) users }
+
+abbrev pub made_of : ℕ → Hosts → Option Machine
+made_of u hosts = get_or hosts.made (slot u) None
+
+-- a user without a host has an unused one
+abbrev pub host_or : Settings → Option Machine → Machine
+host_or settings None = empty settings
+host_or settings (Some m) = m
+
+abbrev pub host_of : ℕ → Hosts → Machine
+host_of u hosts = host_or hosts.settings (made_of u hosts)
+
+-- each user's host shows the user what this machine of all users shows the user
+pub record Shows (hosts : Hosts) (m : Machine) : Type 0 where
+  pub apart : Apart m
+  pub same : (u : ℕ) → IsUser u → view u (host_of u hosts) ≡ view u m
+
+-- a step of a user, and its reply: the user's host makes it, and no other host changes; a refused step changes nothing
+pub record Steps (u : ℕ) (s : PlainStep) (old new : Hosts) (r : Reply) : Type 0 where
+  pub own : HostSteps u s (host_of u old) (host_of u new) r
+  pub others : (w : ℕ) → IsUser w → w ≢ u → made_of w new ≡ made_of w old
+  pub settings : new.settings ≡ old.settings
+  pub refused : is_refusal r ≡ true → new ≡ old
+
+-- the same beside a machine of all users: the reply is the machine's, and the hosts show the machine after the step; or,
+-- if the step takes memory and the machine wouldn't refuse it, ENOMEM and the hosts as they were
+pub record Answers (u : ℕ) (s : PlainStep) (old new : Hosts) (r : Reply) (m : Machine) : Type 0 where
+  pub machine : r ≢ Reply.Errno ENOMEM → (r ≡ reply_of u s m) × Shows new (host_after u s m)
+  pub memory : r ≡ Reply.Errno ENOMEM → (new ≡ old) × (may_want u s m ≡ true)
+
+-- the hosts with the source's host of one user
+abbrev pub copied : ℕ → Hosts → Hosts → Hosts
+copied u hosts source = record hosts { made = set hosts.made (slot u) (made_of u source) }
