@@ -149,6 +149,18 @@ def reattached_middle(tracees: int) -> Case:
     return attached(tracees), reattached(DEBUGGER + (tracees + 1) // 2)
 
 
+def reattached_after_ends(ended: int) -> Case:
+    """So many processes of the user have come and gone."""
+    steps = scenarios.attaches_after_ends(USER, ended)
+    kills = -(-ended // (PROCESSES - 1))
+    return list(itertools.islice(steps, 2 + ended + kills)), steps
+
+
+def reattached_beside_full_users(users: int) -> Case:
+    """So many other users have all the processes that they may have."""
+    return [*scenarios.full_users(scenarios.USERS[1 : 1 + users]), *attached(1)], reattached(TRACEE)
+
+
 def reattached_lwps(lwps: int) -> Case:
     """The tracee has so many LWPs."""
     return [*tracee_of(lwps), *attach(TRACEE)], reattached(TRACEE)
@@ -366,6 +378,8 @@ CASES: list[tuple[str, Make, int]] = [
     ("re-attach, last of tracees", reattached_last, PROCESSES - 1),
     ("re-attach, middle of tracees", reattached_middle, PROCESSES - 1),
     ("re-attach, after a chain of debuggers", reattached_after_a_chain, PROCESSES - 1),
+    ("re-attach, ended processes", reattached_after_ends, 8000),
+    ("re-attach, full users", reattached_beside_full_users, len(scenarios.USERS) - 1),
     ("re-attach, LWPs", reattached_lwps, LWPS - 1),
     ("PT_STEP, turn, wait, LWPs", stepped, LWPS - 1),
     ("PT_CONTINUE, SIGSTOP, turn, wait, LWPs", stopped, LWPS - 1),
@@ -442,6 +456,8 @@ SCALED: list[Make] = [
     waits,
     reattached_middle,
     reattached_after_a_chain,
+    reattached_after_ends,
+    reattached_beside_full_users,
     reattached_lwps,
     stepped,
     stopped,

@@ -4,14 +4,14 @@
     python3 bench/instructions.py [PROGRAM ..] [--steps N] [--baseline] [--times N] [--peak] [--top N]
 
 PROGRAM is a built program (default: crates/tracehost/out/tracehost, which ./tracehost builds); several are compared,
-numbered from 1. Each runs thirteen loads of N steps (default 40,000; as many as fit, if these are longer than the program
-reads). Printed is a row for each load and program: millions of instructions of the whole run, of reading the scenario,
-of binding handlers to its steps, of the host's steps, and of the text; `-` if a part has no function of its own in
-that program. With --baseline the program by hand in bench/baseline, which cargo builds, is the first one, and a column
-has the times of its instructions. With --times also milliseconds of processors, in the program and in the system, the
-median of N runs in turn, and in times the first program's. With --peak also the resident memory at most, in times the
-scenario's bytes: plain, with --json, and with --expect and the run's own lines. With --top the N functions that cost
-most by themselves follow, for each load and program.
+numbered from 1. Each runs sixteen loads of N steps (default 40,000; one has 300, and one whose text gets too long has as
+many as fit). Printed is a row for each load and program: millions of instructions of the whole run, of reading the
+scenario, of binding handlers to its steps, of the host's steps, and of the text; `-` if a part has no function of its
+own in that program. With --baseline the program by hand in bench/baseline, which cargo builds, is the first one, and a
+column has the times of its instructions. With --times also milliseconds of processors, in the program and in the
+system, the median of N runs in turn, and in times the first program's. With --peak also the resident memory at most, in
+times the scenario's bytes: plain, with --json, and with --expect and the run's own lines. With --top the N functions
+that cost most by themselves follow, for each load and program.
 """
 
 from __future__ import annotations
@@ -32,6 +32,8 @@ LOADS = {
     "churn of processes": scenarios.of_one(scenarios.forks_and_exits),
     "attach, wait, detach": scenarios.of_one(scenarios.attach_cycles),
     "the same beside 248 tracees": scenarios.of_one(scenarios.attach_among_tracees),
+    "the same after 8,000 ended processes": scenarios.of_one(scenarios.attaches_after_ends),
+    "the same beside 63 full users": scenarios.attaches_beside_full_users,
     "chains of debuggers that end": scenarios.of_one(scenarios.chains_that_end),
     "forks that are followed": scenarios.of_one(scenarios.fork_events),
     "system calls that are handled": scenarios.of_one(scenarios.handled_calls),
@@ -40,6 +42,7 @@ LOADS = {
     "lists of 64 users": scenarios.spawns_and_lists,
     "rules and sets": scenarios.of_one(scenarios.installs),
     "only parsing": scenarios.refusals,
+    "300 steps of forks that are followed": scenarios.short(scenarios.of_one(scenarios.fork_events)),
     "churn with one escape": scenarios.of_one(scenarios.forks_and_exits),
     "only parsing, with escapes": scenarios.refusals,
 }
@@ -109,7 +112,7 @@ def part(functions: Functions, patterns: Iterable[str]) -> Optional[int]:
 
 
 def millions(count: Optional[int]) -> str:
-    return "-" if count is None else f"{count / 1e6:.1f}"
+    return "-" if count is None else f"{count / 1e6:.2f}"
 
 
 def peaks(program: str, scenario: str, room: str) -> list[str]:

@@ -174,6 +174,32 @@ def attach_among_tracees(user: int, tracees: int = 248) -> Iterator[Step]:
     yield from attaches(user, debugger, tracee)
 
 
+def attaches_after_ends(user: int, ended: int = 8000) -> Iterator[Step]:
+    """A debugger attaches to a process, waits for it and detaches, after so many others have come and gone."""
+    numbers = Numbers(user)
+    debugger, _ = numbers.process()
+    yield spawn(user)
+    for first in range(0, ended, 249):
+        others = [numbers.process() for _ in range(min(249, ended - first))]
+        yield from (spawn(user) for _ in others)
+        yield {"user": user, "op": "kill", "caller": debugger, "which": -1, "signal": 9}
+        for pid, tid in others:
+            numbers.gone(pid, tid)
+    tracee, _ = numbers.process()
+    yield spawn(user)
+    yield from attaches(user, debugger, tracee)
+
+
+def full_users(users: Iterable[int]) -> list[Step]:
+    """Each of these users gets as many processes as a user may have."""
+    return [spawn(user) for user in users for _ in range(250)]
+
+
+def attaches_beside_full_users(length: int) -> list[Step]:
+    """A debugger attaches to a process, waits for it and detaches, beside 63 full users."""
+    return list(itertools.islice(itertools.chain(full_users(USERS[1:]), attach_cycles(USERS[0])), length))
+
+
 def fork_events(user: int) -> Iterator[Step]:
     """A debugger follows forks: it asks about each stop, and lets the child go, which exits."""
     numbers = Numbers(user)
@@ -235,6 +261,11 @@ def of_one(make: Source) -> Load:
         return [next(source) for _ in range(length)]
 
     return steps
+
+
+def short(load: Load) -> Load:
+    """The same load in 300 steps, of which the program's start is a part that counts."""
+    return lambda length: load(min(length, 300))
 
 
 def side_by_side(make: Source) -> Load:

@@ -1,16 +1,18 @@
 //! Names and numbers: signals, events, flags, calls, requests.
 
-pub const TRAP: u32 = 5;
-pub const KILL: u32 = 9;
-pub const STOP: u32 = 17;
-pub const CONT: u32 = 19;
-pub const CHLD: u32 = 20;
+use crate::scanning::Scanner;
+
+pub const TRAP: u8 = 5;
+pub const KILL: u8 = 9;
+pub const STOP: u8 = 17;
+pub const CONT: u8 = 19;
+pub const CHLD: u8 = 20;
 pub const LAST_SIGNAL: u32 = 31;
 
 /// A set of signals: a bit for each number.
 pub type Signals = u32;
 
-pub const fn bit(signal: u32) -> Signals {
+pub const fn bit(signal: u8) -> Signals {
     1 << signal
 }
 
@@ -35,40 +37,65 @@ pub const EXITED: u16 = 64;
 pub const VFORKED: u16 = 128;
 pub const VFORK_DONE: u16 = 256;
 
-pub const FLAGS: [&str; 9] = [
-    "PL_FLAG_SCE",
-    "PL_FLAG_SCX",
-    "PL_FLAG_EXEC",
-    "PL_FLAG_FORKED",
-    "PL_FLAG_CHILD",
-    "PL_FLAG_BORN",
-    "PL_FLAG_EXITED",
-    "PL_FLAG_VFORKED",
-    "PL_FLAG_VFORK_DONE",
-];
-
-pub const EVENTS: [&str; 6] = [
-    "PTRACE_EXEC",
-    "PTRACE_SCE",
-    "PTRACE_SCX",
-    "PTRACE_FORK",
-    "PTRACE_LWP",
-    "PTRACE_VFORK",
-];
-
 pub const WUNTRACED: u8 = 1;
 pub const WCONTINUED: u8 = 2;
 
+/// A value that texts name.
+pub trait Named: Sized {
+    /// The value of a whole name.
+    fn of(name: &[u8]) -> Option<Self>;
+
+    /// The value whose name and closing quote come next.
+    fn next(text: &mut Scanner<'_>) -> Option<Self>;
+}
+
+/// Names of a type's values behind what they have in common; those that are used most come first.
+macro_rules! named {
+    ($kind:ty, $common:literal: $($name:literal => $value:expr,)*) => {
+        impl Named for $kind {
+            fn of(name: &[u8]) -> Option<Self> {
+                match name {
+                    $(_ if name == concat!($common, $name).as_bytes() => Some($value),)*
+                    _ => None,
+                }
+            }
+
+            #[inline(always)]
+            fn next(text: &mut Scanner<'_>) -> Option<Self> {
+                text.take($common)?;
+                $(if text.skips(concat!($name, "\"")) {
+                    return Some($value);
+                })*
+                None
+            }
+        }
+    };
+}
+
 #[derive(Clone, Copy, PartialEq, Eq)]
+#[repr(u8)]
 pub enum Call {
     Fork,
     Vfork,
     Exec,
     ThrNew,
     ThrExit,
-    Exit(u32),
+    Exit(u8),
     Other(u32),
 }
+
+// one with a code has the code 0 here
+named!(Call, "":
+    "fork" => Call::Fork,
+    "exit" => Call::Exit(0),
+    "other" => Call::Other(0),
+    "thr_new" => Call::ThrNew,
+    "thr_exit" => Call::ThrExit,
+    "vfork" => Call::Vfork,
+    "exec" => Call::Exec,
+);
+
+pub const THR_NEW: u32 = 455;
 
 impl Call {
     /// The code that a stop of the call reports.
@@ -79,8 +106,17 @@ impl Call {
             Call::Exec => 59,
             Call::Vfork => 66,
             Call::ThrExit => 431,
-            Call::ThrNew => 455,
+            Call::ThrNew => THR_NEW,
             Call::Other(code) => code,
+        }
+    }
+
+    /// The call of the same name, with this code.
+    pub fn with_code(self, code: u32) -> Option<Call> {
+        match self {
+            Call::Exit(_) => Some(Call::Exit(u8::try_from(code).ok()?)),
+            Call::Other(_) => Some(Call::Other(code)),
+            _ => None,
         }
     }
 }
@@ -107,6 +143,27 @@ pub enum Request {
     GetLwpList,
 }
 
+named!(Request, "PT_":
+    "ATTACH" => Request::Attach,
+    "CONTINUE" => Request::Continue,
+    "DETACH" => Request::Detach,
+    "LWPINFO" => Request::LwpInfo,
+    "STEP" => Request::Step,
+    "SYSCALL" => Request::Syscall,
+    "TO_SCE" => Request::ToSce,
+    "TO_SCX" => Request::ToScx,
+    "KILL" => Request::Kill,
+    "SUSPEND" => Request::Suspend,
+    "RESUME" => Request::Resume,
+    "GETNUMLWPS" => Request::GetNumLwps,
+    "GETLWPLIST" => Request::GetLwpList,
+    "TRACE_ME" => Request::TraceMe,
+    "SET_EVENT_MASK" => Request::SetEventMask,
+    "GET_EVENT_MASK" => Request::GetEventMask,
+    "FOLLOW_FORK" => Request::FollowFork,
+    "LWP_EVENTS" => Request::LwpEvents,
+);
+
 #[derive(Clone, Copy, PartialEq, Eq)]
 pub enum Decision {
     Decline,
@@ -116,12 +173,66 @@ pub enum Decision {
     Kill,
 }
 
+named!(Decision, "":
+    "continue" => Decision::Continue,
+    "decline" => Decision::Decline,
+    "leave" => Decision::Leave,
+    "detach" => Decision::Detach,
+    "kill" => Decision::Kill,
+);
+
 #[derive(Clone, Copy, PartialEq, Eq)]
 pub enum Action {
     Default,
     Ignore,
     Catch,
 }
+
+named!(Action, "":
+    "ignore" => Action::Ignore,
+    "catch" => Action::Catch,
+    "default" => Action::Default,
+);
+
+/// Flags of a stop, as bits.
+#[derive(Clone, Copy)]
+pub struct Flags(pub u16);
+
+named!(Flags, "PL_FLAG_":
+    "SCX" => Flags(SCX),
+    "SCE" => Flags(SCE),
+    "FORKED" => Flags(FORKED),
+    "CHILD" => Flags(CHILD),
+    "EXEC" => Flags(EXEC),
+    "BORN" => Flags(BORN),
+    "EXITED" => Flags(EXITED),
+    "VFORKED" => Flags(VFORKED),
+    "VFORK_DONE" => Flags(VFORK_DONE),
+);
+
+/// Events that stop a tracee, as bits.
+#[derive(Clone, Copy)]
+pub struct Events(pub u8);
+
+named!(Events, "PTRACE_":
+    "FORK" => Events(ON_FORK),
+    "SCX" => Events(ON_EXIT),
+    "SCE" => Events(ON_ENTRY),
+    "SYSCALL" => Events(ON_ENTRY | ON_EXIT),
+    "EXEC" => Events(ON_EXEC),
+    "LWP" => Events(ON_LWP),
+    "VFORK" => Events(ON_VFORK),
+);
+
+/// Options of wait4(2), as bits.
+#[derive(Clone, Copy)]
+pub struct Options(pub u8);
+
+named!(Options, "W":
+    "NOHANG" => Options(0),
+    "UNTRACED" => Options(WUNTRACED),
+    "CONTINUED" => Options(WCONTINUED),
+);
 
 #[derive(Clone, Copy, PartialEq, Eq)]
 pub enum Error {
@@ -133,15 +244,25 @@ pub enum Error {
     Again,
 }
 
-impl Error {
-    pub fn words(self) -> &'static str {
-        match self {
-            Error::Perm => " error EPERM 1\n",
-            Error::Srch => " error ESRCH 3\n",
-            Error::Child => " error ECHILD 10\n",
-            Error::Busy => " error EBUSY 16\n",
-            Error::Inval => " error EINVAL 22\n",
-            Error::Again => " error EAGAIN 35\n",
-        }
+/// A set that an array of names spells.
+pub trait Bits: Named {
+    fn bits(self) -> u32;
+}
+
+impl Bits for Flags {
+    fn bits(self) -> u32 {
+        u32::from(self.0)
+    }
+}
+
+impl Bits for Events {
+    fn bits(self) -> u32 {
+        u32::from(self.0)
+    }
+}
+
+impl Bits for Options {
+    fn bits(self) -> u32 {
+        u32::from(self.0)
     }
 }

@@ -1,19 +1,21 @@
 //! Scenarios out of texts. A text that isn't one is refused without a reason.
 
-use crate::names::{
-    bit, Action, Call, Decision, Request, Signals, EVENTS, FLAGS, ON_ENTRY, ON_EXIT, WCONTINUED, WUNTRACED,
-};
+use crate::names::{bit, Action, Bits, Call, Decision, Events, Flags, Named, Options, Request, Signals};
+use crate::plain::{self, a_signal, user_place};
 use crate::rows::Rule;
-use crate::scanning::{named, Scanner, Text, WIDTH};
-use crate::steps::{Act, Step};
+use crate::scanning::{Padded, Scanner};
+use crate::steps::{Act, Step, Which, MOST_RULES};
 
 const LONGEST_TEXT: usize = 4_194_304;
 const MOST_STEPS: usize = 100_000;
-const MOST_RULES: usize = 16;
+/// In so many arrays and objects is the value of a step's key, and of a rule's.
+const STEP_DEPTH: usize = 3;
+const RULE_DEPTH: usize = 5;
 
 pub struct Scenario {
     pub kills_tracees: bool,
-    pub steps: Vec<(u32, Step)>,
+    /// Each with the place of its user.
+    pub steps: Vec<(u8, Step)>,
     pub rules: Vec<Rule>,
 }
 
@@ -43,17 +45,32 @@ enum Key {
     Pass,
 }
 
-fn key_named(text: &Text<'_>) -> Option<Key> {
-    named!(
-        text,
-        2: "op" => Key::Op;
-        3: "lwp" => Key::Lwp, "act" => Key::Act, "set" => Key::Set;
-        4: "user" => Key::User, "data" => Key::Data, "call" => Key::Call, "code" => Key::Code, "mask" => Key::Mask, "pass" => Key::Pass;
-        5: "which" => Key::Which, "rules" => Key::Rules, "flags" => Key::Flags;
-        6: "caller" => Key::Caller, "target" => Key::Target, "signal" => Key::Signal, "action" => Key::Action;
-        7: "request" => Key::Request, "options" => Key::Options;
-        8: "decision" => Key::Decision;
-    )
+impl Key {
+    fn of(name: &[u8]) -> Option<Key> {
+        Some(match name {
+            b"user" => Key::User,
+            b"op" => Key::Op,
+            b"caller" => Key::Caller,
+            b"lwp" => Key::Lwp,
+            b"act" => Key::Act,
+            b"which" => Key::Which,
+            b"request" => Key::Request,
+            b"target" => Key::Target,
+            b"data" => Key::Data,
+            b"call" => Key::Call,
+            b"code" => Key::Code,
+            b"signal" => Key::Signal,
+            b"options" => Key::Options,
+            b"action" => Key::Action,
+            b"rules" => Key::Rules,
+            b"set" => Key::Set,
+            b"mask" => Key::Mask,
+            b"flags" => Key::Flags,
+            b"decision" => Key::Decision,
+            b"pass" => Key::Pass,
+            _ => return None,
+        })
+    }
 }
 
 #[derive(Clone, Copy)]
@@ -69,31 +86,24 @@ enum Op {
     Turn,
 }
 
-fn op_named(text: &Text<'_>) -> Option<Op> {
-    named!(
-        text,
-        4: "kill" => Op::Kill, "list" => Op::List, "turn" => Op::Turn;
-        5: "spawn" => Op::Spawn, "wait4" => Op::Wait;
-        6: "ptrace" => Op::Ptrace, "handle" => Op::Handle;
-        7: "install" => Op::Install;
-        9: "sigaction" => Op::Sigaction;
-    )
+impl Op {
+    fn of(name: &[u8]) -> Option<Op> {
+        Some(match name {
+            b"spawn" => Op::Spawn,
+            b"ptrace" => Op::Ptrace,
+            b"wait4" => Op::Wait,
+            b"kill" => Op::Kill,
+            b"sigaction" => Op::Sigaction,
+            b"list" => Op::List,
+            b"install" => Op::Install,
+            b"handle" => Op::Handle,
+            b"turn" => Op::Turn,
+            _ => return None,
+        })
+    }
 }
 
-fn request_named(text: &Text<'_>) -> Option<Request> {
-    named!(
-        text,
-        7: "PT_STEP" => Request::Step, "PT_KILL" => Request::Kill;
-        9: "PT_ATTACH" => Request::Attach, "PT_TO_SCE" => Request::ToSce, "PT_TO_SCX" => Request::ToScx, "PT_DETACH" => Request::Detach, "PT_RESUME" => Request::Resume;
-        10: "PT_SYSCALL" => Request::Syscall, "PT_SUSPEND" => Request::Suspend, "PT_LWPINFO" => Request::LwpInfo;
-        11: "PT_TRACE_ME" => Request::TraceMe, "PT_CONTINUE" => Request::Continue;
-        13: "PT_LWP_EVENTS" => Request::LwpEvents, "PT_GETNUMLWPS" => Request::GetNumLwps, "PT_GETLWPLIST" => Request::GetLwpList;
-        14: "PT_FOLLOW_FORK" => Request::FollowFork;
-        17: "PT_SET_EVENT_MASK" => Request::SetEventMask, "PT_GET_EVENT_MASK" => Request::GetEventMask;
-    )
-}
-
-#[derive(Clone, Copy, PartialEq, Eq)]
+#[derive(Clone, Copy)]
 enum ActKind {
     Compute,
     Raise,
@@ -102,70 +112,25 @@ enum ActKind {
     Leave,
 }
 
-fn act_named(text: &Text<'_>) -> Option<ActKind> {
-    named!(
-        text,
-        5: "raise" => ActKind::Raise, "block" => ActKind::Block, "enter" => ActKind::Enter, "leave" => ActKind::Leave;
-        7: "compute" => ActKind::Compute;
-    )
-}
-
-/// The call of a name. One with a code has the code 0.
-fn call_named(text: &Text<'_>) -> Option<Call> {
-    named!(
-        text,
-        4: "exit" => Call::Exit(0), "fork" => Call::Fork, "exec" => Call::Exec;
-        5: "vfork" => Call::Vfork, "other" => Call::Other(0);
-        7: "thr_new" => Call::ThrNew;
-        8: "thr_exit" => Call::ThrExit;
-    )
-}
-
-fn action_named(text: &Text<'_>) -> Option<Action> {
-    named!(
-        text,
-        5: "catch" => Action::Catch;
-        6: "ignore" => Action::Ignore;
-        7: "default" => Action::Default;
-    )
-}
-
-fn decision_named(text: &Text<'_>) -> Option<Decision> {
-    named!(
-        text,
-        4: "kill" => Decision::Kill;
-        5: "leave" => Decision::Leave;
-        6: "detach" => Decision::Detach;
-        7: "decline" => Decision::Decline;
-        8: "continue" => Decision::Continue;
-    )
-}
-
-fn option_named(text: &Text<'_>) -> Option<u32> {
-    named!(
-        text,
-        7: "WNOHANG" => 0;
-        9: "WUNTRACED" => u32::from(WUNTRACED);
-        10: "WCONTINUED" => u32::from(WCONTINUED);
-    )
-}
-
-fn event_named(text: &Text<'_>) -> Option<u32> {
-    if text.bytes == b"PTRACE_SYSCALL" {
-        return Some(u32::from(ON_ENTRY | ON_EXIT));
+impl ActKind {
+    fn of(name: &[u8]) -> Option<ActKind> {
+        Some(match name {
+            b"compute" => ActKind::Compute,
+            b"raise" => ActKind::Raise,
+            b"block" => ActKind::Block,
+            b"enter" => ActKind::Enter,
+            b"leave" => ActKind::Leave,
+            _ => return None,
+        })
     }
-    Some(1 << EVENTS.iter().position(|event| event.as_bytes() == text.bytes)?)
-}
-
-fn flag_named(text: &Text<'_>) -> Option<u32> {
-    Some(1 << FLAGS.iter().position(|flag| flag.as_bytes() == text.bytes)?)
 }
 
 /// The members of a step or a rule. Of a key that comes twice the last value counts.
-#[derive(Clone, Copy)]
 struct Members {
     /// The keys that are there, and not yet used.
     left: u32,
+    /// The keys whose last value is none that they may have.
+    wrong: u32,
     user: i64,
     caller: i64,
     lwp: i64,
@@ -188,6 +153,7 @@ struct Members {
 
 const NO_MEMBERS: Members = Members {
     left: 0,
+    wrong: 0,
     user: 0,
     caller: 0,
     lwp: 0,
@@ -212,13 +178,40 @@ fn word(value: i64) -> Option<u32> {
 }
 
 impl Members {
+    /// Reads the value of a key.
+    #[inline]
+    fn value(&mut self, key: Key, text: &mut Scanner<'_>, rules: Option<&mut Vec<Rule>>) -> Option<()> {
+        match key {
+            Key::User => self.user = text.number()?,
+            Key::Op => self.op = Op::of(text.name()?.bytes())?,
+            Key::Caller => self.caller = text.number()?,
+            Key::Lwp => self.lwp = text.number()?,
+            Key::Act => self.act = ActKind::of(text.name()?.bytes())?,
+            Key::Which => self.which = text.number()?,
+            Key::Request => self.request = Request::of(text.name()?.bytes())?,
+            Key::Target => self.target = text.number()?,
+            Key::Data => self.data = text.number()?,
+            Key::Call => self.call = Call::of(text.name()?.bytes())?,
+            Key::Code => self.code = text.number()?,
+            Key::Signal => self.signal = text.number()?,
+            Key::Options => self.bits = bits::<Options>(text)?,
+            Key::Action => self.action = Action::of(text.name()?.bytes())?,
+            Key::Rules => self.rules = policy(text, rules?)?,
+            Key::Set => self.bits = signals(text)?,
+            Key::Mask => self.bits = bits::<Events>(text)?,
+            Key::Flags => self.bits = bits::<Flags>(text)?,
+            Key::Decision => self.decision = Decision::of(text.name()?.bytes())?,
+            Key::Pass => self.pass = text.number()?,
+        }
+        Some(())
+    }
+
     fn has(&mut self, key: Key) -> bool {
         let was = self.left;
         self.left &= !(1 << key as u8);
         was != self.left
     }
 
-    #[inline]
     fn need(&mut self, key: Key) -> Option<()> {
         self.has(key).then_some(())
     }
@@ -233,10 +226,16 @@ impl Members {
         word(self.signal)
     }
 
-    fn step(&mut self) -> Option<(u32, Step)> {
+    /// All numbers that are no process's are alike to wait4(2) and kill(2), if they have one sign.
+    fn which(&mut self) -> Option<Which> {
+        self.need(Key::Which)?;
+        Some(self.which.clamp(Which::MIN.into(), Which::MAX.into()) as Which)
+    }
+
+    fn step(&mut self) -> Option<(u8, Step)> {
         self.need(Key::User)?;
         self.need(Key::Op)?;
-        let user = word(self.user).filter(|user| (1001..=1064).contains(user))?;
+        let user = user_place(word(self.user)?)?;
         let step = match self.op {
             Op::Spawn => Step::Spawn,
             Op::Turn => self.turn()?,
@@ -250,38 +249,25 @@ impl Members {
         let caller = self.caller()?;
         Some(match op {
             Op::Wait => {
-                self.need(Key::Which)?;
+                let which = self.which()?;
                 let options = if self.has(Key::Options) { self.bits as u8 } else { 0 };
-                Step::Wait {
-                    caller,
-                    which: self.which,
-                    options,
-                }
+                Step::Wait { caller, which, options }
             }
             Op::Kill => {
-                self.need(Key::Which)?;
-                Step::Kill {
-                    caller,
-                    which: self.which,
-                    signal: self.signal()?,
-                }
+                let which = self.which()?;
+                let signal = self.signal()?;
+                Step::Kill { caller, which, signal }
             }
             Op::Sigaction => {
                 let signal = self.signal()?;
                 self.need(Key::Action)?;
-                Step::Sigaction {
-                    caller,
-                    signal,
-                    action: self.action,
-                }
+                let action = self.action;
+                Step::Sigaction { caller, signal, action }
             }
             Op::Install => {
                 self.need(Key::Rules)?;
-                Step::Install {
-                    caller,
-                    first: self.rules.0,
-                    end: self.rules.1,
-                }
+                let (first, end) = self.rules;
+                Step::Install { caller, first, end }
             }
             Op::List => Step::List { caller },
             Op::Handle => Step::Handle { caller },
@@ -315,6 +301,7 @@ impl Members {
     fn turn(&mut self) -> Option<Step> {
         self.need(Key::Lwp)?;
         self.need(Key::Act)?;
+        let lwp = word(self.lwp)?;
         let act = match self.act {
             ActKind::Compute => Act::Compute,
             ActKind::Leave => Act::Leave,
@@ -328,10 +315,7 @@ impl Members {
                 Act::Enter(self.entered()?)
             }
         };
-        Some(Step::Turn {
-            lwp: word(self.lwp)?,
-            act,
-        })
+        Some(Step::Turn { lwp, act })
     }
 
     fn entered(&mut self) -> Option<Call> {
@@ -339,16 +323,12 @@ impl Members {
             return Some(self.call);
         }
         self.need(Key::Code)?;
-        let code = word(self.code)?;
-        if let Call::Other(_) = self.call {
-            return Some(Call::Other(code));
-        }
-        (code < 256).then_some(Call::Exit(code))
+        self.call.with_code(word(self.code)?)
     }
 
     fn rule(&mut self) -> Option<Rule> {
         let signal = if self.has(Key::Signal) {
-            word(self.signal).filter(|signal| (1..=31).contains(signal))?
+            a_signal(word(self.signal)?)?
         } else {
             0
         };
@@ -356,7 +336,7 @@ impl Members {
         self.need(Key::Decision)?;
         let passes = matches!(self.decision, Decision::Continue | Decision::Detach);
         let pass = if passes && self.has(Key::Pass) {
-            word(self.pass).filter(|pass| *pass <= 31)?
+            u8::try_from(self.pass).ok().filter(|pass| *pass <= 31)?
         } else {
             0
         };
@@ -370,116 +350,126 @@ impl Members {
 }
 
 /// Reads an array of names into the bits that they name.
-fn bits(scanner: &mut Scanner<'_>, bit_of: fn(&Text<'_>) -> Option<u32>) -> Option<u32> {
+fn bits<B: Bits>(text: &mut Scanner<'_>) -> Option<u32> {
     let mut set = 0;
-    let mut goes_on = scanner.opens(b'[', b']')?;
+    let mut goes_on = text.opens(b'[', b']')?;
     while goes_on {
-        set |= bit_of(&scanner.string()?)?;
-        goes_on = scanner.goes_on(b']')?;
+        set |= B::of(text.name()?.bytes())?.bits();
+        goes_on = text.goes_on(b']')?;
     }
     Some(set)
 }
 
-fn signals(scanner: &mut Scanner<'_>) -> Option<Signals> {
+fn signals(text: &mut Scanner<'_>) -> Option<Signals> {
     let mut set = 0;
-    let mut goes_on = scanner.opens(b'[', b']')?;
+    let mut goes_on = text.opens(b'[', b']')?;
     while goes_on {
-        let signal = scanner.number().filter(|signal| (1..=31).contains(signal))?;
-        set |= bit(signal as u32);
-        goes_on = scanner.goes_on(b']')?;
+        set |= bit(a_signal(word(text.number()?)?)?);
+        goes_on = text.goes_on(b']')?;
     }
     Some(set)
 }
 
-fn rules(scanner: &mut Scanner<'_>, rules: &mut Vec<Rule>) -> Option<(u32, u32)> {
+fn policy(text: &mut Scanner<'_>, rules: &mut Vec<Rule>) -> Option<(u32, u32)> {
     let first = rules.len();
-    let mut goes_on = scanner.opens(b'[', b']')?;
+    let mut goes_on = text.opens(b'[', b']')?;
     while goes_on {
-        let rule = members(scanner, rules)?.rule()?;
-        rules.push(rule);
-        goes_on = scanner.goes_on(b']')?;
+        rules.push(members(text, None)?.rule()?);
+        goes_on = text.goes_on(b']')?;
     }
     (rules.len() - first <= MOST_RULES).then_some((first as u32, rules.len() as u32))
 }
 
-/// Reads an object of a step or a rule.
-#[inline]
-fn members(scanner: &mut Scanner<'_>, all: &mut Vec<Rule>) -> Option<Members> {
+/// Reads an object of a step, or of a rule, which has no rules itself.
+fn members(text: &mut Scanner<'_>, mut rules: Option<&mut Vec<Rule>>) -> Option<Members> {
+    let depth = if rules.is_some() { STEP_DEPTH } else { RULE_DEPTH };
     let mut read = NO_MEMBERS;
-    let mut goes_on = scanner.opens(b'{', b'}')?;
+    let mut goes_on = text.opens(b'{', b'}')?;
     while goes_on {
-        let key = key_named(&scanner.string()?)?;
-        scanner.expect(b':')?;
-        match key {
-            Key::User => read.user = scanner.number()?,
-            Key::Op => read.op = op_named(&scanner.string()?)?,
-            Key::Caller => read.caller = scanner.number()?,
-            Key::Lwp => read.lwp = scanner.number()?,
-            Key::Act => read.act = act_named(&scanner.string()?)?,
-            Key::Which => read.which = scanner.number()?,
-            Key::Request => read.request = request_named(&scanner.string()?)?,
-            Key::Target => read.target = scanner.number()?,
-            Key::Data => read.data = scanner.number()?,
-            Key::Call => read.call = call_named(&scanner.string()?)?,
-            Key::Code => read.code = scanner.number()?,
-            Key::Signal => read.signal = scanner.number()?,
-            Key::Options => read.bits = bits(scanner, option_named)?,
-            Key::Action => read.action = action_named(&scanner.string()?)?,
-            Key::Rules => read.rules = rules(scanner, all)?,
-            Key::Set => read.bits = signals(scanner)?,
-            Key::Mask => read.bits = bits(scanner, event_named)?,
-            Key::Flags => read.bits = bits(scanner, flag_named)?,
-            Key::Decision => read.decision = decision_named(&scanner.string()?)?,
-            Key::Pass => read.pass = scanner.number()?,
-        }
+        let key = Key::of(text.name()?.bytes())?;
+        text.expect(b':')?;
+        let start = text.place();
         read.left |= 1 << key as u8;
-        goes_on = scanner.goes_on(b'}')?;
+        read.wrong &= !(1 << key as u8);
+        if read.value(key, text, rules.as_deref_mut()).is_none() {
+            read.wrong |= 1 << key as u8;
+            text.back_to(start);
+            text.skip_value(depth)?;
+        }
+        goes_on = text.goes_on(b'}')?;
     }
-    Some(read)
+    (read.wrong == 0).then_some(read)
 }
 
-fn steps(scanner: &mut Scanner<'_>, scenario: &mut Scenario) -> Option<()> {
+/// A step that isn't written as programs write it.
+#[cold]
+fn any_step(text: &mut Scanner<'_>, rules: &mut Vec<Rule>) -> Option<(u8, Step)> {
+    members(text, Some(rules))?.step()
+}
+
+fn steps(text: &mut Scanner<'_>, scenario: &mut Scenario) -> Option<()> {
     scenario.steps.clear();
-    let mut goes_on = scanner.opens(b'[', b']')?;
+    let mut goes_on = text.opens(b'[', b']')?;
     while goes_on {
-        let step = members(scanner, &mut scenario.rules)?.step()?;
+        let (start, rules) = (text.place(), scenario.rules.len());
+        let step = match plain::step(text, &mut scenario.rules) {
+            Some(step) => step,
+            None => {
+                text.back_to(start);
+                scenario.rules.truncate(rules);
+                any_step(text, &mut scenario.rules)?
+            }
+        };
         scenario.steps.push(step);
-        goes_on = scanner.goes_on(b']')?;
+        goes_on = text.goes_on(b']')?;
     }
     (scenario.steps.len() <= MOST_STEPS).then_some(())
 }
 
-pub fn read(mut bytes: Vec<u8>) -> Option<Scenario> {
-    if bytes.len() > LONGEST_TEXT || std::str::from_utf8(&bytes).is_err() {
+fn setting(text: &mut Scanner<'_>, scenario: &mut Scenario) -> Option<()> {
+    scenario.kills_tracees = match text.number()? {
+        0 => false,
+        1 => true,
+        _ => return None,
+    };
+    Some(())
+}
+
+pub fn read(bytes: Vec<u8>) -> Option<Scenario> {
+    if bytes.len() > LONGEST_TEXT {
         return None;
     }
+    let text = Padded::new(bytes);
     let mut scenario = Scenario {
         kills_tracees: true,
-        steps: Vec::with_capacity(bytes.len() / 64),
+        steps: Vec::with_capacity(text.length() / 64),
         rules: Vec::new(),
     };
-    bytes.resize(bytes.len() + WIDTH, 0);
-    let mut scanner = Scanner::new(&bytes);
-    let mut has_steps = false;
-    let mut goes_on = scanner.opens(b'{', b'}')?;
+    let mut text = Scanner::new(&text);
+    let (mut has_steps, mut has_wrong_steps, mut has_wrong_setting) = (false, false, false);
+    let mut goes_on = text.opens(b'{', b'}')?;
     while goes_on {
-        match scanner.string()?.bytes {
+        let key = text.name()?;
+        text.expect(b':')?;
+        let start = text.place();
+        let is_wrong = match key.bytes() {
             b"steps" => {
-                scanner.expect(b':')?;
-                steps(&mut scanner, &mut scenario)?;
                 has_steps = true;
+                has_wrong_steps = steps(&mut text, &mut scenario).is_none();
+                has_wrong_steps
             }
             b"kill_on_debugger_exit" => {
-                scanner.expect(b':')?;
-                scenario.kills_tracees = match scanner.number()? {
-                    0 => false,
-                    1 => true,
-                    _ => return None,
-                };
+                has_wrong_setting = setting(&mut text, &mut scenario).is_none();
+                has_wrong_setting
             }
             _ => return None,
+        };
+        if is_wrong {
+            text.back_to(start);
+            text.skip_value(1)?;
         }
-        goes_on = scanner.goes_on(b'}')?;
+        goes_on = text.goes_on(b'}')?;
     }
-    (has_steps && scanner.is_at_end()).then_some(scenario)
+    let is_right = has_steps && !has_wrong_steps && !has_wrong_setting;
+    (is_right && text.is_at_end()).then_some(scenario)
 }

@@ -1,107 +1,125 @@
 //! Requests of ptrace(2).
 
 use crate::names::{Error, Request, KILL, LAST_SIGNAL, ON_ENTRY, ON_EXIT, ON_FORK, ON_LWP, STOP};
-use crate::rows::{State, Stop, Table};
-use crate::steps::Reply;
+use crate::rows::{LwpSlot, ProcessSlot, State, Stop, NOBODY};
+use crate::tables::Table;
+use crate::text::Lines;
 
 const LAST_PROCESS: u32 = 99_999;
 
 impl Table {
-    pub fn ptrace(&mut self, caller: usize, request: Request, target: u32, data: u32) -> Result<Reply, Error> {
-        if request == Request::TraceMe {
-            return self.trace_me(caller);
+    #[inline(always)]
+    pub fn ptrace(
+        &mut self,
+        caller: ProcessSlot,
+        request: Request,
+        target: u32,
+        data: u32,
+        lines: &mut Lines<'_>,
+    ) -> Result<(), Error> {
+        match request {
+            Request::TraceMe => self.trace_me(caller)?,
+            Request::Attach => {
+                let (target, _) = self.find_target(target).ok_or(Error::Srch)?;
+                self.attach(caller, target)?;
+            }
+            _ => {
+                let (target, named) = self.find_target(target).ok_or(Error::Srch)?;
+                let reporting = self.reporting(target, caller)?;
+                return self.request(target, named.unwrap_or(reporting), request, data, lines);
+            }
         }
-        let (target, named) = self.find_target(target).ok_or(Error::Srch)?;
-        if request == Request::Attach {
-            return self.attach(caller, target);
+        lines.ok();
+        Ok(())
+    }
+
+    /// The LWP that reports a tracee's stop, which a wait has collected.
+    #[inline(always)]
+    fn reporting(&self, p: ProcessSlot, debugger: ProcessSlot) -> Result<LwpSlot, Error> {
+        let row = &self.processes[p];
+        match row.state {
+            State::Trace { lwp, seen: true, .. } if row.tracer == debugger => Ok(lwp),
+            _ if row.tracer == NOBODY => Err(Error::Perm),
+            _ => Err(Error::Busy),
         }
-        let row = &self.processes[target];
-        if row.tracer == 0 {
-            return Err(Error::Perm);
-        }
-        let (lwp, true) = (match row.state {
-            State::Trace { lwp, seen, .. } => (lwp, seen && row.tracer == self.processes[caller].number),
-            _ => (0, false),
-        }) else {
-            return Err(Error::Busy);
-        };
-        let lwp = match named {
-            Some(l) => l,
-            None => self.find_lwp(lwp).ok_or(Error::Srch)?,
-        };
-        self.request(target, lwp, request, data)
     }
 
     /// The live process that a number means, and its LWP if the number names one.
-    fn find_target(&self, number: u32) -> Option<(usize, Option<usize>)> {
-        let lwp = if number > LAST_PROCESS {
-            self.find_lwp(number)
+    #[inline(always)]
+    fn find_target(&self, number: u32) -> Option<(ProcessSlot, Option<LwpSlot>)> {
+        let (p, lwp) = if number > LAST_PROCESS {
+            let l = self.find_lwp(number)?;
+            (self.lwps[l].process, Some(l))
         } else {
-            None
-        };
-        let p = match lwp {
-            Some(l) => self.lwps[l].process as usize,
-            None => self.find(number)?,
+            (self.find(number)?, None)
         };
         (!matches!(self.processes[p].state, State::Zombie { .. })).then_some((p, lwp))
     }
 
     /// Whether a process traces another, directly or through others.
-    fn traces(&self, debugger: u32, number: u32) -> bool {
-        let mut at = self.find(number);
-        while let Some(p) = at {
-            let tracer = self.processes[p].tracer;
-            if tracer == debugger {
+    #[inline(always)]
+    fn traces(&self, debugger: ProcessSlot, p: ProcessSlot) -> bool {
+        if self.processes[debugger].tracees == NOBODY {
+            return false;
+        }
+        let mut at = p;
+        while at != NOBODY {
+            at = self.processes[at].tracer;
+            if at == debugger {
                 return true;
             }
-            at = self.find(tracer);
         }
         false
     }
 
-    fn trace_me(&mut self, caller: usize) -> Result<Reply, Error> {
+    fn trace_me(&mut self, caller: ProcessSlot) -> Result<(), Error> {
         let row = &self.processes[caller];
-        let (number, parent) = (row.number, row.parent);
-        if row.tracer != 0 {
+        let parent = row.parent;
+        if row.tracer != NOBODY {
             return Err(Error::Busy);
         }
-        if parent == 1 {
+        if parent == NOBODY {
             return Err(Error::Perm);
         }
-        if self.traces(number, parent) {
+        if self.traces(caller, parent) {
             return Err(Error::Inval);
         }
         self.trace(caller, parent);
-        Ok(Reply::Ok)
+        Ok(())
     }
 
-    fn attach(&mut self, caller: usize, target: usize) -> Result<Reply, Error> {
-        let (debugger, number) = (self.processes[caller].number, self.processes[target].number);
+    #[inline(always)]
+    fn attach(&mut self, caller: ProcessSlot, target: ProcessSlot) -> Result<(), Error> {
         if caller == target {
             return Err(Error::Inval);
         }
-        if self.processes[target].tracer != 0 {
+        if self.processes[target].tracer != NOBODY {
             return Err(Error::Busy);
         }
-        if self.traces(number, debugger) {
+        if self.traces(target, caller) {
             return Err(Error::Inval);
         }
-        self.trace(target, debugger);
-        let first = self.processes[target].first as usize;
-        self.trace_stop(
-            first,
-            Stop {
-                signal: STOP,
-                flags: 0,
-                child: 0,
-                code: 0,
-            },
-        );
-        Ok(Reply::Ok)
+        self.trace(target, caller);
+        let stop = Stop {
+            signal: STOP,
+            flags: 0,
+            child: 0,
+            code: 0,
+        };
+        self.trace_stop(self.processes[target].first, stop);
+        Ok(())
     }
 
     /// A request about a tracee in a stop that was reported.
-    fn request(&mut self, p: usize, l: usize, request: Request, data: u32) -> Result<Reply, Error> {
+    #[inline(always)]
+    fn request(
+        &mut self,
+        p: ProcessSlot,
+        l: LwpSlot,
+        request: Request,
+        data: u32,
+        lines: &mut Lines<'_>,
+    ) -> Result<(), Error> {
         match request {
             Request::Continue
             | Request::Step
@@ -112,9 +130,12 @@ impl Table {
                 if data > LAST_SIGNAL {
                     return Err(Error::Inval);
                 }
-                self.pass_on(p, l, request, data);
+                self.pass_on(p, l, request, data as u8);
             }
-            Request::Kill => self.end(p, KILL),
+            Request::LwpInfo | Request::GetEventMask | Request::GetNumLwps | Request::GetLwpList => {
+                return self.tell(p, l, request, data, lines);
+            }
+            Request::Kill => self.end(p, KILL.into()),
             Request::Suspend => {
                 self.lwps[l].suspended = true;
                 self.processes[p].odd = true;
@@ -123,39 +144,46 @@ impl Table {
             Request::SetEventMask => self.processes[p].mask = data as u8,
             Request::FollowFork => self.switch(p, ON_FORK, data),
             Request::LwpEvents => self.switch(p, ON_LWP, data),
-            Request::GetEventMask => return Ok(Reply::Mask(self.processes[p].mask)),
-            Request::GetNumLwps => return Ok(Reply::Number(u32::from(self.processes[p].lwps))),
-            Request::GetLwpList => {
-                return if data == 0 {
-                    Err(Error::Inval)
-                } else {
-                    Ok(Reply::Lwps(p, data))
-                };
-            }
-            Request::LwpInfo => return Ok(Reply::Info(p, l)),
             Request::TraceMe | Request::Attach => {}
         }
-        Ok(Reply::Ok)
+        lines.ok();
+        Ok(())
     }
 
-    fn switch(&mut self, p: usize, event: u8, data: u32) {
-        let row = &mut self.processes[p];
-        row.mask = if data != 0 { row.mask | event } else { row.mask & !event };
-    }
-
-    fn pass_on(&mut self, p: usize, l: usize, request: Request, data: u32) {
+    /// What a tracee is asked about.
+    fn tell(
+        &self,
+        p: ProcessSlot,
+        l: LwpSlot,
+        request: Request,
+        most: u32,
+        lines: &mut Lines<'_>,
+    ) -> Result<(), Error> {
         match request {
-            Request::Detach => return self.detach(p, data),
-            Request::ToSce => self.processes[p].mask |= ON_ENTRY,
-            Request::ToScx => self.processes[p].mask |= ON_EXIT,
-            Request::Syscall => self.processes[p].mask |= ON_ENTRY | ON_EXIT,
-            _ => {}
+            Request::GetLwpList if most == 0 => return Err(Error::Inval),
+            Request::GetLwpList => lines.lwps(self, p, most),
+            Request::GetEventMask => lines.mask(self.processes[p].mask),
+            Request::GetNumLwps => lines.count(self.processes[p].lwps),
+            _ => lines.info(self, l),
         }
-        let stepping = if request == Request::Step {
-            self.lwps[l].number
-        } else {
-            0
+        Ok(())
+    }
+
+    fn switch(&mut self, p: ProcessSlot, event: u8, data: u32) {
+        let mask = &mut self.processes[p].mask;
+        *mask = if data != 0 { *mask | event } else { *mask & !event };
+    }
+
+    #[inline(always)]
+    fn pass_on(&mut self, p: ProcessSlot, l: LwpSlot, request: Request, signal: u8) {
+        let events = match request {
+            Request::Detach => return self.detach(p, signal),
+            Request::ToSce => ON_ENTRY,
+            Request::ToScx => ON_EXIT,
+            Request::Syscall => ON_ENTRY | ON_EXIT,
+            _ => 0,
         };
-        self.carry_on(p, data, stepping);
+        self.processes[p].mask |= events;
+        self.carry_on(p, signal, (request == Request::Step).then_some(l));
     }
 }

@@ -4,115 +4,198 @@ use std::arch::x86_64::{
     __m128i, _mm_cmpeq_epi8, _mm_loadu_si128, _mm_max_epu8, _mm_movemask_epi8, _mm_or_si128, _mm_set1_epi8,
 };
 
-/// The bytes that are read at a time, and that follow the text.
-pub const WIDTH: usize = 16;
+/// The bytes of 0 that follow each text, and the most bytes that are read at a time.
+const PADDING: usize = 32;
+/// More bytes than a name has.
+const LONGEST_NAME: usize = 24;
+/// So many bytes of a name are looked at at a time.
+const WIDTH: usize = 16;
 
-/// A string without its escapes. `packed` is its bytes as a number if they are at most 16, and else 0.
-pub struct Text<'a> {
-    pub packed: u128,
-    pub bytes: &'a [u8],
-}
+/// A text that `PADDING` bytes of 0 follow.
+pub struct Padded(Vec<u8>);
 
-/// The bytes as a number, and 0 if they are more than 16.
-pub const fn packed(bytes: &[u8]) -> u128 {
-    let mut packed = 0;
-    let mut place = if bytes.len() > WIDTH { 0 } else { bytes.len() };
-    while place > 0 {
-        place -= 1;
-        packed = packed << 8 | bytes[place] as u128;
+impl Padded {
+    pub fn new(mut text: Vec<u8>) -> Padded {
+        text.resize(text.len() + PADDING, 0);
+        Padded(text)
     }
-    packed
-}
 
-/// The value of the name that a text is. Names of one length are in one group, which begins with the length.
-macro_rules! named {
-    ($text:expr, $($length:literal: $($name:literal => $value:expr),*;)*) => {{
-        let text = $text;
-        match text.bytes.len() {
-            $($length => {
-                $(
-                    const { assert!($name.len() == $length) };
-                    if const { $length <= 8 } {
-                        if text.packed as u64 == const { $crate::scanning::packed($name.as_bytes()) as u64 } {
-                            return Some($value);
-                        }
-                    } else if const { $length <= 16 } {
-                        if text.packed == const { $crate::scanning::packed($name.as_bytes()) } {
-                            return Some($value);
-                        }
-                    } else if text.bytes == $name.as_bytes() {
-                        return Some($value);
-                    }
-                )*
-                None
-            })*
-            _ => None,
-        }
-    }};
-}
-pub(crate) use named;
-
-pub struct Scanner<'a> {
-    /// The text, and `WIDTH` bytes of 0.
-    text: &'a [u8],
-    at: usize,
-    /// The last string that had an escape.
-    unescaped: Vec<u8>,
-}
-
-impl Text<'_> {
-    fn of(bytes: &[u8]) -> Text<'_> {
-        Text {
-            packed: packed(bytes),
-            bytes,
-        }
+    pub fn length(&self) -> usize {
+        self.0.len() - PADDING
     }
 }
 
-/// Of 16 bytes the first that ends the plain part of a string: a quote, a backslash or a control character.
+/// A string that may be a name: one that isn't too long, without its escapes.
+pub struct Name {
+    bytes: [u8; LONGEST_NAME + WIDTH],
+    length: usize,
+}
+
+impl Name {
+    pub fn bytes(&self) -> &[u8] {
+        &self.bytes[..self.length]
+    }
+
+    /// Adds the first ones of these bytes, unless there are too many then.
+    #[inline]
+    fn push(&mut self, bytes: &[u8; WIDTH], count: usize) -> Option<()> {
+        *self.bytes.get_mut(self.length..)?.first_chunk_mut()? = *bytes;
+        self.length += count;
+        (self.length <= LONGEST_NAME).then_some(())
+    }
+}
+
+/// The place of the first byte that is not of the plain part of a string: a quote, a backslash or a control character.
 #[inline]
-fn first_special(sixteen: &[u8; WIDTH]) -> u32 {
+fn first_special(bytes: &[u8; WIDTH]) -> usize {
     // SAFETY: sixteen bytes can be read, and each x86-64 has SSE2
     unsafe {
-        let bytes = _mm_loadu_si128(sixteen.as_ptr().cast::<__m128i>());
+        let bytes = _mm_loadu_si128(bytes.as_ptr().cast::<__m128i>());
         let quote = _mm_cmpeq_epi8(bytes, _mm_set1_epi8(b'"' as i8));
         let backslash = _mm_cmpeq_epi8(bytes, _mm_set1_epi8(b'\\' as i8));
         let last = _mm_set1_epi8(0x1f);
         let control = _mm_cmpeq_epi8(_mm_max_epu8(bytes, last), last);
-        (_mm_movemask_epi8(_mm_or_si128(_mm_or_si128(quote, backslash), control)) as u32 | 1 << WIDTH).trailing_zeros()
+        let special = _mm_movemask_epi8(_mm_or_si128(_mm_or_si128(quote, backslash), control));
+        (special as u32 | 1 << WIDTH).trailing_zeros() as usize
     }
 }
 
+/// A place in a text. It never passes a byte of 0, so `PADDING` bytes can always be read from it.
+pub struct Scanner<'a> {
+    text: &'a Padded,
+    at: usize,
+}
+
 impl<'a> Scanner<'a> {
-    /// A scanner of a text that `WIDTH` bytes of 0 follow.
-    pub fn new(padded: &'a [u8]) -> Scanner<'a> {
-        Scanner {
-            text: padded,
-            at: 0,
-            unescaped: Vec::new(),
-        }
+    pub fn new(text: &'a Padded) -> Scanner<'a> {
+        Scanner { text, at: 0 }
     }
 
+    #[inline(always)]
+    fn next<const COUNT: usize>(&self) -> [u8; COUNT] {
+        const { assert!(COUNT <= PADDING) };
+        // SAFETY: no byte of 0 has been passed, and PADDING of them are at the end
+        unsafe { self.text.0.as_ptr().add(self.at).cast::<[u8; COUNT]>().read() }
+    }
+
+    #[inline(always)]
+    fn byte(&self) -> u8 {
+        let [byte] = self.next();
+        byte
+    }
+
+    // What programs write: nothing between two tokens, and no escapes
+
+    /// Whether these bytes come next. None of them is 0.
+    #[inline(always)]
+    fn has(&self, bytes: &'static str) -> bool {
+        debug_assert!(bytes.len() <= PADDING && !bytes.as_bytes().contains(&0));
+        // SAFETY: as in `next`
+        let next = unsafe { std::slice::from_raw_parts(self.text.0.as_ptr().add(self.at), bytes.len()) };
+        next == bytes.as_bytes()
+    }
+
+    /// Passes these bytes if they come next.
+    #[inline(always)]
+    pub fn skips(&mut self, bytes: &'static str) -> bool {
+        if !self.has(bytes) {
+            return false;
+        }
+        self.at += bytes.len();
+        true
+    }
+
+    #[inline(always)]
+    pub fn take(&mut self, bytes: &'static str) -> Option<()> {
+        if !self.has(bytes) {
+            return None;
+        }
+        self.at += bytes.len();
+        Some(())
+    }
+
+    /// A number of at most seven digits: eight bytes are read as one number, whose pairs are joined again and again.
+    #[inline(always)]
+    pub fn digits(&mut self) -> Option<u32> {
+        let digits = u64::from_le_bytes(self.next()) ^ 0x3030_3030_3030_3030;
+        let others = (digits.wrapping_add(0x7676_7676_7676_7676) | digits) & 0x8080_8080_8080_8080;
+        let bits = others.trailing_zeros() & !7;
+        if bits == 0 || bits == 64 || digits & 0xff == 0 && bits > 8 {
+            return None;
+        }
+        self.at += (bits / 8) as usize;
+        let ones = digits << (64 - bits);
+        let pairs = (ones.wrapping_mul(10) + (ones >> 8)) & 0x00ff_00ff_00ff_00ff;
+        let fours = (pairs.wrapping_mul(100) + (pairs >> 16)) & 0x0000_ffff_0000_ffff;
+        Some((fours.wrapping_mul(10_000) + (fours >> 32)) as u32)
+    }
+
+    /// Two digits, of which the first may be 0.
+    #[inline(always)]
+    pub fn two_digits(&mut self) -> Option<u32> {
+        let [tens, ones] = self.next().map(|byte: u8| u32::from(byte.wrapping_sub(b'0')));
+        if tens > 9 || ones > 9 {
+            return None;
+        }
+        self.at += 2;
+        Some(tens * 10 + ones)
+    }
+
+    /// A number of one or two digits.
+    #[inline(always)]
+    pub fn small_number(&mut self) -> Option<u32> {
+        let [first, second] = self.next().map(|byte: u8| u32::from(byte.wrapping_sub(b'0')));
+        if first > 9 || first == 0 && second <= 9 {
+            return None;
+        }
+        self.at += 1;
+        if second > 9 {
+            return Some(first);
+        }
+        self.at += 1;
+        Some(first * 10 + second)
+    }
+
+    // Any text
+
+    pub fn place(&self) -> usize {
+        self.at
+    }
+
+    /// Goes back to a place that the scanner has passed.
+    pub fn back_to(&mut self, place: usize) {
+        assert!(place <= self.at);
+        self.at = place;
+    }
+
+    /// The bytes from a place that the scanner has passed.
+    pub fn passed_since(&self, place: usize) -> &[u8] {
+        &self.text.0[place..self.at]
+    }
+
+    /// Takes the next byte if it isn't 0 and is one of these.
     #[inline]
-    fn sixteen(&self, at: usize) -> Option<&[u8; WIDTH]> {
-        self.text.get(at..at + WIDTH)?.try_into().ok()
+    pub fn next_if(&mut self, is_one: impl Fn(u8) -> bool) -> Option<u8> {
+        let byte = self.byte();
+        if byte == 0 || !is_one(byte) {
+            return None;
+        }
+        self.at += 1;
+        Some(byte)
     }
 
     /// The next byte that is no space.
     #[inline]
-    pub fn peek(&mut self) -> Option<u8> {
-        loop {
-            let byte = *self.text.get(self.at)?;
-            if !matches!(byte, b' ' | b'\n' | b'\t' | b'\r') {
-                return Some(byte);
-            }
+    pub fn peek(&mut self) -> u8 {
+        while matches!(self.byte(), b' ' | b'\n' | b'\t' | b'\r') {
             self.at += 1;
         }
+        self.byte()
     }
 
     #[inline]
     pub fn expect(&mut self, byte: u8) -> Option<()> {
-        if self.text.get(self.at) != Some(&byte) && self.peek()? != byte {
+        if self.peek() != byte {
             return None;
         }
         self.at += 1;
@@ -122,24 +205,22 @@ impl<'a> Scanner<'a> {
     /// Takes a comma, or the end of an array or an object, and tells whether it was a comma.
     #[inline]
     pub fn goes_on(&mut self, end: u8) -> Option<bool> {
-        if self.text.get(self.at) == Some(&b',') {
-            self.at += 1;
-            return Some(true);
+        let mut byte = self.byte();
+        if byte != b',' {
+            byte = self.peek();
         }
-        let byte = self.peek()?;
+        if byte != b',' && byte != end {
+            return None;
+        }
         self.at += 1;
-        if byte == b',' {
-            Some(true)
-        } else {
-            (byte == end).then_some(false)
-        }
+        Some(byte == b',')
     }
 
     /// Opens an array or an object, and tells whether it has anything.
     #[inline]
     pub fn opens(&mut self, begin: u8, end: u8) -> Option<bool> {
         self.expect(begin)?;
-        if self.peek()? == end {
+        if self.peek() == end {
             self.at += 1;
             return Some(false);
         }
@@ -147,123 +228,61 @@ impl<'a> Scanner<'a> {
     }
 
     pub fn is_at_end(&mut self) -> bool {
-        self.peek() == Some(0) && self.at + WIDTH == self.text.len()
+        self.peek() == 0 && self.at == self.text.length()
     }
 
-    /// A string, without its escapes.
-    #[inline]
-    pub fn string(&mut self) -> Option<Text<'_>> {
+    /// A string that may be a name.
+    pub fn name(&mut self) -> Option<Name> {
         self.expect(b'"')?;
-        let start = self.at;
-        let sixteen = self.sixteen(start)?;
-        let plain = first_special(sixteen);
-        if sixteen.get(plain as usize) != Some(&b'"') {
-            return self.long_string(start);
-        }
-        let packed = u128::from_le_bytes(*sixteen) & !(u128::MAX << (plain * 8));
-        self.at += plain as usize + 1;
-        Some(Text {
-            packed,
-            bytes: &self.text[start..self.at - 1],
-        })
-    }
-
-    /// A string of 16 bytes or more, or with an escape.
-    #[cold]
-    fn long_string(&mut self, start: usize) -> Option<Text<'_>> {
+        let mut name = Name {
+            bytes: [0; LONGEST_NAME + WIDTH],
+            length: 0,
+        };
         loop {
-            self.at += first_special(self.sixteen(self.at)?) as usize;
-            match *self.text.get(self.at)? {
+            let bytes = self.next();
+            let plain = first_special(&bytes);
+            name.push(&bytes, plain)?;
+            self.at += plain;
+            match self.byte() {
                 b'"' => {
                     self.at += 1;
-                    return Some(Text::of(&self.text[start..self.at - 1]));
+                    return Some(name);
                 }
-                b'\\' => return self.escaped(start),
-                byte if byte < 0x20 => return None,
+                b'\\' => {
+                    let byte = self.escape()?;
+                    name.push(&[byte; WIDTH], 1)?;
+                }
+                0..=0x1f => return None,
                 _ => {}
             }
         }
     }
 
-    /// A string whose first escape is here.
-    fn escaped(&mut self, start: usize) -> Option<Text<'_>> {
-        self.unescaped.clear();
-        self.unescaped.extend_from_slice(&self.text[start..self.at]);
-        loop {
-            let byte = *self.text.get(self.at)?;
-            self.at += 1;
-            match byte {
-                b'"' => return Some(Text::of(&self.unescaped)),
-                b'\\' => self.escape()?,
-                byte if byte < 0x20 => return None,
-                _ => self.unescaped.push(byte),
-            }
-        }
-    }
-
-    fn escape(&mut self) -> Option<()> {
-        let byte = *self.text.get(self.at)?;
-        self.at += 1;
-        let plain = match byte {
-            b'"' | b'\\' | b'/' => byte,
-            b'b' => 8,
-            b'f' => 12,
-            b'n' => b'\n',
-            b'r' => b'\r',
-            b't' => b'\t',
-            b'u' => {
-                let first = self.hex()?;
-                let code = if (0xd800..0xdc00).contains(&first) {
-                    if self.text.get(self.at..self.at + 2)? != b"\\u" {
-                        return None;
-                    }
-                    self.at += 2;
-                    let second = self.hex()?;
-                    0x10000 + ((first - 0xd800) << 10) + second.checked_sub(0xdc00).filter(|low| *low < 0x400)?
-                } else {
-                    first
-                };
-                let mut room = [0; 4];
-                let text = char::from_u32(code)?.encode_utf8(&mut room);
-                self.unescaped.extend_from_slice(text.as_bytes());
-                return Some(());
-            }
-            _ => return None,
+    /// The escape of a letter, a digit or a `_`: other escapes are in no name.
+    fn escape(&mut self) -> Option<u8> {
+        let [b'\\', b'u', b'0', b'0', high, low] = self.next() else {
+            return None;
         };
-        self.unescaped.push(plain);
-        Some(())
-    }
-
-    fn hex(&mut self) -> Option<u32> {
-        let digits = self.text.get(self.at..self.at + 4)?;
-        self.at += 4;
-        digits
-            .iter()
-            .try_fold(0, |code, digit| Some(code * 16 + char::from(*digit).to_digit(16)?))
+        let digit = |byte: u8| char::from(byte).to_digit(16);
+        let byte = (digit(high)? * 16 + digit(low)?) as u8;
+        self.at += 6;
+        Some(byte)
     }
 
     /// A whole number of 64 bits.
     #[inline]
     pub fn number(&mut self) -> Option<i64> {
-        let is_negative = self.peek()? == b'-';
+        let is_negative = self.peek() == b'-';
         self.at += usize::from(is_negative);
         let start = self.at;
+        let has_zero = self.byte() == b'0';
         let mut value: u64 = 0;
-        while let Some(digit) = self
-            .text
-            .get(self.at)
-            .map(|byte| byte.wrapping_sub(b'0'))
-            .filter(|digit| *digit < 10)
-        {
-            value = value.checked_mul(10)?.checked_add(u64::from(digit))?;
+        while self.byte().is_ascii_digit() {
+            value = value.checked_mul(10)?.checked_add(u64::from(self.byte() - b'0'))?;
             self.at += 1;
         }
         let length = self.at - start;
-        let has_zero = self.text.get(start) == Some(&b'0');
-        if length == 0
-            || has_zero && (length > 1 || is_negative)
-            || matches!(self.text.get(self.at), Some(b'.' | b'e' | b'E'))
-        {
+        if length == 0 || has_zero && (length > 1 || is_negative) || matches!(self.byte(), b'.' | b'e' | b'E') {
             return None;
         }
         if is_negative {

@@ -1,237 +1,269 @@
 //! Turns of LWPs: stops that are due, signals that are met, acts, and the work of system calls.
 
 use crate::names::{
-    bit, Call, Error, BORN, CHILD, EXEC, EXITED, FORKED, KILL, LAST_SIGNAL, ON_ENTRY, ON_EXEC, ON_EXIT, ON_FORK,
+    bit, Call, Error, Signals, CHILD, EXEC, EXITED, FORKED, KILL, LAST_SIGNAL, ON_ENTRY, ON_EXEC, ON_EXIT, ON_FORK,
     ON_LWP, SCE, SCX, STOP, TRAP, UNBLOCKABLE, VFORKED,
 };
-use crate::rows::{Mode, State, Stop, Table, MOST_LWPS, MOST_PROCESSES, NONE};
-use crate::rules::{action, Action};
-use crate::steps::{Act, Reply};
+use crate::rows::{Due, LwpSlot, Mode, ProcessSlot, State, Stop, NOBODY, NO_LWP};
+use crate::rules::{effect, Effect};
+use crate::steps::Act;
+use crate::tables::Table;
+use crate::text::Lines;
+
+type Done = Result<(), Error>;
+
+/// What a call has made: an LWP, of a new process or of its own.
+type Made = Option<LwpSlot>;
 
 impl Table {
-    pub fn has_room(&self, for_process: bool) -> bool {
-        !(for_process && self.process_count() >= MOST_PROCESSES) && self.lwp_count() < MOST_LWPS
-    }
-
-    pub fn turn(&mut self, number: u32, act: &Act) -> Reply {
-        let Some(l) = self.find_lwp(number) else {
-            return Reply::Error(Error::Srch);
-        };
-        let lwp = self.lwps[l];
-        let p = lwp.process as usize;
+    #[inline(always)]
+    pub fn turn(&mut self, number: u32, act: Act, lines: &mut Lines<'_>) -> Done {
+        let l = self.find_lwp(number).ok_or(Error::Srch)?;
+        let lwp = &self.lwps[l];
+        let p = lwp.process;
         let process = &self.processes[p];
-        if process.state != State::Run || lwp.suspended || matches!(lwp.mode, Mode::VforkWait(_)) {
-            return Reply::Held;
+        if process.state != State::Run || lwp.suspended || lwp.mode == Mode::VforkWait {
+            lines.held();
+            return Ok(());
         }
-        if let Some(stop) = lwp.due {
-            self.lwps[l].due = None;
-            return self.stops(l, stop);
+        if lwp.due != Due::Nothing {
+            self.stop_that_is_due(l, lines);
+            return Ok(());
         }
-        match lwp.mode {
-            Mode::InCall(call) => match act {
-                Act::Leave => self.leave(p, l, call),
-                _ => Reply::Error(Error::Inval),
-            },
-            _ => {
-                let met = (lwp.pending | process.pending) & !lwp.blocked;
-                if met != 0 {
-                    return self.meet(p, l, met.trailing_zeros());
-                }
-                self.user_act(p, l, act)
-            }
+        if lwp.mode == Mode::InCall {
+            return match act {
+                Act::Leave => self.leave(p, l, lwp.call, lines),
+                _ => Err(Error::Inval),
+            };
         }
+        let met = (lwp.pending | process.pending) & !lwp.blocked;
+        if met != 0 {
+            self.meet(p, l, met.trailing_zeros() as u8, lines);
+            return Ok(());
+        }
+        match act {
+            Act::Enter(call) => self.enter(p, l, call, lines),
+            Act::Leave => return Err(Error::Inval),
+            Act::Compute => self.compute(p, l, lines),
+            Act::Raise(signal) => return self.raise(p, l, signal, lines),
+            Act::Block(set) => self.block(l, set, lines),
+        }
+        Ok(())
     }
 
-    fn stops(&mut self, l: usize, stop: Stop) -> Reply {
+    fn stops(&mut self, l: LwpSlot, stop: Stop, lines: &mut Lines<'_>) {
         self.trace_stop(l, stop);
-        Reply::Stopped(self.lwps[l].number, stop.signal, stop.flags)
+        lines.stopped(self.lwps[l].text, stop.signal, stop.flags);
+    }
+
+    fn stop_that_is_due(&mut self, l: LwpSlot, lines: &mut Lines<'_>) {
+        let due = std::mem::replace(&mut self.lwps[l].due, Due::Nothing);
+        self.stops(l, due.stop(), lines);
     }
 
     /// The LWP meets a pending signal, its own before one of its process.
-    fn meet(&mut self, p: usize, l: usize, signal: u32) -> Reply {
+    fn meet(&mut self, p: ProcessSlot, l: LwpSlot, signal: u8, lines: &mut Lines<'_>) {
         let lwp = &mut self.lwps[l];
-        let number = lwp.number;
+        let text = lwp.text;
+        let process = &mut self.processes[p];
         if lwp.pending & bit(signal) != 0 {
             lwp.pending &= !bit(signal);
         } else {
-            self.processes[p].pending &= !bit(signal);
+            process.pending &= !bit(signal);
         }
-        let process = &self.processes[p];
-        if process.tracer != 0 {
-            return self.stops(l, plain(signal, 0, 0));
+        if process.tracer != NOBODY {
+            return self.stops(l, plain(signal, 0, 0), lines);
         }
-        match action(process, signal) {
-            Action::Catch => Reply::Caught(signal),
-            Action::Stop => {
+        match effect(process, signal) {
+            Effect::Catch => lines.caught(signal),
+            Effect::Stop => {
                 self.job_stop(p, signal);
-                Reply::Stopped(number, signal, 0)
+                lines.stopped(text, signal, 0);
             }
-            Action::Nothing | Action::End => {
-                self.end(p, signal);
-                Reply::Ended(signal)
+            Effect::Nothing | Effect::End => {
+                self.end(p, signal.into());
+                lines.ended(signal.into());
             }
         }
     }
 
-    fn user_act(&mut self, p: usize, l: usize, act: &Act) -> Reply {
-        match *act {
-            Act::Compute => {
-                let process = &mut self.processes[p];
-                if process.stepping != self.lwps[l].number {
-                    return Reply::Ok;
-                }
-                process.stepping = 0;
-                self.stops(l, plain(TRAP, 0, 0))
-            }
-            Act::Raise(signal) => {
-                if signal == 0 || signal > LAST_SIGNAL {
-                    return Reply::Error(Error::Inval);
-                }
-                self.post(p, signal, Some(l));
-                if signal == KILL {
-                    Reply::Ended(KILL)
-                } else {
-                    Reply::Ok
-                }
-            }
-            Act::Block(set) => {
-                self.lwps[l].blocked = set & !UNBLOCKABLE;
-                Reply::Ok
-            }
-            Act::Enter(call) => {
-                self.lwps[l].mode = Mode::InCall(call);
-                if self.processes[p].mask & ON_ENTRY == 0 {
-                    return Reply::Ok;
-                }
-                self.stops(l, plain(TRAP, SCE, call.code()))
-            }
-            Act::Leave => Reply::Error(Error::Inval),
+    #[inline]
+    fn enter(&mut self, p: ProcessSlot, l: LwpSlot, call: Call, lines: &mut Lines<'_>) {
+        let lwp = &mut self.lwps[l];
+        lwp.mode = Mode::InCall;
+        lwp.call = call;
+        if self.processes[p].mask & ON_ENTRY == 0 {
+            lines.ok();
+        } else {
+            self.stops(l, plain(TRAP, SCE, call.code()), lines);
         }
+    }
+
+    fn compute(&mut self, p: ProcessSlot, l: LwpSlot, lines: &mut Lines<'_>) {
+        let process = &mut self.processes[p];
+        if process.stepping != l {
+            return lines.ok();
+        }
+        process.stepping = NO_LWP;
+        self.stops(l, plain(TRAP, 0, 0), lines);
+    }
+
+    fn raise(&mut self, p: ProcessSlot, l: LwpSlot, signal: u32, lines: &mut Lines<'_>) -> Done {
+        if signal == 0 || signal > LAST_SIGNAL {
+            return Err(Error::Inval);
+        }
+        self.post(p, signal as u8, Some(l));
+        if signal as u8 == KILL {
+            lines.ended(KILL.into());
+        } else {
+            lines.ok();
+        }
+        Ok(())
+    }
+
+    fn block(&mut self, l: LwpSlot, set: Signals, lines: &mut Lines<'_>) {
+        self.lwps[l].blocked = set & !UNBLOCKABLE;
+        lines.ok();
     }
 
     /// Does the work of a call, and then stops at its exit if the tracer wants that.
-    fn leave(&mut self, p: usize, l: usize, call: Call) -> Reply {
+    #[inline(always)]
+    fn leave(&mut self, p: ProcessSlot, l: LwpSlot, call: Call, lines: &mut Lines<'_>) -> Done {
         match call {
+            Call::Fork | Call::Vfork => return self.leave_fork(p, l, call, lines),
+            Call::ThrNew => return self.leave_thr_new(p, l, lines),
+            Call::ThrExit => self.leave_thr_exit(p, l, lines),
             Call::Exit(status) => {
-                self.end(p, status * 256);
-                Reply::Ended(status * 256)
+                let word = u16::from(status) * 256;
+                self.end(p, word);
+                lines.ended(word);
             }
-            Call::ThrExit => self.leave_thr_exit(p, l),
-            Call::Fork | Call::Vfork => self.leave_fork(p, l, call),
-            Call::ThrNew => self.leave_thr_new(p, l, call),
             Call::Exec => {
                 self.execute(p, l);
-                self.exit_of_call(p, l, call, ON_EXEC, EXEC, None)
+                self.exit_of_call(p, l, call, (ON_EXEC, EXEC), None, lines);
             }
             Call::Other(_) => {
                 self.lwps[l].mode = Mode::User;
-                self.exit_of_call(p, l, call, 0, 0, None)
+                self.exit_of_call(p, l, call, (0, 0), None, lines);
             }
         }
+        Ok(())
     }
 
-    /// The stop of a call's exit, with its flags under its event, or under PTRACE_SCX; without one the call's answer.
+    /// The stop of a call's exit, under its event with its flags, or under PTRACE_SCX; without one the call's answer.
+    #[inline]
     fn exit_of_call(
         &mut self,
-        p: usize,
-        l: usize,
+        p: ProcessSlot,
+        l: LwpSlot,
         call: Call,
-        event: u8,
-        flags: u16,
-        made: Option<(u32, u32)>,
-    ) -> Reply {
+        event: (u8, u16),
+        made: Made,
+        lines: &mut Lines<'_>,
+    ) {
         let mask = self.processes[p].mask;
+        let (event, flags) = event;
         let (flags, child) = if event & mask != 0 {
-            (flags, made.map_or(0, |new| new.0))
+            (flags | SCX, made.map_or(0, |new| self.pid(self.lwps[new].process)))
         } else if mask & ON_EXIT != 0 {
-            (0, 0)
+            (SCX, 0)
         } else {
-            return made.map_or(Reply::Ok, |new| Reply::New(new.0, new.1));
+            return match made {
+                Some(new) => {
+                    let lwp = &self.lwps[new];
+                    lines.made(&self.texts, self.processes[lwp.process].text, lwp.text);
+                }
+                None => lines.ok(),
+            };
         };
-        self.stops(
-            l,
-            Stop {
-                child,
-                ..plain(TRAP, flags | SCX, call.code())
-            },
-        )
+        let stop = Stop {
+            child,
+            ..plain(TRAP, flags, call.code())
+        };
+        self.stops(l, stop, lines);
     }
 
-    fn leave_thr_exit(&mut self, p: usize, l: usize) -> Reply {
-        if self.processes[p].lwps == 1 {
+    fn leave_thr_exit(&mut self, p: ProcessSlot, l: LwpSlot, lines: &mut Lines<'_>) {
+        let process = &self.processes[p];
+        if process.lwps == 1 {
             self.end(p, 0);
-            return Reply::Ended(0);
+            lines.ended(0);
+        } else if process.mask & ON_LWP != 0 {
+            self.stops(l, plain(TRAP, EXITED, 0), lines);
+        } else {
+            self.remove_lwp(l);
+            lines.ok();
         }
-        if self.processes[p].mask & ON_LWP != 0 {
-            return self.stops(l, plain(TRAP, EXITED, 0));
-        }
-        self.remove_lwp(l);
-        Reply::Ok
     }
 
-    fn leave_thr_new(&mut self, p: usize, l: usize, call: Call) -> Reply {
+    fn leave_thr_new(&mut self, p: ProcessSlot, l: LwpSlot, lines: &mut Lines<'_>) -> Done {
         if !self.has_room(false) {
-            return Reply::Error(Error::Again);
+            return Err(Error::Again);
         }
         let mask = self.processes[p].mask;
         let due = if mask & ON_LWP != 0 {
-            Some(plain(TRAP, SCX | BORN, call.code()))
+            Due::Birth
         } else if mask & ON_EXIT != 0 {
-            Some(plain(TRAP, SCX, call.code()))
+            Due::FirstExit
         } else {
-            None
+            Due::Nothing
         };
         self.lwps[l].mode = Mode::User;
         let new = self.add_lwp(p, self.lwps[l].blocked, due);
-        let made = (self.processes[p].number, self.lwps[new].number);
-        self.exit_of_call(p, l, call, 0, 0, Some(made))
+        self.exit_of_call(p, l, Call::ThrNew, (0, 0), Some(new), lines);
+        Ok(())
     }
 
     /// Makes a child, which the tracer follows under PTRACE_FORK.
-    fn leave_fork(&mut self, p: usize, l: usize, call: Call) -> Reply {
+    fn leave_fork(&mut self, p: ProcessSlot, l: LwpSlot, call: Call, lines: &mut Lines<'_>) -> Done {
         if !self.has_room(true) {
-            return Reply::Error(Error::Again);
+            return Err(Error::Again);
         }
-        let parent = self.processes[p];
-        let child = self.add_process(parent.number);
-        let first = self.add_lwp(child, self.lwps[l].blocked, None);
+        let child = self.add_process(p);
+        let first = self.add_lwp(child, self.lwps[l].blocked, Due::Nothing);
+        let (ignored, caught) = (self.processes[p].ignored, self.processes[p].caught);
         let row = &mut self.processes[child];
-        row.ignored = parent.ignored;
-        row.caught = parent.caught;
-        let made = (row.number, self.lwps[first].number);
-        if parent.tracer != 0 && parent.mask & ON_FORK != 0 {
+        row.ignored = ignored;
+        row.caught = caught;
+        let parent = &self.processes[p];
+        if parent.tracer != NOBODY && parent.mask & ON_FORK != 0 {
             self.trace(child, parent.tracer);
             self.trace_stop(first, plain(STOP, SCX | CHILD, call.code()));
         }
+        let lwp = &mut self.lwps[l];
         let mut flags = FORKED;
-        self.lwps[l].mode = Mode::User;
+        lwp.mode = Mode::User;
         if call == Call::Vfork {
             flags |= VFORKED;
-            self.lwps[l].mode = Mode::VforkWait(made.0);
-            self.processes[child].waiter = self.lwps[l].number;
+            lwp.mode = Mode::VforkWait;
+            lwp.awaited = child;
+            self.processes[child].waiter = l;
         }
-        self.exit_of_call(p, l, call, ON_FORK, flags, Some(made))
+        self.exit_of_call(p, l, call, (ON_FORK, flags), Some(first), lines);
+        Ok(())
     }
 
     /// The LWP's process does an exec: a vfork of its maker is over.
-    fn execute(&mut self, p: usize, l: usize) {
+    fn execute(&mut self, p: ProcessSlot, l: LwpSlot) {
         let mut at = self.processes[p].first;
-        while at != NONE {
-            let next = self.lwps[at as usize].next;
-            if at as usize != l {
-                self.remove_lwp(at as usize);
+        while at != NO_LWP {
+            let next = self.lwps[at].next;
+            if at != l {
+                self.remove_lwp(at);
             }
             at = next;
         }
         self.release(p);
-        self.processes[p].caught = 0;
-        self.processes[p].lwp_pending = self.lwps[l].pending;
-        self.lwps[l].mode = Mode::User;
+        let lwp = &mut self.lwps[l];
+        lwp.mode = Mode::User;
+        let row = &mut self.processes[p];
+        row.caught = 0;
+        row.lwp_pending = lwp.pending;
         self.settle(p);
     }
 }
 
-fn plain(signal: u32, flags: u16, code: u32) -> Stop {
+fn plain(signal: u8, flags: u16, code: u32) -> Stop {
     Stop {
         signal,
         flags,
