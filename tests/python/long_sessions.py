@@ -21,15 +21,20 @@ def most_processes() -> str:
 """
 
 
-def most_lwps() -> str:
+def lwps_run_out() -> str:
+    """Process 1000 gets 1000 LWPs. The next one is refused, and so is another process."""
     births = "".join(
         f"turn 100000 enter thr_new -> ok\nturn 100000 leave -> new 1000 {tid}\n" for tid in range(100001, 100000 + LWPS)
     )
-    return f"""# A user has 1000 LWPs
-{spawns(1)}{births}turn 100000 enter thr_new -> ok
+    return f"""{spawns(1)}{births}turn 100000 enter thr_new -> ok
 turn 100000 leave -> error EAGAIN 35
 spawn -> error EAGAIN 35
-1002: spawn -> new 2000 104000
+"""
+
+
+def most_lwps() -> str:
+    return f"""# A user has 1000 LWPs
+{lwps_run_out()}1002: spawn -> new 2000 104000
 1002: turn 104000 compute -> ok
 """
 
@@ -51,22 +56,26 @@ handle 1000 -> handled 1001 4479 at 100001 signal=17 flags=none child=0 code=0 b
 """
 
 
-def chain() -> str:
+def chain_ends(data: str = "", others: str = "") -> str:
+    """Each process attaches to the next one, and continues it with this data. The first one ends, and so do all."""
     tracings = "".join(
         f"""ptrace {pid} PT_ATTACH {pid + 1} -> ok
 wait4 {pid} -1 -> status {pid + 1} 4479
-ptrace {pid} PT_CONTINUE {pid + 1} -> ok
+ptrace {pid} PT_CONTINUE {pid + 1}{data} -> ok
 """
         for pid in range(1000, 1000 + PROCESSES - 1)
     )
-    return f"""# A long chain of debuggers ends with its first one
-{spawns(PROCESSES)}{tracings}ptrace 1249 PT_ATTACH 1000 -> error EINVAL 22
+    return f"""{spawns(PROCESSES)}{others}{tracings}ptrace 1249 PT_ATTACH 1000 -> error EINVAL 22
 turn 100000 enter exit 0 -> ok
 turn 100000 leave -> ended 0
 turn 100249 compute -> error ESRCH 3
 spawn -> new 1250 100250
 list 1250 -> pids 1250
 """
+
+
+def chain() -> str:
+    return f"# A long chain of debuggers ends with its first one\n{chain_ends()}"
 
 
 def numbers_go_around() -> str:
