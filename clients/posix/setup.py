@@ -26,13 +26,18 @@ class BuildPackage(build_py):
         with tempfile.TemporaryDirectory() as room:
             subprocess.run(["make", "--silent", "-C", HERE, "install", f"DESTDIR={room}", "PREFIX=/usr"], check=True)
             shutil.copytree(pathlib.Path(room, "usr/lib/tracehost-posix"), package, dirs_exist_ok=True)
-        shutil.copy(TOP / "LICENSE", package)
+        for name in ("LICENSE", "THIRD-PARTY.txt"):  # the broker contains the library
+            shutil.copy(TOP / name, package)
+
+
+def answer_of(tool: str, *words: str) -> str:
+    return subprocess.run([TOP / "tools" / tool, *words], stdout=subprocess.PIPE, text=True, check=True).stdout.strip()
 
 
 BUILD.mkdir(exist_ok=True)
 setup(
-    version=subprocess.run([TOP / "tools/version"], stdout=subprocess.PIPE, text=True, check=True).stdout.strip(),
-    license="BSD-2-Clause",
+    version=answer_of("version"),
+    license=answer_of("licenses", "sum"),
     cmdclass={"build_py": BuildPackage},
     options={
         "build": {"build_base": str(BUILD / "wheel")},

@@ -61,13 +61,24 @@ void release_parent(struct process *p)
 	change(-p->parent);
 }
 
-/* The process that had this number of the host's. */
-const struct process *process_that_ended(int real)
+/* A process was collected: the host may give its number to another one. */
+void ended_in_host(int real, int status)
 {
-	for (size_t i = table.n_processes; i-- > 0;)
-		if (table.all_processes.at[i]->real == real && !table.all_processes.at[i]->live)
-			return table.all_processes.at[i];
-	return NULL;
+	for (size_t i = table.n_processes; i-- > 0;) {
+		struct process *p = table.all_processes.at[i];
+		if (p->real == real && !p->collected) {
+			p->collected = true, p->how = status;
+			return;
+		}
+	}
+}
+
+/* In the host they are children of the server's, who collects them now and then. */
+static void count_orphan(const struct process *p)
+{
+	enum { COLLECT_EACH = 16 };
+	if (p->parent == 1 && p != run.first && ++run.orphans % COLLECT_EACH == 0)
+		program_collect();
 }
 
 /* One that waits for a program without the runtime hears nothing. */
@@ -75,13 +86,13 @@ static void tell_end(struct process *p, struct lwp *exits)
 {
 	struct lwp *told = exits;
 	for (size_t i = 0; i < p->lists.lwps.count; i++)
-		if (p->lists.lwps.at[i]->foreign)
+		if (p->lists.lwps.at[i]->foreign && !p->collected)
 			kill(p->real, SIGKILL);
 	for (size_t i = p->lists.lwps.count; exits == NULL && i-- > 0;)
 		if (p->lists.lwps.at[i]->fd >= 0)
 			told = p->lists.lwps.at[i];
 	if (told != NULL && told->fd >= 0)
-		send(told->fd, exits != NULL ? "end" : "die", 3, MSG_NOSIGNAL);
+		send(told->fd, exits != NULL ? "end" : "die", 3, MSG_NOSIGNAL | MSG_DONTWAIT);
 }
 
 /* Ended in the model: now in the host. An LWP that `exits` runs its last handlers there. Its tracees end, or are let go. */
@@ -108,6 +119,7 @@ static void end_process(struct process *p, int status, struct lwp *exits)
 	reap(tracees.at, tracees.count, KILL);
 	free(tracees.at);
 	close_all_described(p);
+	count_orphan(p);
 }
 
 /* Processes that another's step may have ended: they are no callers any more. */

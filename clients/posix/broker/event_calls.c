@@ -105,7 +105,8 @@ BODY(news_call)
 			(long long)h->number, (long long)h->first, (long long)h->second);
 	}
 	lists->happened.count -= told;
-	memmove(lists->happened.at, lists->happened.at + told, lists->happened.count * sizeof lists->happened.at[0]);
+	if (told > 0)
+		memmove(lists->happened.at, lists->happened.at + told, lists->happened.count * sizeof lists->happened.at[0]);
 }
 
 /* In kevent(2), and nothing is active: no signal restarts it. */
@@ -136,7 +137,7 @@ BODY(undescribed)
 	int pid = arguments[0], place = find_described(p, pid);
 	(void)call;
 	if (place < 0)
-		broken("described %d %d", p->pid, pid);
+		foreign_question(l);
 	if (child != NULL && !p->lists.described.at[place].daemon && step_of_call(l, killing(p->pid, pid), true).kind == TRACEHOST_OK)
 		reap(&child, 1, KILL);
 	if (live_process(pid) == NULL) {

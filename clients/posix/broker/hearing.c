@@ -1,4 +1,5 @@
 /* What a thread says, and what it is answered. */
+#undef _FORTIFY_SOURCE /* whose longjmp(3) goes to no other stack */
 #include <errno.h>
 #include <string.h>
 #include <sys/socket.h>
@@ -11,15 +12,23 @@ static const double between_pokes = 0.1; /* seconds of its processor's time afte
 
 /* ---- messages */
 
+/* It wasn't sent. The runtime reads each answer before it asks again, so that there is always room. */
+static _Noreturn void unsent(const struct process *p)
+{
+	if (errno == EAGAIN)
+		broken("unread %d", p->pid);
+	gone(p);
+}
+
 static void send_line(struct lwp *l, const char *line)
 {
 	ssize_t sent;
 	touch_host();
 	do
-		sent = send(l->fd, line, strlen(line), MSG_NOSIGNAL);
+		sent = send(l->fd, line, strlen(line), MSG_NOSIGNAL | MSG_DONTWAIT);
 	while (sent < 0 && errno == EINTR);
 	if (sent < 0)
-		gone(l->process);
+		unsent(l->process);
 }
 
 static void send_socket(struct lwp *l, const char *line, struct lwp *born)
@@ -28,7 +37,7 @@ static void send_socket(struct lwp *l, const char *line, struct lwp *born)
 	touch_host();
 	born->fd = socket_pair(&given);
 	if (!send_with(l->fd, line, given))
-		gone(l->process);
+		unsent(l->process);
 }
 
 void close_socket(struct lwp *l)
@@ -50,6 +59,30 @@ static void limits(const struct lwp *l)
 	}
 }
 
+/* A program that never pauses lets the broker see all the same that Python is gone. */
+static void look_at_python(long count)
+{
+	enum { LOOK_EACH = 64 };
+	if (count % LOOK_EACH == 0)
+		end_if_python_is_gone();
+}
+
+/* A timer may ring while nobody asks anything. */
+void count_ring(const struct lwp *timer)
+{
+	look_at_python(++run.rings);
+	if (run.rings > options.limit) {
+		halt(timer->process);
+		failed("rings %d", timer->process->pid);
+	}
+}
+
+static void count_question(const struct lwp *l)
+{
+	look_at_python(++run.questions);
+	limits(l);
+}
+
 static _Noreturn void hangs(const struct lwp *l)
 {
 	halt(l->process);
@@ -66,6 +99,48 @@ static _Noreturn void foreign_text(const struct process *p, const char *line, si
 	broken("wrote %d %s", p->pid, text);
 }
 
+/* The runtime never asks this. */
+void foreign_question(const struct lwp *l) { foreign_text(l->process, l->asked, strlen(l->asked)); }
+
+/* What isn't asked, and has no answer: a remark, another filter of the runtime's, or PID STATUS of a process of the host's. */
+static void take_aside(struct process *p, enum reading reading, const char *words)
+{
+	int real, status, length = 0;
+	look_at_python(++run.asides);
+	if (run.asides > options.limit)
+		broken("tells %d", p->pid);
+	if (reading == REMARKS)
+		remark("%s", words);
+	else if (reading == HAS_FILTER)
+		p->filters++;
+	else if (sscanf(words, "%d %d%n", &real, &status, &length) == 2 && words[length] == 0)
+		ended_in_host(real, status);
+	else
+		foreign_text(p, words, strlen(words));
+}
+
+/* A message: its length, or as recv(2). The host's kernel says whose it is: an empty one is no end of the socket. */
+static ssize_t take_message(const struct lwp *l, char line[MESSAGE], int flags, int *sender)
+{
+	union {
+		char space[CMSG_SPACE(sizeof(struct ucred))];
+		struct cmsghdr align;
+	} u;
+	struct ucred from = {0};
+	struct iovec part = {line, MESSAGE - 1};
+	struct msghdr message = {.msg_iov = &part, .msg_iovlen = 1, .msg_control = u.space, .msg_controllen = sizeof u.space};
+	ssize_t got = recvmsg(l->fd, &message, flags);
+	const struct cmsghdr *header = got >= 0 ? CMSG_FIRSTHDR(&message) : NULL;
+	if (header != NULL && header->cmsg_type == SCM_CREDENTIALS)
+		memcpy(&from, CMSG_DATA(header), sizeof from);
+	*sender = from.pid;
+	if (got >= 0)
+		line[got] = 0;
+	if (got >= 0 && (message.msg_flags & MSG_TRUNC || (got == 0 && header != NULL)))
+		foreign_text(l->process, line, got);
+	return got;
+}
+
 /* Its next message. One that sleeps in the host's kernel is poked: it asks `poke` then. `amid` a call that is answered at
  * once: the thread isn't in user mode, and the call has an end of its own. */
 static enum reading receive(struct lwp *l, bool amid, struct question *q)
@@ -75,7 +150,8 @@ static enum reading receive(struct lwp *l, bool amid, struct question *q)
 	watch_begin(&watch);
 	for (;;) {
 		bool waits = l->foreign && !compute_foreign(l);
-		ssize_t got = recv(l->fd, line, sizeof line - 1, waits ? MSG_DONTWAIT : 0);
+		int sender;
+		ssize_t got = take_message(l, line, waits ? MSG_DONTWAIT : 0, &sender);
 		if (got < 0 && errno == EINTR)
 			continue;
 		if (got < 0 && errno == EAGAIN) {
@@ -88,15 +164,15 @@ static enum reading receive(struct lwp *l, bool amid, struct question *q)
 		}
 		if (got <= 0)
 			gone(l->process);
-		line[got] = 0;
 		memcpy(copy, line, got + 1);
 		enum reading reading = strlen(line) == (size_t)got ? read_question(line, q) : FOREIGN_TEXT;
+		q->sender = sender;
 		if (reading == FOREIGN_TEXT || reading == UNKNOWN)
 			foreign_text(l->process, copy, got);
 		if (reading == BROKEN)
 			broken("told %d %s", l->process->pid, q->words);
-		if (reading == REMARKS) {
-			remark("%s", q->words);
+		if (reading == REMARKS || reading == ENDS_CHILD || reading == HAS_FILTER) {
+			take_aside(l->process, reading, q->words);
 			continue;
 		}
 		if (!amid || reading != ASKS || q->call->body != poke)
@@ -140,8 +216,7 @@ static bool hear(struct lwp *l, bool amid)
 {
 	struct question q;
 	enum reading reading = receive(l, amid, &q);
-	run.questions++;
-	limits(l);
+	count_question(l);
 	if (reading == HANDLED)
 		return false;
 	bool is_poke = reading == ASKS && q.call->body == poke;
@@ -162,6 +237,15 @@ static bool hear(struct lwp *l, bool amid)
 	return true;
 }
 
+/* The host's number of a thread that says hello; 0 if the program counts in a namespace of processes of its own. */
+static int real_of(const struct question *hello)
+{
+	int64_t process = hello->arguments[0], thread = hello->arguments[1];
+	if (thread == process)
+		return hello->sender;
+	return process == hello->sender && thread > 0 && thread <= INT32_MAX ? (int)thread : 0;
+}
+
 /* A new thread, or image, says hello. */
 static void meet(struct lwp *l)
 {
@@ -169,7 +253,7 @@ static void meet(struct lwp *l)
 	struct lists *lists = &l->process->lists;
 	enum reading reading = receive(l, true, &q);
 	bool is_foreign = l->born && reading == ASKS && q.call->body == foreign;
-	if (!is_foreign && (reading != ASKS || q.call->body != hello))
+	if (!is_foreign && (reading != ASKS || q.call->body != hello || q.sender <= 0))
 		broken("begins %d %s", l->process->pid, q.text);
 	snprintf(l->asked, sizeof l->asked, "%s", q.text);
 	l->where = 0;
@@ -180,7 +264,7 @@ static void meet(struct lwp *l)
 		return;
 	l->born = false;
 	l->level = 1;
-	l->process->real = q.arguments[0], l->real = q.arguments[1], l->process->base = q.arguments[2];
+	l->process->real = q.sender, l->real = real_of(&q), l->process->base = q.arguments[2];
 	l->waits = false, l->until = NEVER;
 	for (size_t i = 0; i < lists->replaced.count; i++)
 		close_socket(lists->replaced.at[i]);
@@ -275,8 +359,7 @@ int64_t ask_for(struct lwp *l, const char *format, ...)
 	memcpy(asked, l->asked, sizeof asked);
 	if (read_question(line, &q) != ASKS)
 		broken("ask_for %s", line);
-	run.questions++;
-	limits(l);
+	count_question(l);
 	count_busy(l);
 	note_question(l, &q, false);
 	change(SYNC);
@@ -327,8 +410,8 @@ const char *aside(struct lwp *l, const char *line)
 	static char text[MESSAGE];
 	static const char remarks[] = "0 remark ";
 	send_line(l, line);
-	for (int looks = 0; looks < ENDING_S * 1000 / LOOK_MS; looks++) {
-		ssize_t got = recv(l->fd, text, sizeof text - 1, 0);
+	for (int looks = 0, sender; looks < ENDING_S * 1000 / LOOK_MS; looks++) {
+		ssize_t got = take_message(l, text, 0, &sender);
 		if (got < 0 && (errno == EAGAIN || errno == EINTR)) {
 			take_notices();
 			end_if_python_is_gone();
@@ -336,13 +419,15 @@ const char *aside(struct lwp *l, const char *line)
 		}
 		if (got <= 0)
 			gone(l->process);
-		text[got] = 0;
 		if (strncmp(text, remarks, strlen(remarks)) == 0) {
 			remark("%s", text + strlen(remarks));
 			continue;
 		}
 		const char *last = strrchr(text, ' ');
-		return last != NULL ? last + 1 : text;
+		if (last == NULL || strlen(text) != (size_t)got ||
+			(strcmp(last, " done") != 0 && last[1 + strspn(last + 1, "0123456789")] != 0))
+			foreign_text(l->process, text, got);
+		return last + 1;
 	}
 	broken("silent %d %d %s", l->process->pid, l->tid, line);
 }

@@ -68,7 +68,7 @@ void notices_begin(void) { waiting.count = 0, last.id = 0; }
 /* ---- processes of the host */
 
 /* A number of proc(5)'s `status`; -1 if there is no such process. */
-static int status_of(int pid, const char *name)
+int status_of(int pid, const char *name)
 {
 	char path[64], line[256];
 	int number = -1;
@@ -87,7 +87,7 @@ static int status_of(int pid, const char *name)
 static struct process *process_with(int real)
 {
 	for (EACH_PROCESS(p))
-		if (table.processes.at[p_at]->real == real)
+		if (table.processes.at[p_at]->real == real && !table.processes.at[p_at]->collected)
 			return table.processes.at[p_at];
 	return NULL;
 }
@@ -247,7 +247,7 @@ static int64_t kill_by_model(struct lwp *l, const struct notice *n, int64_t whic
 	}
 	int64_t error = ask_for(l, "0 kill %lld %d", (long long)which, number);
 	if (error == ESRCH && !is_of_model(which))
-		remark("%s has sent a signal to %lld, which is no process of the model: ESRCH", file_of(n->pid), (long long)which);
+		remark("%s has sent a signal to %lld, but the model has no such process: ESRCH", file_of(n->pid), (long long)which);
 	return -error;
 }
 

@@ -1,4 +1,5 @@
 /* What comes of a run, in lines for Python: outcome.py reads them. */
+#include <signal.h>
 #include <stdlib.h>
 #include <string.h>
 #include <unistd.h>
@@ -7,7 +8,7 @@
 static LIST(char) notes, remarks, plain; /* plain: what the plain schedule has come to */
 static char failure[MESSAGE + 64]; /* its kind, and what Python makes a sentence of; empty if there is none */
 static bool is_failure;
-static int gone_real; /* of a process that has ended outside of the model */
+static const struct process *gone_one; /* it has ended outside of the model */
 
 /* ---- lines */
 
@@ -92,7 +93,7 @@ void outcome_begin(void)
 {
 	failure[0] = 0;
 	is_failure = false;
-	gone_real = 0;
+	gone_one = NULL;
 	remarks.count = 0;
 }
 
@@ -121,10 +122,18 @@ void failed(const char *format, ...)
 	leave_run();
 }
 
+/* A filter of seccomp(2) that the program has set itself ends it, or takes the runtime's calls away, unseen by the model. */
+static bool has_own_filter(const struct process *p)
+{
+	return p->filters >= 0 && !p->collected && status_of(p->real, "Seccomp_filters:") > p->filters;
+}
+
 void gone(const struct process *p)
 {
+	if (has_own_filter(p))
+		broken("filter %d", p->pid);
 	set_failure("gone %d", p->pid);
-	gone_real = p->real;
+	gone_one = p;
 	leave_run();
 }
 
@@ -180,26 +189,28 @@ void verdict(void)
 		set_failure("status %d", run.status);
 }
 
+/* The runtime has ended it otherwise than with status 0, or SIGKILL. */
+static bool ended_oddly(const struct process *p) { return p->collected && p->how != 0 && p->how != SIGKILL; }
+
 /* One that hasn't ended as it has told the model: its last handlers, a sanitizer's say, have failed. */
-static void look_at_ends(const struct ends *ends)
+static void look_at_ends(void)
 {
-	for (int i = 0; i < ends->count; i++) {
-		const struct process *p = process_that_ended(ends->at[i].real);
-		if (p != NULL && p->told >= 0 && ends->at[i].status != p->told << 8) {
-			set_failure("late %d %d %d", p->pid, p->told, ends->at[i].status);
+	for (size_t i = 0; i < table.n_processes; i++) {
+		const struct process *p = table.all_processes.at[i];
+		if (ended_oddly(p) && !p->live && p->told >= 0 && p->how != p->told << 8) {
+			set_failure("late %d %d %d", p->pid, p->told, p->how);
 			return;
 		}
 	}
 }
 
-void outcome_end(const struct ends *ends)
+void outcome_end(void)
 {
 	size_t length = strlen(failure);
-	for (int i = 0; i < ends->count && gone_real != 0; i++)
-		if (ends->at[i].real == gone_real)
-			snprintf(failure + length, sizeof failure - length, " %d", ends->at[i].status);
+	if (gone_one != NULL && ended_oddly(gone_one))
+		snprintf(failure + length, sizeof failure - length, " %d", gone_one->how);
 	if (!is_failure && !run.repeats)
-		look_at_ends(ends);
+		look_at_ends();
 }
 
 static void note_steps(void)
@@ -215,11 +226,14 @@ static void note_steps(void)
 /* Each one once. */
 void remark(const char *format, ...)
 {
+	enum { ROOM = 64 << 10 };
 	char text[2048];
 	va_list arguments;
 	va_start(arguments, format);
 	vsnprintf(text, sizeof text, format, arguments);
 	va_end(arguments);
+	if (remarks.count > ROOM)
+		snprintf(text, sizeof text, "further remarks are left out");
 	for (size_t at = 0; at < remarks.count; at += strlen(remarks.at + at) + 1)
 		if (strcmp(remarks.at + at, text) == 0)
 			return;

@@ -50,16 +50,18 @@ static size_t all_of_user(const struct process *p, struct numbers *numbers)
 	return numbers->count;
 }
 
-/* A fork, or a new thread, beyond the user's limits fails with EAGAIN. */
-static bool has_no_room(struct lwp *l, int code, bool forks)
+/* A fork, or a new thread, beyond the user's limits fails with EAGAIN; `most`: RLIMIT_NPROC, or 0. */
+static bool has_no_room(struct lwp *l, int code, bool forks, int64_t most)
 {
 	struct numbers numbers;
 	size_t lwps = 0;
 	for (EACH_PROCESS(p))
 		lwps += table.processes.at[p_at]->lists.lwps.count;
 	bool full = lwps >= MAX_LWPS;
-	if (forks && table.made >= MAX_PROCESSES) /* zombies count */
-		full = full || all_of_user(l->process, &numbers) >= MAX_PROCESSES;
+	if (most <= 0 || most > MAX_PROCESSES)
+		most = MAX_PROCESSES;
+	if (forks && table.made >= most) /* zombies count */
+		full = full || all_of_user(l->process, &numbers) >= (size_t)most;
 	if (!full)
 		return false;
 	bare_call(l, code);
@@ -83,17 +85,17 @@ static bool find_in_use(const struct process *p, bool in_use[PROCESSES])
 
 static void inherit(struct process *child, const struct process *p)
 {
-	child->catches = p->catches, child->ignored = p->ignored;
+	child->catches = p->catches, child->ignored = p->ignored, child->filters = p->filters;
 	memcpy(child->caught, p->caught, sizeof child->caught);
 	for (int i = 0; i < p->n_awaited; i++)
 		child->put_back[child->n_put_back++] = (struct put_back){p->awaited[i].signal, p->awaited[i].action};
 }
 
 /* The child's number, or 0. */
-static int fork_of(struct lwp *l, const struct call *call, int kind)
+static int fork_of(struct lwp *l, const struct call *call, int kind, int64_t most)
 {
 	struct process *p = l->process;
-	if (has_no_room(l, call->code, true))
+	if (has_no_room(l, call->code, true, most))
 		return 0;
 	bool in_use[PROCESSES], matters = find_in_use(p, in_use);
 	reply r = made(l, kind);
@@ -113,24 +115,16 @@ static int fork_of(struct lwp *l, const struct call *call, int kind)
 }
 
 /* fork(2): the child is a process of the host once the answer is there. */
-BODY(fork_call)
-{
-	(void)arguments;
-	fork_of(l, call, TRACEHOST_FORK);
-}
+BODY(fork_call) { fork_of(l, call, TRACEHOST_FORK, arguments[0]); }
 
 /* vfork(2): the maker's next turn comes after the child's exec or end. */
-BODY(vfork_call)
-{
-	(void)arguments;
-	fork_of(l, call, TRACEHOST_VFORK);
-}
+BODY(vfork_call) { fork_of(l, call, TRACEHOST_VFORK, arguments[0]); }
 
 /* pdfork(2): waits for any child don't report this one, and its end sends no SIGCHLD; a daemon outlives its descriptor. */
 BODY(pdfork_call)
 {
 	struct process *p = l->process;
-	int pid = fork_of(l, call, TRACEHOST_FORK), known = find_described(p, pid);
+	int pid = fork_of(l, call, TRACEHOST_FORK, arguments[1]), known = find_described(p, pid);
 	if (pid == 0)
 		return;
 	if (known >= 0)
@@ -143,7 +137,7 @@ BODY(pdfork_call)
 BODY(thr_new)
 {
 	(void)arguments;
-	if (has_no_room(l, call->code, false))
+	if (has_no_room(l, call->code, false, 0))
 		return;
 	reply r = made(l, TRACEHOST_THR_NEW);
 	l->bears = new_lwp(l->process, number_of(number_lwp(), &r, r.lwp), l->mask);
@@ -213,6 +207,8 @@ BODY(foreign)
 BODY(exit_process)
 {
 	(void)call;
+	if (arguments[0] < 0 || arguments[0] > 255)
+		foreign_question(l);
 	l->foreign = false;
 	enter_call(l, TRACEHOST_EXIT, arguments[0], NULL);
 	l->process->told = arguments[0];
@@ -245,7 +241,7 @@ BODY(poke)
 	(void)call;
 	l->yields = true;
 	if (!asleep)
-		table.now = now() + COMPUTED;
+		table.now = later(now(), COMPUTED);
 	others(l);
 	if (asleep && !is_due(l)) {
 		l->hosted = true;

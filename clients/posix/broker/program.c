@@ -16,15 +16,18 @@
 extern char **environ;
 static int control = -1;
 static pid_t server;
+static int filters; /* -1: the host doesn't count them */
 static bool has_printed;
 
 int socket_pair(int *given)
 {
 	int ends[2];
 	struct timeval look = {0, LOOK_MS * 1000};
+	const int yes = 1;
 	if (socketpair(AF_UNIX, SOCK_SEQPACKET | SOCK_CLOEXEC, 0, ends) != 0)
 		broken("host socketpair: %s", strerror(errno));
 	setsockopt(ends[0], SOL_SOCKET, SO_RCVTIMEO, &look, sizeof look);
+	setsockopt(ends[0], SOL_SOCKET, SO_PASSCRED, &yes, sizeof yes);
 	*given = ends[1];
 	return ends[0];
 }
@@ -43,24 +46,47 @@ bool send_with(int to, const char *text, int fd)
 	header->cmsg_level = SOL_SOCKET, header->cmsg_type = SCM_RIGHTS, header->cmsg_len = CMSG_LEN(sizeof fd);
 	memcpy(CMSG_DATA(header), &fd, sizeof fd);
 	do
-		sent = sendmsg(to, &message, MSG_NOSIGNAL);
+		sent = sendmsg(to, &message, MSG_NOSIGNAL | MSG_DONTWAIT);
 	while (sent < 0 && errno == EINTR);
+	const int error = errno;
 	close(fd);
+	errno = error;
 	return sent >= 0;
+}
+
+/* A descriptor that nobody awaits is closed. */
+static void take_given(const struct cmsghdr *header, int *given)
+{
+	int fd;
+	memcpy(&fd, CMSG_DATA(header), sizeof fd);
+	if (given != NULL && *given < 0)
+		*given = fd;
+	else
+		close(fd);
 }
 
 /* The server's message: its length. A descriptor may be `given` with it. A server that the program has stopped goes on. */
 static ssize_t hear_server(char *line, size_t room, int *given)
 {
-	char space[CMSG_SPACE(sizeof *given)];
+	union {
+		char space[CMSG_SPACE(sizeof(struct ucred)) + CMSG_SPACE(sizeof *given)];
+		struct cmsghdr align;
+	} u;
 	struct iovec part = {line, room};
 	double patience = options.patience > ENDING_S ? options.patience : ENDING_S;
 	for (long looks = (long)(patience * 1000 / LOOK_MS) + 1; looks > 0; looks--) {
-		struct msghdr message = {.msg_iov = &part, .msg_iovlen = 1, .msg_control = space, .msg_controllen = sizeof space};
+		struct msghdr message = {.msg_iov = &part, .msg_iovlen = 1, .msg_control = u.space, .msg_controllen = sizeof u.space};
+		struct ucred from = {0};
 		ssize_t got = recvmsg(control, &message, MSG_CMSG_CLOEXEC);
-		struct cmsghdr *header = got > 0 && given != NULL ? CMSG_FIRSTHDR(&message) : NULL;
-		if (header != NULL && header->cmsg_type == SCM_RIGHTS)
-			memcpy(given, CMSG_DATA(header), sizeof *given);
+		for (struct cmsghdr *header = got >= 0 ? CMSG_FIRSTHDR(&message) : NULL; header != NULL;
+			 header = CMSG_NXTHDR(&message, header)) {
+			if (header->cmsg_type == SCM_CREDENTIALS)
+				memcpy(&from, CMSG_DATA(header), sizeof from);
+			else
+				take_given(header, given);
+		}
+		if (from.pid != 0 && (from.pid != server || got == 0 || message.msg_flags & MSG_TRUNC)) /* no end of the socket */
+			broken("control");
 		if (got >= 0 || (errno != EAGAIN && errno != EINTR))
 			return got;
 		end_if_python_is_gone();
@@ -101,11 +127,11 @@ static posix_spawnattr_t signals_of_server(void)
 
 static int spawn(char **argv, int given)
 {
-	char number[16];
+	char numbers[32];
 	posix_spawn_file_actions_t files = files_of_server(given);
 	posix_spawnattr_t attributes = signals_of_server();
-	snprintf(number, sizeof number, "%d", given);
-	setenv("TRACEHOST_CONTROL", number, 1);
+	snprintf(numbers, sizeof numbers, "%d %d", given, getppid());
+	setenv("TRACEHOST_CONTROL", numbers, 1);
 	unsetenv("TRACEHOST_LWP");
 	int error = posix_spawn(&server, argv[0], &files, &attributes, argv, environ);
 	posix_spawn_file_actions_destroy(&files);
@@ -114,11 +140,25 @@ static int spawn(char **argv, int given)
 	return error;
 }
 
-static _Noreturn void refused(void)
+/* It ends at the end of its socket: its status. */
+static int end_server(void)
 {
 	int status = 0;
 	close(control);
+	control = -1;
+	for (int looks = 0; looks < ENDING_S * 1000; looks++) {
+		if (waitpid(server, &status, WNOHANG) != 0)
+			return status;
+		usleep(looks < 20 ? 100 : 1000);
+	}
+	kill(server, SIGKILL);
 	waitpid(server, &status, 0);
+	return status;
+}
+
+static _Noreturn void refused(void)
+{
+	int status = end_server();
 	note("refused %d\n", WIFEXITED(status) ? WEXITSTATUS(status) : -WTERMSIG(status));
 	flush_notes();
 	exit(0);
@@ -137,10 +177,13 @@ void program_start(char **argv)
 		exit(0);
 	}
 	ssize_t got = hear_server(line, sizeof line - 1, &listener);
-	line[got > 0 ? got : 0] = 0;
-	if (strncmp(line, "ready", 5) != 0)
+	if (got <= 0)
 		refused();
+	line[got] = 0;
+	if (strncmp(line, "ready", 5) != 0)
+		broken("control");
 	notices_of(listener);
+	filters = status_of(server, "Seccomp_filters:");
 	for (char *at = strchr(line, '\n'); at != NULL;) {
 		char *next = strchr(at + 1, '\n');
 		if (next != NULL)
@@ -156,6 +199,8 @@ void program_start(char **argv)
 
 /* ---- a run */
 
+int program_filters(void) { return filters; }
+
 int program_run(void)
 {
 	int given, own = socket_pair(&given);
@@ -164,22 +209,40 @@ int program_run(void)
 	return own;
 }
 
-/* Ends all processes that are left. */
-void program_sweep(struct ends *ends)
+/* Whether there is more. */
+static bool hear_ends(const char *order)
 {
 	char line[4097];
-	ends->count = 0;
-	if (send(control, "sweep", 5, MSG_NOSIGNAL) < 0)
+	int real, status, length;
+	if (send(control, order, strlen(order), MSG_NOSIGNAL) < 0)
 		broken("server");
 	ssize_t got = hear_server(line, sizeof line - 1, NULL);
 	if (got <= 0)
 		broken("server");
 	line[got] = 0;
-	int room = sizeof ends->at / sizeof ends->at[0];
-	for (char *at = strchr(line, ' '); at != NULL && ends->count < room; at = strchr(at + 1, ' '))
-		if (sscanf(at, "%d:%d", &ends->at[ends->count].real, &ends->at[ends->count].status) == 2)
-			ends->count++;
+	const char *at = line + strlen("swept");
+	if (strncmp(line, "swept", strlen("swept")) != 0)
+		broken("control");
+	for (; sscanf(at, " %d:%d%n", &real, &status, &length) == 2; at += length)
+		ended_in_host(real, status);
+	if (*at != 0 && strcmp(at, " more") != 0)
+		broken("control");
+	return *at != 0;
 }
+
+/* A host has no more processes than so many answers tell of. */
+static void hear_all(const char *order)
+{
+	enum { MOST = 50000 };
+	for (int answers = 0; hear_ends(order); answers++)
+		if (answers == MOST)
+			broken("control");
+}
+
+void program_collect(void) { hear_all("collect"); }
+
+/* Ends all processes that are left. */
+void program_sweep(void) { hear_all("sweep"); }
 
 /* How many bytes the run has printed, if they are kept. */
 long long program_printed(void)
@@ -205,8 +268,10 @@ static void end_orphans(void)
 	int pid;
 	snprintf(path, sizeof path, "/proc/self/task/%d/children", getpid());
 	for (;;) {
-		FILE *list = fopen(path, "r");
 		bool found = false;
+		while (waitpid(-1, NULL, WNOHANG) > 0) /* each look at the list takes the longer the more there are */
+			;
+		FILE *list = fopen(path, "r");
 		while (list != NULL && fscanf(list, "%d", &pid) == 1)
 			found |= kill(pid, SIGKILL) == 0;
 		if (list != NULL)
@@ -215,19 +280,6 @@ static void end_orphans(void)
 			return;
 		waitpid(-1, NULL, 0); /* one: the children of those that end come here meanwhile */
 	}
-}
-
-static void end_server(void)
-{
-	close(control);
-	control = -1;
-	for (int looks = 0; looks < ENDING_S * 1000; looks++) {
-		if (waitpid(server, NULL, WNOHANG) != 0)
-			return;
-		usleep(looks < 20 ? 100 : 1000);
-	}
-	kill(server, SIGKILL);
-	waitpid(server, NULL, 0);
 }
 
 /* Ends the server, which ends all that it has. */

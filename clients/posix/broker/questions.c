@@ -11,9 +11,9 @@ static const struct call calls[] = {
 	/* name      body              code least most steps               waits, wakes, at once, of */
 	{"hello",     hello,           0,  4, 4, "compute",                      0, 0, false,
 		"a new thread or image"},
-	{"fork",      fork_call,       2,  0, 0, "enter leave",                  0, NEWS, false, "fork"},
-	{"vfork",     vfork_call,      66, 0, 0, "enter leave",                  RUNS, NEWS, false, "vfork, posix_spawn"},
-	{"pdfork",    pdfork_call,     2,  1, 1, "enter leave",                  0, NEWS, false, "pdfork"},
+	{"fork",      fork_call,       2,  0, 1, "enter leave",                  0, NEWS, false, "fork"},
+	{"vfork",     vfork_call,      66, 0, 1, "enter leave",                  RUNS, NEWS, false, "vfork, posix_spawn"},
+	{"pdfork",    pdfork_call,     2,  1, 2, "enter leave",                  0, NEWS, false, "pdfork"},
 	{"thr_new",   thr_new,         455, 0, 0, "enter leave",                  0, 0, false, "pthread_create"},
 	{"thr_exit",  thr_exit,        0,  0, 0, "enter leave",                  RUNS, ENDS, false, "pthread_exit"},
 	{"exec",      exec_image,      0,  0, 0, "enter leave",                  0, NEWS | RUNS | ENDS, false,
@@ -30,7 +30,7 @@ static const struct call calls[] = {
 		"locks, semaphores, barriers, pthread_testcancel"},
 	{"cancel",    cancel,          0,  1, 1, "",                             0, NEWS | LOCKS, false, "pthread_cancel"},
 	{"call",      simple,          0,  1, 1, "enter leave compute",          0, 0, false,
-		"getpid, getpgrp, getpgid, getsid, thr_self, dup, pipe, socketpair, sigaltstack, timer_create, kqueue, procctl, pdgetpid"},
+		"getpid, getpgrp, getpgid, getsid, thr_self, dup, pipe, socketpair, sigaltstack, timer_create, kqueue, procctl, pdgetpid, getrlimit, setrlimit"},
 	{"yield",     sched_yield_call, 331, 0, 0, "enter leave compute",          0, 0, false, "sched_yield, pthread_yield_np"},
 	{"getppid",   getppid_call,    39, 0, 0, "enter leave compute",          0, 0, false, "getppid"},
 	{"join",      join,            454, 2, 2, "enter leave compute",          ENDS | TIME, 0, false,
@@ -211,7 +211,8 @@ static enum reading read_text(struct question *q, const char *name_end)
 	static const struct {
 		const char *name;
 		enum reading reading;
-	} names[] = {{"broken", BROKEN}, {"refused", REFUSED}, {"outside", OUTSIDE}, {"remark", REMARKS}};
+	} names[] = {{"broken", BROKEN}, {"refused", REFUSED}, {"outside", OUTSIDE}, {"remark", REMARKS}, {"ended", ENDS_CHILD},
+		{"filter", HAS_FILTER}};
 	for (size_t i = 0; i < sizeof names / sizeof names[0]; i++)
 		if (is_word(q->text, name_end, names[i].name))
 			return *name_end == ' ' && name_end[1] != 0 && strchr(name_end, '\n') == NULL ? names[i].reading : FOREIGN_TEXT;

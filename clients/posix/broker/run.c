@@ -33,7 +33,8 @@ void others(struct lwp *l)
 
 void await(struct lwp *l, int64_t until, int count, const int64_t *topics)
 {
-	memcpy(l->topics, topics, count * sizeof *topics);
+	if (count > 0)
+		memcpy(l->topics, topics, count * sizeof *topics);
 	l->waits = true, l->n_topics = count, l->until = until, l->seen = table.clock;
 	for (int i = 0; i < count; i++)
 		touch_topic(topics[i]);
@@ -317,20 +318,20 @@ static struct lwp *make_first(void)
 	number_process(NULL);
 	number_lwp();
 	run.first = new_process(r.pid, 1);
+	run.first->filters = program_filters();
 	return new_lwp(run.first, r.lwp, 0);
 }
 
 void run_once(void)
 {
-	static struct ends ends;
 	begin();
 	start_with(make_first(), live);
 	if (!has_failed() && !run.repeats)
 		verdict();
 	for (size_t i = 0; i < table.n_lwps; i++)
 		close_socket(table.all_lwps.at[i]); /* its thread reads the end, and ends its process */
-	program_sweep(&ends);
-	outcome_end(&ends);
+	program_sweep();
+	outcome_end();
 	coroutines_end();
 	model_end();
 }

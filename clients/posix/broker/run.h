@@ -23,14 +23,6 @@ struct wants {
 	long points; /* so many */
 }; /* what an answer has besides its line */
 
-/* Of processes that have ended otherwise than with status 0, or killed, how: the host's numbers. */
-struct ends {
-	int count;
-	struct {
-		int real, status;
-	} at[512];
-};
-
 struct kept {
 	struct step step;
 	reply reply;
@@ -43,7 +35,7 @@ struct run {
 	bool repeats; /* from here on it would only repeat another one */
 	bool has_status;
 	int status; /* of the first process */
-	long questions, choices, steps, passed, skipped, examined, idle_points, busy, points;
+	long questions, choices, steps, passed, skipped, examined, idle_points, busy, points, orphans, asides, rings;
 	uint64_t last_look;
 	/* these stay from run to run */
 	struct wants wants;
@@ -94,8 +86,9 @@ struct question {
 	char *text, *words; /* words: behind the name */
 	const struct call *call; /* NULL for `handled` */
 	int64_t arguments[ARGUMENTS];
+	int sender; /* the host's number of the process that asks, by its kernel */
 };
-enum reading { ASKS, HANDLED, BROKEN, REFUSED, OUTSIDE, REMARKS, FOREIGN_TEXT, UNKNOWN };
+enum reading { ASKS, HANDLED, BROKEN, REFUSED, OUTSIDE, REMARKS, ENDS_CHILD, HAS_FILTER, FOREIGN_TEXT, UNKNOWN };
 enum reading read_question(char *line, struct question *q);
 void leg_asks(const struct question *q, const char *text); /* of legs.c */
 
@@ -103,6 +96,8 @@ void live(struct lwp *l);
 void run_handler(struct lwp *l, struct info info);
 const char *aside(struct lwp *l, const char *line);
 void close_socket(struct lwp *l);
+_Noreturn void foreign_question(const struct lwp *l);
+void count_ring(const struct lwp *timer);
 int64_t ask_for(struct lwp *l, const char *format, ...) __attribute__((format(printf, 2, 3)));
 
 /* ---- notices.c: what programs without the runtime call */
@@ -111,6 +106,7 @@ void notices_of(int listener);
 void notices_begin(void);
 void take_notices(void);
 bool compute_foreign(struct lwp *l);
+int status_of(int pid, const char *name);
 
 /* ---- ends.c */
 
@@ -119,7 +115,7 @@ void reap(struct process *const *suspects, size_t count, int status);
 void release_parent(struct process *p);
 void forget_lwp(struct lwp *l);
 void replace_lwp(struct lwp *l);
-const struct process *process_that_ended(int real);
+void ended_in_host(int real, int status);
 
 /* ---- outcome.c: what is answered to tracehost-run */
 
@@ -138,7 +134,7 @@ _Noreturn void repeats(void);
 void set_failure(const char *format, ...) __attribute__((format(printf, 1, 2)));
 bool has_failed(void);
 void outcome_begin(void);
-void outcome_end(const struct ends *ends); /* of a process that has ended outside of the model: how */
+void outcome_end(void); /* of a process that has ended outside of the model: how */
 void note_outcome(void);
 void note_plain_outcome(void);
 void forget_notes(void);
@@ -150,8 +146,10 @@ void remark(const char *format, ...) __attribute__((format(printf, 1, 2))); /* t
 enum { LOOK_MS = 50, ENDING_S = 20, MESSAGE = 4097 };
 void program_start(char **argv);
 void program_end(void);
+int program_filters(void); /* of seccomp(2), in each first process */
 int program_run(void); /* the broker's end of the first thread's socket */
-void program_sweep(struct ends *ends);
+void program_collect(void); /* of those that have ended the ones without a parent */
+void program_sweep(void);
 long long program_printed(void);
 void program_forget_output(void);
 int socket_pair(int *given);

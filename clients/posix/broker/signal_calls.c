@@ -136,7 +136,7 @@ BODY(action)
 	int64_t signal = arguments[0], how = arguments[1], flags = arguments[3];
 	const struct caught caught = {arguments[2], flags & 1, flags & 2, (signals)arguments[4] & every_signal};
 	if (how < 0 || how > 2)
-		broken("told %d action %lld", p->pid, (long long)how);
+		foreign_question(l);
 	enter(l, call->code, NULL);
 	int place = find_awaited(p, signal);
 	if (place >= 0)
@@ -221,25 +221,32 @@ BODY(pause_call)
 	say_error(EINTR);
 }
 
-/* From now on the LWP takes these signals: those without a handler are caught, as long as any LWP waits for them. */
-static void accept_signals(struct lwp *l, signals wanted)
+/* The place of the signal, which is caught now; -1 if the program has a handler. Nobody of the process goes on meanwhile: two
+ * LWPs that begin to wait see the same. */
+static int catch_awaited(struct lwp *l, int number)
 {
 	static const struct caught plain;
 	struct process *p = l->process;
+	for (;;) {
+		int place = find_awaited(p, number);
+		if (place >= 0 || p->catches & BIT(number))
+			return place;
+		uint32_t action = p->ignored & BIT(number) ? TRACEHOST_IGNORE : TRACEHOST_DEFAULT;
+		if (dispose_at_once(l, number, TRACEHOST_CATCH, &plain))
+			p->awaited[p->n_awaited++] = (struct awaited){.signal = number, .action = action};
+		else
+			AWAIT(l, NEVER, -p->pid);
+	}
+}
+
+/* From now on the LWP takes these signals: those without a handler are caught, as long as any LWP waits for them. */
+static void accept_signals(struct lwp *l, signals wanted)
+{
 	l->accepting = wanted;
 	for (EACH_SIGNAL(number)) {
-		int place = find_awaited(p, number);
-		if (!(wanted & BIT(number)) || (p->catches & BIT(number) && place < 0))
-			continue;
-		if (place < 0) {
-			uint32_t action = p->ignored & BIT(number) ? TRACEHOST_IGNORE : TRACEHOST_DEFAULT;
-			p->awaited[p->n_awaited++] = (struct awaited){.signal = number, .action = action};
-			dispose(l, number, TRACEHOST_CATCH, &plain);
-			place = find_awaited(p, number);
-			if (place < 0)
-				broken("awaited %d %d", p->pid, number);
-		}
-		p->awaited[place].count++;
+		int place = wanted & BIT(number) ? catch_awaited(l, number) : -1;
+		if (place >= 0)
+			l->process->awaited[place].count++;
 	}
 }
 
@@ -255,13 +262,15 @@ static void accept_no_longer(struct lwp *l, signals wanted)
 		if (!(wanted & awaited & BIT(number)))
 			continue;
 		int place = find_awaited(p, number);
-		if (place < 0)
-			broken("awaited %d %d", p->pid, number);
-		if (--p->awaited[place].count > 0)
-			continue;
-		uint32_t action = p->awaited[place].action;
-		forget_awaited(p, place);
-		dispose(l, number, action, NULL);
+		if (place >= 0)
+			p->awaited[place].count--;
+		while (place >= 0 && p->awaited[place].count == 0) {
+			if (dispose_at_once(l, number, p->awaited[place].action, NULL))
+				forget_awaited(p, place);
+			else
+				AWAIT(l, NEVER, -p->pid);
+			place = find_awaited(p, number);
+		}
 	}
 }
 

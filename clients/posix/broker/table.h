@@ -79,7 +79,10 @@ struct lwp;
 struct process {
 	int pid, parent, tracer; /* no tracer is 0 */
 	int real; /* the host's number */
+	bool collected; /* there is none any more; it has ended with the status `how` of the host's */
+	int how;
 	uint64_t base; /* where the host has loaded its program */
+	int filters; /* of seccomp(2), that the program hasn't set itself */
 	bool live;
 	bool examines; /* a debugger that has asked for registers, or set a byte: its steps are instructions */
 	bool stops; /* it has been stopped, or sent a signal that stops */

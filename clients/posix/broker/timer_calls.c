@@ -31,7 +31,11 @@ BODY(clock_call)
 
 /* ---- timers: one is an LWP of the broker's, which the model doesn't have */
 
-static int timer_tid(const struct process *p, int64_t number) { return number == 0 ? -p->pid : -1000 * p->pid - number; }
+enum { TIMERS = 1000 }; /* of a process, and more than the runtime has */
+static int timer_tid(const struct process *p, int64_t number)
+{
+	return (int)(number == 0 ? -p->pid : -TIMERS * p->pid - number % TIMERS);
+}
 
 /* The process's timer of this number, while it is set. */
 static struct lwp *timer_of(const struct process *p, int64_t number)
@@ -130,6 +134,7 @@ void ring(struct lwp *timer)
 			await(timer, until, 0, NULL);
 		if (!p->live)
 			return;
+		count_ring(timer);
 		if (timer->signal != 0) {
 			step_of_call(timer, (struct step){.op = SEND, .actor = p->pid, .a = timer->signal, .which = p->pid}, true);
 			send_info(p, (struct info){.signal = timer->signal, .code = timer->number != 0 ? BSD_SI_TIMER : BSD_SI_KERNEL});
@@ -159,8 +164,10 @@ static void start_timer(struct process *p, int64_t number, int signal, int64_t n
 BODY(timer_call)
 {
 	struct process *p = l->process;
-	int64_t number = arguments[0];
+	int64_t number = arguments[0], signal = arguments[1];
 	(void)call;
+	if (number < 0 || number >= TIMERS || signal < 0 || signal > 31 || arguments[2] < 0 || arguments[3] < 0)
+		foreign_question(l);
 	enter(l, number == 0 ? SETITIMER : TIMER_SETTIME, NULL);
 	struct left left = left_of(p, number);
 	struct lwp *old = timer_of(p, number);
@@ -172,7 +179,7 @@ BODY(timer_call)
 		retire(old);
 	}
 	if (arguments[2] != 0)
-		start_timer(p, number, arguments[1], arguments[2], arguments[3]);
+		start_timer(p, number, (int)signal, arguments[2], arguments[3]);
 	finish(l);
 	say("ok %lld %lld", (long long)left.time, (long long)left.period);
 }

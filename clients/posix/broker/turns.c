@@ -143,19 +143,35 @@ static void stopped(struct lwp *l, const reply *r)
 
 /* ---- the program's handlers */
 
-reply dispose(struct lwp *l, int signal, uint32_t action, const struct caught *caught)
+static struct step disposition(const struct process *p, int signal, uint32_t action)
 {
-	struct process *p = l->process;
-	reply r = step_of_call(l, (struct step){.op = SIGACTION, .actor = p->pid, .a = signal, .b = action}, true);
-	if (r.kind != TRACEHOST_OK)
-		return r;
+	return (struct step){.op = SIGACTION, .actor = p->pid, .a = signal, .b = action};
+}
+
+static void note_disposition(struct process *p, int signal, uint32_t action, const struct caught *caught)
+{
 	p->catches &= ~BIT(signal), p->ignored &= ~BIT(signal);
 	if (caught != NULL) {
 		p->caught[signal] = *caught;
 		p->catches |= BIT(signal);
 	} else if (action == TRACEHOST_IGNORE)
 		p->ignored |= BIT(signal);
+}
+
+reply dispose(struct lwp *l, int signal, uint32_t action, const struct caught *caught)
+{
+	reply r = step_of_call(l, disposition(l->process, signal, action), true);
+	if (r.kind == TRACEHOST_OK)
+		note_disposition(l->process, signal, action, caught);
 	return r;
+}
+
+bool dispose_at_once(struct lwp *l, int signal, uint32_t action, const struct caught *caught)
+{
+	reply r = make(disposition(l->process, signal, action), true);
+	if (r.kind == TRACEHOST_OK)
+		note_disposition(l->process, signal, action, caught);
+	return r.kind != TRACEHOST_HELD;
 }
 
 void block(struct lwp *l, signals mask)

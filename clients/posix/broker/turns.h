@@ -79,6 +79,7 @@ void finish(struct lwp *l);
 void back(struct lwp *l);
 bool lands(const struct lwp *l);
 reply dispose(struct lwp *l, int signal, uint32_t action, const struct caught *caught);
+bool dispose_at_once(struct lwp *l, int signal, uint32_t action, const struct caught *caught); /* false: it is held */
 void block(struct lwp *l, signals mask);
 
 /* ---- waiting in a call */

@@ -33,10 +33,13 @@ enum { PAGE = 4096 };
 static const unsigned char door_text[] = {0x48, 0x89, 0xf8, 0x48, 0x89, 0xf7, 0x48, 0x89, 0xd6, 0x48, 0x89, 0xca, 0x4d, 0x89, 0xc2,
 	0x4d, 0x89, 0xc8, 0x4c, 0x8b, 0x4c, 0x24, 0x08, 0x0f, 0x05, 0xc3};
 
+static int is_open;
+
 long tracehost_host_call(long number, const long arguments[6])
 {
-	long (*door)(long, ...) = (long (*)(long, ...))door_page;
-	return door(number, arguments[0], arguments[1], arguments[2], arguments[3], arguments[4], arguments[5]);
+	long (*door)(long, ...) = is_open ? (long (*)(long, ...))door_page : syscall; /* without a filter nothing is held */
+	long result = door(number, arguments[0], arguments[1], arguments[2], arguments[3], arguments[4], arguments[5]);
+	return result == -1 && !is_open ? -errno : result;
 }
 
 int tracehost_host_kill(pid_t pid, int number) { return (int)tracehost_host_call(SYS_kill, (long[6]){pid, number}); }
@@ -47,7 +50,8 @@ static int open_door(void)
 	if (page != door_page)
 		return -1;
 	memcpy(page, door_text, sizeof door_text);
-	return mprotect(page, PAGE, PROT_READ | PROT_EXEC);
+	is_open = mprotect(page, PAGE, PROT_READ | PROT_EXEC) == 0;
+	return is_open ? 0 : -1;
 }
 
 /* ---- windows: addresses of instructions */
@@ -361,6 +365,14 @@ static unsigned long hash_of(const struct windows *windows)
 }
 
 static struct filter filter;
+static int is_further; /* this image has set one that the first process hasn't; the broker is told */
+
+void tracehost_tell_filter(void)
+{
+	if (is_further)
+		tracehost_tell("0 filter set");
+	is_further = 0;
+}
 
 void tracehost_hold_calls(unsigned long known)
 {
@@ -376,6 +388,8 @@ void tracehost_hold_calls(unsigned long known)
 	if (prctl(PR_SET_NO_NEW_PRIVS, 1, 0, 0, 0) != 0 ||
 		(known == 0 ? set_first_filter(&filter, &windows) : set_further_filter(&filter, &windows, 0)) < 0)
 		tracehost_held = 0;
+	else
+		is_further = known != 0;
 }
 
 /* Of a library that the program has loaded. */
@@ -383,6 +397,8 @@ void tracehost_hold_library(const struct dl_phdr_info *info)
 {
 	struct windows windows = {.count = 0};
 	add_windows(&windows, info);
-	if (tracehost_held && windows.count > 0)
-		set_further_filter(&filter, &windows, SECCOMP_FILTER_FLAG_TSYNC);
+	if (!tracehost_held || windows.count == 0)
+		return;
+	is_further = set_further_filter(&filter, &windows, SECCOMP_FILTER_FLAG_TSYNC) == 0;
+	tracehost_tell_filter();
 }

@@ -110,7 +110,7 @@ void tracehost_look_at_descriptor(struct note *note)
 	struct stat st;
 	if (fstat(fd, &st) != 0)
 		return;
-	poll(&ready, 1, 0);
+	tracehost_look(&ready);
 	int64_t level = reads ? level_to_read(fd, ready.revents, &st) : level_to_write(fd, ready.revents);
 	int64_t least = note->wanted & NOTE_LOWAT ? note->given : 1;
 	int over = ready.revents & (reads ? POLLRDHUP | POLLHUP : POLLHUP | POLLERR);

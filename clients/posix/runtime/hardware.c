@@ -30,11 +30,12 @@ static void *make_event(const struct dbreg *registers, int number)
 		.bp_addr = registers->dr[number],
 		.bp_type = kinds[access],
 		.bp_len = access == 0 ? sizeof(long) : lengths[bits(registers, 18 + 4 * number, 3)]};
+	tracehost_lift_limits();
 	int fd = (int)syscall(SYS_perf_event_open, &event, 0, -1, -1, PERF_FLAG_FD_CLOEXEC);
-	if (fd < 0)
-		return NULL;
-	void *made = mmap(NULL, PAGE, PROT_READ, MAP_SHARED, fd, 0);
-	close(fd);
+	void *made = fd < 0 ? MAP_FAILED : mmap(NULL, PAGE, PROT_READ, MAP_SHARED, fd, 0);
+	tracehost_lower_limits();
+	if (fd >= 0)
+		close(fd);
 	return made == MAP_FAILED ? NULL : made;
 }
 

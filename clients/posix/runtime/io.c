@@ -28,17 +28,20 @@ __attribute__((constructor(102))) static void note_outside(void)
 			outside[fd].device = st.st_dev, outside[fd].inode = st.st_ino;
 }
 
+int tracehost_is_standard(const struct stat *of)
+{
+	for (int i = 0; i < 3; i++)
+		if (outside[i].device == of->st_dev && outside[i].inode == of->st_ino)
+			return 1;
+	return 0;
+}
+
 static int is_outside(int fd)
 {
 	struct stat st;
 	if (fstat(fd, &st) != 0)
 		return 1;
-	if (S_ISREG(st.st_mode) || S_ISDIR(st.st_mode) || S_ISBLK(st.st_mode))
-		return 1;
-	for (int i = 0; i < 3; i++)
-		if (outside[i].device == st.st_dev && outside[i].inode == st.st_ino)
-			return 1;
-	return 0;
+	return S_ISREG(st.st_mode) || S_ISDIR(st.st_mode) || S_ISBLK(st.st_mode) || tracehost_is_standard(&st);
 }
 
 static int nonblocking(int fd) { return fcntl(fd, F_GETFL) & O_NONBLOCK; }
@@ -50,7 +53,7 @@ static ssize_t try_read(int fd, void *to, size_t count)
 	if (got >= 0 || errno != ENOTSOCK)
 		return got;
 	struct pollfd ready = {.fd = fd, .events = POLLIN};
-	if (!is_outside(fd) && poll(&ready, 1, 0) == 0) {
+	if (!is_outside(fd) && tracehost_look(&ready) == 0) {
 		errno = EAGAIN;
 		return -1;
 	}
@@ -63,11 +66,16 @@ static ssize_t try_write(int fd, const void *from, size_t count)
 	if (put >= 0 || errno != ENOTSOCK)
 		return put;
 	struct pollfd ready = {.fd = fd, .events = POLLOUT};
-	if (!is_outside(fd) && poll(&ready, 1, 0) == 0) {
+	if (!is_outside(fd) && tracehost_look(&ready) == 0) {
 		errno = EAGAIN;
 		return -1;
 	}
-	return write(fd, from, count);
+	size_t room = tracehost_room_in(fd, count);
+	if (room == 0 && count > 0) {
+		errno = EFBIG;
+		return -1;
+	}
+	return write(fd, from, room);
 }
 
 static void leave(const void *where)
@@ -110,8 +118,8 @@ static ssize_t write_all(const void *where, int code, int fd, const void *from, 
 		} while (done < count);
 	int saved = errno;
 	leave(where);
-	if (put < 0 && saved == EPIPE)
-		tracehost_ask(where, "thr_kill %d %d", own.tid, BSD_SIGPIPE);
+	if (put < 0 && (saved == EPIPE || (saved == EFBIG && done == 0)))
+		tracehost_ask(where, "thr_kill %d %d", own.tid, saved == EPIPE ? BSD_SIGPIPE : BSD_SIGXFSZ);
 	errno = saved;
 	return done > 0 ? (ssize_t)done : put;
 }

@@ -56,15 +56,14 @@ void tracehost_broken(const char *what)
 	_exit(EXIT_REFUSED);
 }
 
-void tracehost_remark(const char *format, ...)
+void tracehost_tell(const char *format, ...)
 {
-	char line[2048] = "0 remark ";
-	size_t head = strlen(line);
-	int fd = own.fd;
+	char line[2048];
 	va_list arguments;
 	va_start(arguments, format);
-	vsnprintf(line + head, sizeof line - head, format, arguments);
+	vsnprintf(line, sizeof line, format, arguments);
 	va_end(arguments);
+	int fd = own.fd;
 	for (int i = 0; i < THREADS && fd < 0; i++) /* a library's own thread has none */
 		fd = own_fds[i] != 0 ? own_fds[i] : -1;
 	send(fd, line, strlen(line), MSG_NOSIGNAL);
@@ -89,12 +88,13 @@ int tracehost_own_descriptor(int fd)
 	for (size_t i = 0; i < sizeof spare / sizeof spare[0]; i++)
 		if (spare[i] == fd)
 			return 1;
-	return 0;
+	return tracehost_is_peer(fd);
 }
 
 /* A message that comes with a descriptor needs a free one. */
 void tracehost_free_spare(void)
 {
+	tracehost_lift_limits();
 	for (size_t i = 0; i < sizeof spare / sizeof spare[0]; i++)
 		if (spare[i] > 0) {
 			close(spare[i]);
@@ -113,6 +113,14 @@ void tracehost_fill_spare(void)
 		}
 	if (fd >= 0)
 		close(fd);
+	tracehost_lower_limits();
+}
+
+/* Whether a call on the socket goes on: a signal has come, or the program has set O_NONBLOCK of all descriptors. */
+static int goes_on(void)
+{
+	const int error = errno;
+	return error == EINTR || (error == EAGAIN && fcntl(own.fd, F_SETFL, 0) == 0);
 }
 
 static void send_line(const char *line, size_t length)
@@ -120,7 +128,7 @@ static void send_line(const char *line, size_t length)
 	ssize_t sent;
 	do
 		sent = send(own.fd, line, length, MSG_NOSIGNAL);
-	while (sent < 0 && errno == EINTR);
+	while (sent < 0 && goes_on());
 	if (sent < 0)
 		tracehost_die();
 }
@@ -150,7 +158,7 @@ static void receive_line(void)
 	ssize_t got;
 	do
 		got = recvmsg(own.fd, &message, MSG_CMSG_CLOEXEC);
-	while (got < 0 && errno == EINTR);
+	while (got < 0 && goes_on());
 	if (got <= 0)
 		tracehost_die();
 	own.answer[got] = 0;

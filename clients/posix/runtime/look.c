@@ -31,7 +31,7 @@ static char *read_file(long real, const char *name, size_t *size)
 	size_t room = 0, had = 0;
 	ssize_t got = -1;
 	snprintf(path, sizeof path, "/proc/%ld/%s", real, name);
-	int fd = open(path, O_RDONLY | O_CLOEXEC);
+	int fd = tracehost_open(path, O_RDONLY | O_CLOEXEC);
 	if (fd < 0)
 		return NULL;
 	do {

@@ -28,6 +28,14 @@ int tracehost_described(int fd)
 	return found == NULL ? 0 : found->pid;
 }
 
+int tracehost_is_peer(int fd)
+{
+	for (int i = 0; live > 0 && i < DESCRIBED; i++)
+		if (descriptors[i].pid != 0 && descriptors[i].peer == fd)
+			return 1;
+	return 0;
+}
+
 int tracehost_has_descriptors(void) { return live > 0; }
 
 static void hang_up(struct described *described)
@@ -55,7 +63,9 @@ static int open_pair(struct described *made, int flags)
 	made->fd = ends[0];
 	if (!(flags & PD_CLOEXEC))
 		fcntl(ends[0], F_SETFD, 0);
+	tracehost_lift_limits();
 	made->peer = fcntl(ends[1], F_DUPFD_CLOEXEC, FIRST_FD);
+	tracehost_lower_limits();
 	close(ends[1]);
 	return made->peer < 0 ? close(made->fd), -1 : 0;
 }

@@ -19,21 +19,20 @@ extern char **environ;
 
 pid_t tracehost_make_child(const void *where, const char *call)
 {
-	int pid, tid, fd;
-	pid_t real;
+	int pid, tid, fd, error;
+	const unsigned long most = tracehost_most_processes();
 	tracehost_free_spare();
-	if (tracehost_ask(where, "%s", call) != 0) {
+	if (most > 0)
+		error = tracehost_ask(where, "%s %lu", call, most);
+	else
+		error = tracehost_ask(where, "%s", call);
+	if (error != 0) {
 		tracehost_fill_spare();
 		return -1;
 	}
 	pid = tracehost_number(), tid = tracehost_number(), fd = own.passed;
 	fflush(stderr);
-	own.forking = 1;
-	real = fork();
-	own.forking = 0;
-	if (real < 0)
-		tracehost_broken("fork");
-	if (real == 0) {
+	if (tracehost_host_fork() == 0) {
 		for (int i = 0; i < THREADS; i++)
 			if (own_fds[i] != 0) {
 				close(own_fds[i]);
@@ -45,6 +44,8 @@ pid_t tracehost_make_child(const void *where, const char *call)
 		tracehost_drop_hardware();
 		tracehost_no_descriptors();
 		own.now.frame->rax = 0; /* a debugger may look at it before it has returned */
+		tracehost_limits_of_child();
+		tracehost_let_read();
 		tracehost_begin(fd, pid, tid);
 		return 0;
 	}
@@ -169,6 +170,7 @@ static void __attribute__((noreturn)) become_foreign(const char *path, char *con
 	prctl(PR_SET_PDEATHSIG, SIGKILL);
 	personality(personality(~0UL) & ~ADDR_NO_RANDOMIZE); /* its calls come from other addresses than ours */
 	signal(SIGPIPE, SIG_DFL);
+	tracehost_give_limits();
 	execve(path, argv, envp);
 	_exit(127);
 }
@@ -178,18 +180,14 @@ static int is_a_number(pid_t pid) { return pid >= FIRST_NUMBER && pid < FIRST_NU
 /* A child whose number of the host's isn't one of the model's: others may be named by it. */
 static pid_t fork_foreign(void)
 {
-	pid_t child, tried[NUMBERS];
-	int count = 0;
-	own.forking = 1;
-	while (is_a_number(child = fork()) && count < NUMBERS)
-		tried[count++] = child;
-	own.forking = 0;
+	pid_t child;
+	int tries = 0;
+	while (is_a_number(child = tracehost_host_fork()) && tries++ < NUMBERS)
+		;
 	if (child == 0 && is_a_number(getpid()))
 		_exit(0);
-	if (child < 0 || is_a_number(child))
+	if (is_a_number(child))
 		tracehost_broken("fork");
-	while (count > 0)
-		waitpid(tried[--count], NULL, 0);
 	return child;
 }
 
@@ -197,7 +195,6 @@ static pid_t fork_foreign(void)
  * so the broker knows whose a process is. */
 static void run_foreign(const char *path, char *const argv[], char *const envp[])
 {
-	int status;
 	tracehost_ask(NULL, "foreign");
 	signal(SIGCHLD, SIG_DFL);
 	prctl(PR_SET_CHILD_SUBREAPER, 1);
@@ -207,8 +204,7 @@ static void run_foreign(const char *path, char *const argv[], char *const envp[]
 	for (int fd = 3; fd < FIRST_FD; fd++)
 		if (fcntl(fd, F_GETFD) == FD_CLOEXEC)
 			close(fd);
-	while (waitpid(child, &status, 0) < 0 && errno == EINTR)
-		;
+	const int status = tracehost_await_child(child);
 	if (WIFSIGNALED(status) && WTERMSIG(status) == SIGSYS)
 		tracehost_ask(NULL, "outside held %s", path);
 	if (!WIFEXITED(status))
@@ -217,10 +213,10 @@ static void run_foreign(const char *path, char *const argv[], char *const envp[]
 	tracehost_die();
 }
 
-static int replace(const void *where, const char *path, char *const argv[], char *const envp[])
+static int replace_lifted(const void *where, const char *path, char *const argv[], char *const envp[])
 {
-	static char socket_of[80];
-	char **environment;
+	static char socket_of[400];
+	char **environment, limits[256];
 	size_t count = 0;
 	int error = why_not(path, argv, envp);
 	if (error != 0) {
@@ -240,12 +236,22 @@ static int replace(const void *where, const char *path, char *const argv[], char
 		tracehost_broken(path);
 	for (size_t i = 0; i < count; i++)
 		environment[i + 1] = envp[i];
-	snprintf(socket_of, sizeof socket_of, "TRACEHOST_LWP=%d %d %d %lx", own.fd, own_pid, own.tid, tracehost_held);
+	tracehost_write_limits(limits, sizeof limits);
+	snprintf(socket_of, sizeof socket_of, "TRACEHOST_LWP=%d %d %d %lx %d%s", own.fd, own_pid, own.tid, tracehost_held,
+		tracehost_reader, limits);
 	environment[0] = socket_of; /* the program may have given one of that name */
 	own.busy = 1; /* no poke comes between */
 	fcntl(own.fd, F_SETFD, 0);
 	execve(path, argv, environment);
 	tracehost_broken(path);
+}
+
+static int replace(const void *where, const char *path, char *const argv[], char *const envp[])
+{
+	tracehost_lift_limits();
+	int result = replace_lifted(where, path, argv, envp);
+	tracehost_lower_limits();
+	return result;
 }
 
 /* A file without a head is a script of sh(1) for the calls that look for files. */
@@ -291,7 +297,8 @@ int tracehost_execve(const char *path, char *const argv[], char *const envp[]) {
 int tracehost_fexecve(int fd, char *const argv[], char *const envp[])
 {
 	char path[64];
-	snprintf(path, sizeof path, "/proc/self/fd/%d", fd);
+	/* the first thread may have exited */
+	snprintf(path, sizeof path, "/proc/thread-self/fd/%d", fd);
 	return replace(HERE, path, argv, envp);
 }
 
@@ -358,6 +365,8 @@ static pid_t wait_for(const void *where, pid_t which, int *status, int options, 
 	pid = tracehost_number();
 	if (pid != 0 && status != NULL)
 		*status = tracehost_number();
+	if (pid != 0)
+		tracehost_collect();
 	return pid;
 }
 

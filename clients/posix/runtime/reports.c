@@ -29,7 +29,7 @@
 	CALL(getpgid, 207) CALL(getsid, 310) CALL(pdkill, 519) CALL(pdgetpid, 520) CALL(sigaction, 416) CALL(sigprocmask, 340) \
 	CALL(sigaltstack, 53) CALL(nanosleep, 240) CALL(ptrace, 26) CALL(sysctl, 202) CALL(procctl, 544) CALL(timer_create, 235) \
 	CALL(timer_delete, 236) CALL(timer_settime, 237) CALL(timer_gettime, 238) CALL(timer_getoverrun, 239) CALL(getitimer, 86) \
-	CALL(setitimer, 83)
+	CALL(setitimer, 83) CALL(getrlimit, 194) CALL(setrlimit, 195)
 /* They make the system call of another one (tracehost_find_arguments), and ask at once. */
 #define OTHER_FORMS(CALL) CALL(waitpid, 7) CALL(wait, 7) CALL(wait3, 7) CALL(raise, 433) CALL(pipe, 542)
 
@@ -154,7 +154,7 @@ static long call_on_socket(const struct row *row, short events, const long argum
 	struct pollfd ready = {.fd = (int)arguments[0], .events = events};
 	const char *kind = events == POLLIN ? "read" : "write";
 	tracehost_ask(HERE, "enter %d %s %d", row->code, kind, ready.fd);
-	while (!(fcntl(ready.fd, F_GETFL) & O_NONBLOCK) && poll(&ready, 1, 0) == 0)
+	while (!(fcntl(ready.fd, F_GETFL) & O_NONBLOCK) && tracehost_look(&ready) == 0)
 		if (tracehost_ask(HERE, "again %s %d", kind, ready.fd) != 0)
 			return -1;
 	long result = call(row->function, arguments);

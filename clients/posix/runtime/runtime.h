@@ -20,8 +20,9 @@ enum {
 	EXIT_REFUSED = 125, /* of a program that can't be run here; its reason is on standard error */
 };
 
-/* The host's signal that makes a thread in user mode ask. */
+/* The host's signals: one makes a thread in user mode ask; and one tells that the process's parent has ended. */
 #define POKE (SIGRTMIN + 3)
+#define PARENT_ENDS (SIGRTMIN + 4)
 
 /* The program may have such names too: the linker sees these. */
 #define own tracehost_own
@@ -114,6 +115,10 @@ int tracehost_ask(const void *where, const char *format, ...) __attribute__((for
 /* The next number of the answer. */
 long tracehost_number(void);
 
+/* tracehost-run and what it starts may read this process's memory, in /proc: its number, or 0. */
+extern int tracehost_reader;
+void tracehost_let_read(void);
+
 /* This thread has this socket from now on: it says hello, and returns once it may run. */
 void tracehost_begin(int fd, int pid, int tid);
 
@@ -176,6 +181,12 @@ void tracehost_ask_between(const void *where, const char *question, void *contex
 /* A cancellation point: a cancelled thread ends here. */
 void tracehost_cancel_point(void);
 
+/* The host's children (children.c): a fork, those that have ended, those of the image before, and the end of one: its status. */
+pid_t tracehost_host_fork(void);
+void tracehost_collect(void);
+void tracehost_find_children(void);
+int tracehost_await_child(pid_t child);
+
 /* A child, by the question `fork` or `vfork`; and an exec, which returns -1 if it fails. */
 pid_t tracehost_make_child(const void *where, const char *call);
 int tracehost_replace(const void *where, const char *file, int by_name, char *const argv[], char *const envp[]);
@@ -198,6 +209,22 @@ void tracehost_host_signals(void);
 int tracehost_send_fault(int host_signal);
 int tracehost_own_descriptor(int fd);
 
+/* Limits (limits.c) that the program has set: the runtime may need more meanwhile; a fork's child; and an exec. */
+struct pollfd;
+struct stat;
+void tracehost_lift_limits(void);
+void tracehost_lower_limits(void);
+void tracehost_limits_of_child(void);
+unsigned long tracehost_most_processes(void);
+size_t tracehost_room_in(int fd, size_t count);
+int tracehost_is_standard(const struct stat *of);
+int tracehost_open(const char *path, int flags);
+int tracehost_look(struct pollfd *ready);
+void tracehost_write_limits(char *text, size_t room);
+void tracehost_read_limits(const char *text);
+void tracehost_give_limits(void);
+size_t tracehost_memory_of_stacks(void);
+
 /* Around a question whose answer comes with a descriptor: the program may have used up its own. */
 void tracehost_free_spare(void);
 void tracehost_fill_spare(void);
@@ -215,14 +242,16 @@ void *tracehost_host_dlopen(void);
 void tracehost_remark_library(const char *file, const char *call);
 void *tracehost_found(const char *name); /* a function of by_name.S, or NULL */
 
-/* The run says so at its end. */
-void tracehost_remark(const char *format, ...) __attribute__((format(printf, 1, 2)));
+/* A line for the broker, without an answer; and a remark, which the run prints at its end. */
+void tracehost_tell(const char *format, ...) __attribute__((format(printf, 1, 2)));
+#define tracehost_remark(format, ...) tracehost_tell("0 remark " format __VA_OPT__(, ) __VA_ARGS__)
 
 /* Calls past the runtime (filter.c): they are held from now on, unless the image that is `known` by this number has done so.
  * Of the first image's filter there is a listener, or -1. And the runtime's own calls of these. */
 struct dl_phdr_info;
 void tracehost_hold_calls(unsigned long known);
 void tracehost_hold_library(const struct dl_phdr_info *info);
+void tracehost_tell_filter(void);
 extern unsigned long tracehost_held; /* whose addresses are held; 0 for none */
 extern int tracehost_listener;
 long tracehost_host_call(long number, const long arguments[6]);
@@ -262,6 +291,7 @@ void tracehost_refresh_kqueues(const void *where);
 void tracehost_forget_descriptor(int fd);
 void tracehost_no_kqueues(void);
 int tracehost_described(int fd);
+int tracehost_is_peer(int fd);
 int tracehost_has_descriptors(void);
 void tracehost_described_end(int pid);
 void tracehost_close_described(int fd);

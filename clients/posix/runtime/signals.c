@@ -1,4 +1,5 @@
 /* Signals: dispositions, masks, and waiting for them. */
+#undef _FORTIFY_SOURCE /* whose longjmp(3) goes to no other stack */
 #define _GNU_SOURCE
 #include <setjmp.h>
 #include <stdio.h>

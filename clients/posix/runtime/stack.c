@@ -27,14 +27,21 @@ static void set_signals(char *top)
 	sigaltstack(&(stack_t){.ss_sp = own.stacks, .ss_size = (size_t)(top - own.stacks), .ss_flags = autodisarm}, NULL);
 }
 
+static int made_stacks; /* of all threads; a fork's child has them too */
+
+size_t tracehost_memory_of_stacks(void) { return (size_t)__atomic_load_n(&made_stacks, __ATOMIC_RELAXED) * (SIGNALS + CALLS); }
+
 void tracehost_make_stacks(void)
 {
 	if (own.stacks != NULL)
 		return; /* a fork has them already */
+	tracehost_lift_limits();
 	char *made = mmap(NULL, SIGNALS + CALLS, PROT_READ | PROT_WRITE, MAP_PRIVATE | MAP_ANONYMOUS | MAP_NORESERVE, -1, 0);
 	if (made == MAP_FAILED || sigaltstack(NULL, &own.former_stack) != 0)
 		tracehost_broken("no stack is left for the runtime");
 	own.stacks = made, own.now.top = made + SIGNALS + CALLS;
+	__atomic_fetch_add(&made_stacks, 1, __ATOMIC_RELAXED);
+	tracehost_lower_limits();
 	set_signals(made + SIGNALS);
 }
 
@@ -42,6 +49,7 @@ void tracehost_drop_stacks(void)
 {
 	sigaltstack(&own.former_stack, NULL); /* a sanitizer's, which it looks for */
 	munmap(own.stacks, SIGNALS + CALLS);
+	__atomic_fetch_sub(&made_stacks, 1, __ATOMIC_RELAXED);
 	own.stacks = NULL;
 }
 

@@ -1,7 +1,8 @@
 /* How a program begins: as a server that forks a process for each run, or as the image of an exec.
  *
  * The server is this program before main(): a run costs a fork, and no exec. The broker sends `run` with the socket of
- * the first process, or `sweep`, which ends all that is left of a run. */
+ * the first process, `collect` for those that have ended and have no parent, or `sweep`, which ends all that is left of a
+ * run. */
 #define _GNU_SOURCE
 #include <fcntl.h>
 #include <link.h>
@@ -68,6 +69,18 @@ static void on_poke(int number, siginfo_t *info, void *context)
 		own.seen = own.questions; /* it has asked since the last tick */
 	else
 		tracehost_ask_between(place_of(context), info->si_code == SI_TIMER ? "poke 0" : "poke 1", context);
+}
+
+/* If the server and the broker are killed, nobody ends a process that sleeps in a call of the host's: it does itself. */
+static void on_parent_end(int number, siginfo_t *info, void *context)
+{
+	char byte;
+	const int saved = errno;
+	(void)number, (void)info, (void)context;
+	for (int i = 0; i < THREADS; i++)
+		if (own_fds[i] != 0 && recv(own_fds[i], &byte, 1, MSG_PEEK | MSG_DONTWAIT) == 0)
+			_exit(0);
+	errno = saved;
 }
 
 /* A fault as FreeBSD reports it: sys/amd64/amd64/trap.c. */
@@ -142,6 +155,8 @@ void tracehost_host_signals(void)
 		sigaction(faults[i], &action, NULL);
 	action.sa_sigaction = on_poke;
 	sigaction(POKE, &action, NULL);
+	action.sa_sigaction = on_parent_end;
+	sigaction(PARENT_ENDS, &action, NULL);
 	signal(SIGCHLD, SIG_DFL); /* children of the host are collected by the server, when their parent has ended */
 	signal(SIGPIPE, SIG_IGN); /* a broken pipe is posted by write */
 }
@@ -169,6 +184,8 @@ void tracehost_begin(int fd, int pid, int tid)
 	}
 	own_fds[i] = fd;
 	own.fd = fd, own.tid = tid, own_pid = pid, own_real = getpid();
+	if (own_real == syscall(SYS_gettid)) /* its only thread */
+		prctl(PR_SET_PDEATHSIG, PARENT_ENDS);
 	own.busy = 1;
 	start_ticks();
 	tracehost_ask(NULL, "hello %d %d %lx %d", (int)syscall(SYS_getpid), (int)syscall(SYS_gettid), load_address, own.now.inside);
@@ -214,48 +231,80 @@ __attribute__((destructor(0))) static void ask_exit(void)
 void tracehost_end_process(void) { tracehost_ask(own.where, "exit %d", exit_status & 255); }
 void tracehost_begin_image(int fd, int pid, int tid) { tracehost_begin(fd, pid, tid); }
 
+/* Of the host's numbers: a debugger of the run, and one of --gdb, are descendants of tracehost-run. Others are no business of
+ * ours. A fork's child has none. */
+int tracehost_reader;
+void tracehost_let_read(void) { prctl(PR_SET_PTRACER, tracehost_reader, 0, 0, 0); }
+
 static void become_process(int fd, int pid, int tid)
 {
-	prctl(PR_SET_PTRACER, PR_SET_PTRACER_ANY, 0, 0, 0); /* PT_READ_D reads memory, by /proc */
+	tracehost_let_read();
 	on_exit(note_status, NULL); /* the first one registered runs last */
 	enter_begin_image(fd, pid, tid);
 	tracehost_only_thread(own.tid);
+	tracehost_lift_limits();
 	tracehost_fill_spare();
 }
 
 /* ---- the server */
 
-/* Adds how a process has ended, unless it was with status 0, or killed. */
-static void add(char *report, size_t room, pid_t ended, int status)
+/* What the broker is told of those that have ended: `swept`, PID:STATUS of each, and `more` if there is no room for more. */
+struct swept {
+	char text[4096];
+	size_t length;
+};
+enum { ROOM_FOR_ONE = 32 };
+
+/* Collects one that has ended: 0 for none now, and -1 if none is left. */
+static pid_t collect(struct swept *swept, int options)
 {
-	size_t length = strlen(report);
-	if (status != 0 && !(WIFSIGNALED(status) && WTERMSIG(status) == SIGKILL))
-		snprintf(report + length, room - length, " %d:%d", ended, status);
+	int status;
+	pid_t ended = waitpid(-1, &status, options | __WALL);
+	if (ended > 0)
+		swept->length += (size_t)snprintf(swept->text + swept->length, ROOM_FOR_ONE, " %d:%d", ended, status);
+	return ended;
 }
 
-/* Ends all descendants: those whose parents have ended are children of the server. */
-static void sweep(char *report, size_t room)
+static int is_full(const struct swept *swept) { return swept->length + 2 * ROOM_FOR_ONE > sizeof swept->text; }
+
+static void end_children(void)
 {
 	char path[64], list[65536];
-	int status;
+	pid_t child;
 	snprintf(path, sizeof path, "/proc/self/task/%d/children", (int)syscall(SYS_gettid));
-	for (;;) {
-		pid_t ended = waitpid(-1, &status, WNOHANG | __WALL);
-		if (ended > 0) {
-			add(report, room, ended, status);
-			continue;
-		}
-		if (ended < 0)
+	int fd = open(path, O_RDONLY | O_CLOEXEC);
+	ssize_t got = fd < 0 ? 0 : read(fd, list, sizeof list - 1);
+	close(fd);
+	list[got > 0 ? got : 0] = 0;
+	for (char *at = list, *next; (child = strtol(at, &next, 10)) > 0; at = next)
+		tracehost_host_kill(child, SIGKILL);
+}
+
+/* Collects what has ended. `all`: ends all descendants; those whose parents have ended are children of the server. */
+static void sweep(struct swept *swept, int all)
+{
+	swept->length = (size_t)snprintf(swept->text, sizeof swept->text, "swept");
+	while (!is_full(swept)) {
+		pid_t ended = collect(swept, WNOHANG);
+		if (ended < 0 || (ended == 0 && !all))
 			return;
-		int fd = open(path, O_RDONLY | O_CLOEXEC);
-		ssize_t got = fd < 0 ? 0 : read(fd, list, sizeof list - 1);
-		close(fd);
-		list[got > 0 ? got : 0] = 0;
-		for (char *at = list, *next; (ended = strtol(at, &next, 10)) > 0; at = next)
-			tracehost_host_kill(ended, SIGKILL);
-		if ((ended = waitpid(-1, &status, __WALL)) > 0)
-			add(report, room, ended, status);
+		if (ended > 0)
+			continue;
+		end_children();
+		collect(swept, 0);
 	}
+	memcpy(swept->text + swept->length, " more", sizeof " more");
+	swept->length += strlen(" more");
+}
+
+/* The broker has ended. */
+static void __attribute__((noreturn)) end_all(void)
+{
+	struct swept swept;
+	do
+		sweep(&swept, 1);
+	while (is_full(&swept));
+	_exit(0);
 }
 
 /* Returns in the process of each run, with its socket. */
@@ -270,11 +319,13 @@ static int serve(int control)
 		ssize_t got = recvmsg(control, &message, 0);
 		if (got < 0 && errno == EINTR)
 			continue;
-		if (got <= 0 || word[0] == 's') {
-			char report[4096] = "swept";
-			sweep(report, sizeof report);
-			if (got <= 0 || send(control, report, strlen(report), MSG_NOSIGNAL) < 0)
-				_exit(0);
+		if (got <= 0)
+			end_all();
+		if (word[0] != 'r') {
+			struct swept swept;
+			sweep(&swept, word[0] == 's');
+			if (send(control, swept.text, swept.length, MSG_NOSIGNAL) < 0)
+				end_all();
 			continue;
 		}
 		int given, fd;
@@ -351,7 +402,7 @@ static void refuse_alone(void)
 
 __attribute__((constructor(101))) void tracehost_start(void)
 {
-	int fd, pid, tid;
+	int fd, pid, tid, length = 0;
 	unsigned long held;
 	const char *lwp = getenv("TRACEHOST_LWP"), *control = getenv("TRACEHOST_CONTROL");
 	if (lwp == NULL && control == NULL)
@@ -364,19 +415,25 @@ __attribute__((constructor(101))) void tracehost_start(void)
 	tracehost_make_stacks();
 	tracehost_host_signals();
 	if (lwp != NULL) { /* this image comes of an exec */
-		if (sscanf(lwp, "%d %d %d %lx", &fd, &pid, &tid, &held) != 4)
+		if (sscanf(lwp, "%d %d %d %lx %d%n", &fd, &pid, &tid, &held, &tracehost_reader, &length) != 5)
 			refuse_to_start("its environment has another TRACEHOST_LWP than the runtime sets");
+		tracehost_lift_limits();
+		tracehost_read_limits(lwp + length);
 		char text[4096] = "";
 		tracehost_report_libraries(text, sizeof text);
 		tracehost_hold_calls(held);
 		unsetenv("TRACEHOST_LWP");
 		fcntl(fd, F_SETFD, FD_CLOEXEC);
+		tracehost_find_children();
 		become_process(fd, pid, tid);
+		tracehost_lower_limits();
+		tracehost_tell_filter();
 		remark_lines(text);
 		return;
 	}
 	tracehost_hold_calls(0);
-	fd = atoi(control);
+	if (sscanf(control, "%d %d", &fd, &tracehost_reader) != 2)
+		refuse_to_start("its environment has another TRACEHOST_CONTROL than tracehost-run sets");
 	unsetenv("TRACEHOST_CONTROL");
 	if (send_ready(fd) < 0)
 		refuse_to_start("this program is run by tracehost-run");

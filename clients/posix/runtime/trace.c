@@ -17,7 +17,7 @@ static ssize_t transfer(long real, unsigned long there, void *here, size_t count
 	char path[64];
 	int fd;
 	snprintf(path, sizeof path, "/proc/%ld/mem", real);
-	if ((fd = open(path, (writing ? O_RDWR : O_RDONLY) | O_CLOEXEC)) < 0)
+	if ((fd = tracehost_open(path, (writing ? O_RDWR : O_RDONLY) | O_CLOEXEC)) < 0)
 		return -1;
 	ssize_t done = writing ? pwrite(fd, here, count, (off_t)there) : pread(fd, here, count, (off_t)there);
 	close(fd);
@@ -197,7 +197,7 @@ static void name_thread(const void *where, pid_t target, char *to, size_t size)
 		return;
 	long real = tracehost_number(), thread = tracehost_number();
 	snprintf(path, sizeof path, "/proc/%ld/task/%ld/comm", real, thread);
-	if ((fd = open(path, O_RDONLY | O_CLOEXEC)) < 0)
+	if ((fd = tracehost_open(path, O_RDONLY | O_CLOEXEC)) < 0)
 		return;
 	ssize_t got = read(fd, to, size - 1);
 	close(fd);

@@ -59,6 +59,9 @@ main(int argc, char **argv)
 		shared = mmap(NULL, 4096, PROT_READ | PROT_WRITE, MAP_SHARED | MAP_ANON, -1, 0);
 		while (*shared == 0)
 			;
+	} else if (strcmp(what, "asks") == 0) { /* and never pauses */
+		for (;;)
+			getppid();
 	} else if (strcmp(what, "closes") == 0) { /* what it may close, and what is the runtime's */
 		for (fd = 3; fd < 4096; fd++)
 			close(fd);

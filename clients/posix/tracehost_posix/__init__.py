@@ -9,6 +9,6 @@ Each module has one thought:
 - `search`: many schedules, and the shortest that fails; `many`: a search as a command, `tally`: what its runs come to,
   `ledger`: a file that keeps that, `farm`: workers on other machines;
 - `record`: a run as a scenario, and as a schedule to run again;
-- `report`: a failing run, with its places in the program;
+- `report`: a failing run, with its places in the program; `rooms`: temporary folders;
 - `options`, `command`: the command line.
 """

@@ -9,7 +9,7 @@ import time
 from collections.abc import Callable, Iterator, Sequence
 from typing import TYPE_CHECKING
 
-from . import record, report
+from . import record, report, rooms
 from .broker import Broker, find
 from .describe import Met
 from .many import Search
@@ -276,6 +276,7 @@ def _command(words: Sequence[str] | None) -> int:
         if hard < DESCRIPTORS:
             raise Broken(f"only {hard} open files are allowed (ulimit -n), and {DESCRIPTORS} are needed")
         resource.setrlimit(resource.RLIMIT_NOFILE, (max(soft, min(hard, 4096)), hard))  # a socket for each thread
+        rooms.sweep()
         return _run(Command(given, _setting(given, model)))
     except NotRunnable as why:
         if str(why):  # else the program has said it

@@ -5,14 +5,13 @@ from __future__ import annotations
 import argparse
 import contextlib
 import os
-import tempfile
 from collections import deque
 from collections.abc import Iterable, Iterator, Sequence
 from concurrent.futures import Future, ThreadPoolExecutor
 from itertools import islice
 from typing import NamedTuple, Optional
 
-from . import comparing, report
+from . import comparing, report, rooms
 from .comparing import NOTHING, Line, Outcome, Row, compare, digest_of
 from .options import USAGE, Parser, add_version, begun, count, model_of, seconds
 from .report import say, writing, written
@@ -146,14 +145,14 @@ def blocks(files: Iterable[File], most: int) -> Iterator[list[File]]:
 def rows_of(files: Sequence[File]) -> Iterator[list[Row]]:
     """The rows of a list. A name that none can have, as with a line feed, is that of a link meanwhile."""
     with contextlib.ExitStack() as stack:
-        room = ""
+        folder = ""
         rows: list[Row] = []
         for file in files:
             names: list[str] = []
             for name in (file.scenario, file.expected or NOTHING):
                 if not name.isprintable():
-                    room = room or stack.enter_context(tempfile.TemporaryDirectory(prefix="tracehost-"))
-                    link = os.path.join(room, f"{len(rows)}-{len(names)}")
+                    folder = folder or stack.enter_context(rooms.room())
+                    link = os.path.join(folder, f"{len(rows)}-{len(names)}")
                     os.symlink(os.path.abspath(name), link)
                     name = link
                 names.append(name)
@@ -302,6 +301,7 @@ def _command(words: Optional[Sequence[str]]) -> int:
     made = _parser()
     given = made.parse_args(words)
     try:
+        rooms.sweep()
         return _run(given, model_of(given, made))
     except Refused as why:
         say(str(why))

@@ -196,7 +196,7 @@ CODES = {
 
 def call_name(asked: str) -> str:
     """The program's call, of what its thread has asked."""
-    words = asked.split()
+    words = asked.split(" ")
     if words[0] == "enter":
         return words[2]
     if words[0] == "begin":

@@ -9,6 +9,7 @@ from __future__ import annotations
 
 import contextlib
 import importlib
+import ipaddress
 import json
 import logging
 import site
@@ -17,8 +18,10 @@ from collections import deque
 from collections.abc import Callable, Iterator, Sequence
 from itertools import islice
 from typing import Any, NamedTuple, NoReturn, TypeVar
+from urllib.parse import urlsplit
 
 from .ledger import BLOCK, Block, block_of
+from .report import say
 from .setting import Broken, Refused
 
 _Share = TypeVar("_Share")
@@ -92,6 +95,17 @@ def _silence(*names: str) -> None:
         logger.handlers, logger.propagate = [logging.NullHandler()], False
 
 
+def open_to_others(address: str) -> bool:
+    """Whether a scheduler asks for no certificate, and can be reached from elsewhere than this machine."""
+    scheme, _, place = address.rpartition("://")
+    host = urlsplit(f"//{place}").hostname or ""
+    try:
+        is_local = ipaddress.ip_address(host).is_loopback
+    except ValueError:
+        is_local = host == "localhost"
+    return scheme not in ("tls", "wss") and not is_local
+
+
 class Farm:
     """The workers of a scheduler."""
 
@@ -107,6 +121,10 @@ class Farm:
             self._client: Any = distributed.Client(address, set_as_default=False)
         except (OSError, ValueError, TypeError) as why:
             raise Refused(f"--workers: {address}: {why}") from why
+        if open_to_others(address):
+            say(
+                f"--workers: {address}: whoever reaches this scheduler can run anything on its workers; tls:// asks for a certificate"
+            )
 
     def sent(self, data: bytes) -> Any:
         """Sends it to the workers, once to each: what a call is given for it."""
@@ -162,17 +180,22 @@ def _answer(order: Order, share: range, said: Said) -> Iterator[Block]:
     if said.status not in (0, 1, 4) or not said.ledger:
         raise Broken(f"--workers: {said.worker}: status {said.status}: {said.errors.strip()}")
     head, *lines = said.ledger.splitlines()
-    found = json.loads(head)
-    for name, here in order.identity.items():
-        if name != "seeds" and found.get(name) != json.loads(json.dumps(here)):
-            refuse(said.worker, name, json.dumps(found.get(name)), json.dumps(here))
     first = share.start
-    for line in lines:
-        block = block_of(line, first)
-        first = block.last + 1
-        yield block
-        if block.sums.failures and not order.keeps_going:
-            return
+    try:
+        found = json.loads(head)
+        if not isinstance(found, dict):
+            raise ValueError(head)
+        for name, here in order.identity.items():
+            if name != "seeds" and found.get(name) != json.loads(json.dumps(here)):
+                refuse(said.worker, name, json.dumps(found.get(name)), json.dumps(here))
+        for line in lines:
+            block = block_of(line, first)
+            first = block.last + 1
+            yield block
+            if block.sums.failures and not order.keeps_going:
+                return
+    except (ValueError, RecursionError) as why:
+        raise Broken(f"--workers: {said.worker}: its ledger is damaged") from why
     if first != share.stop:
         raise Broken(f"--workers: {said.worker}: it has only run the seeds up to {first - 1} of {share.stop - 1}")
 

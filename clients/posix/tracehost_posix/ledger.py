@@ -1,7 +1,7 @@
 """A file that keeps the blocks of a search, a line each, so that a search that has ended in its midst goes on behind the last.
 
 The first line is the identity: the program, the model, the broker and the options, by digests and by values. Blocks are in
-the order of their seeds, and so the file has the same bytes however often the search has ended.
+the order of their seeds, and so the file has the same bytes however often the search has ended. Each has a checksum.
 """
 
 from __future__ import annotations
@@ -16,6 +16,7 @@ from typing import Any
 
 from .comparing import digest_of as digest_of
 from .outcome import Result
+from .report import say
 from .setting import Refused
 from .tally import Failures, Sums, sums_of
 
@@ -60,14 +61,16 @@ class Block:
         }
         if sums.remarks:
             fields["remarks"] = list(sums.remarks)
-        return json.dumps(fields)
+        text = json.dumps(fields)
+        check = hashlib.sha256(text.encode()).hexdigest()[:16]
+        return f'{text[:-1]}, "check": "{check}"}}'
 
 
 def block_of(line: str, first: int) -> Block:
     """The block of a line, which begins with this seed; ValueError if the line isn't one."""
-    fields: Any = json.loads(line)
     block = Block(first)
     try:
+        fields: Any = json.loads(line)
         start, block.last = fields["seeds"]
         block.digest = fields["digest"]
         block.new = [bool("01".index(new)) for new in fields["new"]]
@@ -76,7 +79,7 @@ def block_of(line: str, first: int) -> Block:
         sums.runs, sums.questions, sums.steps, sums.passed, sums.skipped, sums.examined, sums.most = fields["sums"]
         sums.remarks = dict.fromkeys(fields.get("remarks", []))
         sums.failures = {why: Failures(*failures) for why, failures in fields["failures"].items()}
-    except (KeyError, TypeError, AttributeError) as why:
+    except (KeyError, TypeError, AttributeError, RecursionError) as why:
         raise ValueError(line) from why
     if start != first or block.line() != line or not len(block.new) == block.last - first + 1 == sums.runs:
         raise ValueError(line)
@@ -104,22 +107,23 @@ class Ledger:
         self.blocks: list[Block] = []
         """Those that it has, from the first seed on."""
         self._seeds, self._block = seeds, Block(seeds.start)
-        self._head = json.dumps({_KIND: 1, **identity})
+        self._head = json.dumps({_KIND: 2, **identity})
         kept = self._read(json.loads(self._head), seeds) if stat.S_ISREG(os.fstat(self._file).st_mode) else 0
         if kept == 0:
             self._write(self._head)
 
     def _read(self, identity: dict[str, object], seeds: range) -> int:
-        """How many bytes of it are good: what comes behind them is cut off."""
+        """How many bytes of it are good: what comes behind them is cut off. A last line without an end is as a kill leaves it."""
         with open(self._path, "rb") as file:
             lines = file.read().split(b"\n")
         size, first = self._read_head(lines, identity), seeds.start
         for line in lines[1:-1]:
             try:
                 block = block_of(line.decode(), first)
-            except ValueError:  # it was cut, or damaged
-                break
-            if block.last not in seeds or not (_ends(block.last, seeds) or block.sums.failures):
+                if block.last not in seeds or not (_ends(block.last, seeds) or block.sums.failures):
+                    raise ValueError(line)
+            except ValueError:
+                say(f"--ledger: {self._path}: line {len(self.blocks) + 2} is damaged: seeds are run again from {first} on")
                 break
             self.blocks.append(block)
             first = block.last + 1

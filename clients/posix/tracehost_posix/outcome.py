@@ -113,7 +113,11 @@ def behind(pid: str, file: str) -> str:
 
 
 def endless(limit: int) -> str:
-    return f"no end after {limit} questions"
+    return f"no end after {limit} questions (--limit)"
+
+
+def rings_on(pid: int, limit: int) -> str:
+    return f"no end: a timer of process {pid} rings, and {limit} rings have ended nothing (--limit)"
 
 
 def printed_too_much(limit: int) -> str:
@@ -145,7 +149,13 @@ def wrote(pid: int, line: str) -> str:
     return f"process {pid} has written {line[:40]!r} on the runtime's socket"
 
 
+def own_filter(pid: int) -> str:
+    """A process has set a filter, and has ended, or can't speak to the broker any more."""
+    return f"process {pid} has set a filter of seccomp(2) itself, which has ended it at a call, or keeps the runtime from its calls"
+
+
 SERVER_ENDED = "the program's server has ended"
+CONTROL_WRITTEN = "another one than the runtime has written on the socket of the program's server"
 
 
 def server_silent(patience: float) -> str:
@@ -160,6 +170,8 @@ def failure(text: str, all_waiting: Sequence[Waiting], options: Options) -> str:
     numbers = [int(word) for word in words] if name not in ("refused", "outside") else [int(word) for word in words[:2]]
     if name == "endless":
         return endless(options.limit)
+    if name == "rings":
+        return rings_on(numbers[0], options.limit)
     if name == "printed":
         return printed_too_much(options.output_limit)
     if name == "hang":
@@ -179,12 +191,19 @@ def failure(text: str, all_waiting: Sequence[Waiting], options: Options) -> str:
 
 def fault(text: str) -> str:
     """The sentence of its words for a fault that isn't the program's."""
+    text = unquote(text)
     name, _, rest = text.partition(" ")
     first, _, last = rest.partition(" ")
     if name == "wrote":
         return wrote(int(first), bytes.fromhex(last).decode("utf-8", "replace"))
+    if name == "unread":
+        return f"process {first} doesn't read what it is answered on the runtime's socket"
+    if name == "tells":
+        return f"process {first} remarks on more than it asks"
     if name == "told":
         return f"process {first}: {last}"
+    if name == "filter":
+        return own_filter(int(first))
     if name == "begins":
         return f"process {first} begins with {last!r}"
     if name == "number":
@@ -194,6 +213,8 @@ def fault(text: str) -> str:
         return f"{first}/{tid} doesn't answer {line!r}"
     if name == "both":
         return f"{first} is a number of the model's, and of a process that {last} has started"
+    if name == "control":
+        return CONTROL_WRITTEN
     if name == "server":
         return server_silent(float(rest)) if rest else SERVER_ENDED
     return rest if name == "host" else text

@@ -10,6 +10,7 @@ from typing import TYPE_CHECKING
 
 from .describe import CODES, Met, Place, call_name
 from .program import output_of, which
+from .rooms import room
 
 if TYPE_CHECKING:
     import re
@@ -79,11 +80,14 @@ def _throw_away(number: int) -> None:
     os.dup2(os.open(os.devnull, os.O_WRONLY), number)
 
 
+_CONTROLS = {code: f"\\x{code:02x}" for code in (*range(32), *range(127, 160)) if chr(code) not in "\t\n"}
+
+
 def print_lines(lines: Iterable[str]) -> None:
-    """Lines on standard error."""
+    """Lines on standard error. What a program has written in them does nothing to a terminal."""
     with writing(2):
         for line in lines:
-            print(line, file=sys.stderr, flush=True)
+            print(line.translate(_CONTROLS), file=sys.stderr, flush=True)
 
 
 _said: set[str] = set()
@@ -141,7 +145,6 @@ def page(model: str, path: str, title: str) -> str | None:
     import contextlib
     import re
     import subprocess
-    import tempfile
 
     with contextlib.suppress(FileNotFoundError):
         os.unlink(path + ".html")
@@ -153,7 +156,7 @@ def page(model: str, path: str, title: str) -> str | None:
         return lines.stderr.decode("utf-8", "replace").strip() or f"{model}: status {lines.returncode}"
     with open(path) as file:
         scenario = re.sub(r'"call":"other","code":(\d+)', _named_call, file.read())
-    with tempfile.TemporaryDirectory(prefix="tracehost-") as folder:
+    with room() as folder:
         labelled = os.path.join(folder, os.path.basename(path))
         with open(labelled, "w") as file:
             file.write(scenario)
@@ -166,12 +169,11 @@ def page_of_two(model: str, path: str, scenarios: Mapping[str, str], words: list
     """The viewer's page of two runs, by their names, with its further options; a text if it can't be made."""
     import re
     import subprocess
-    import tempfile
 
     viewer = _viewer()
     if viewer is None:
         return NO_VIEWER
-    with tempfile.TemporaryDirectory(prefix="tracehost-") as folder:
+    with room() as folder:
         files = []
         for name, scenario in scenarios.items():
             done = subprocess.run([model, "--json=trace+rows"], input=scenario, capture_output=True, text=True)

@@ -12,7 +12,7 @@
 #define KERN_PROC_ARGS 7
 #define KERN_PROC_PATHNAME 12
 #define KERN_PROC_VMMAP 32
-#define KERN_PROC_AUXV 38
+#define KERN_PROC_AUXV 36
 
 #ifdef __cplusplus
 extern "C"

@@ -52,6 +52,9 @@
 #pragma redefine_extname sched_rr_get_interval tracehost_sched_rr_get_interval
 #pragma redefine_extname getpriority tracehost_getpriority
 #pragma redefine_extname setpriority tracehost_setpriority
+#pragma redefine_extname getrlimit tracehost_getrlimit
+#pragma redefine_extname setrlimit tracehost_setrlimit
+#pragma redefine_extname prlimit tracehost_prlimit
 #pragma redefine_extname syscall tracehost_syscall
 
 #pragma redefine_extname kill tracehost_kill

@@ -85,8 +85,6 @@
 #pragma redefine_extname seteuid tracehost_host_seteuid /* 183 1 */
 #pragma redefine_extname setgid tracehost_host_setgid /* 181 1 */
 #pragma redefine_extname setegid tracehost_host_setegid /* 182 1 */
-#pragma redefine_extname getrlimit tracehost_host_getrlimit /* 194 2 */
-#pragma redefine_extname setrlimit tracehost_host_setrlimit /* 195 2 */
 #pragma redefine_extname getrusage tracehost_host_getrusage /* 117 2 */
 
 #endif

@@ -1,14 +1,17 @@
-/* pthread_cancel(3) of threads that sleep, wait for a condition, a semaphore, a pipe and another thread.
+/* pthread_cancel(3) of threads that sleep, wait for a condition, a semaphore, a pipe and another thread. Each has said that
+ * its clean-up handler is there before it is cancelled.
  * prints: 5 cancelled, 5 cleaned up
  * schedules: 40 */
 #include <pthread.h>
 #include <semaphore.h>
+#include <stdatomic.h>
 #include <stdio.h>
 #include <unistd.h>
 static pthread_mutex_t mutex = PTHREAD_MUTEX_INITIALIZER;
 static pthread_cond_t condition = PTHREAD_COND_INITIALIZER;
-static sem_t semaphore;
-static int ends[2], cleaned;
+static sem_t semaphore, ready;
+static int ends[2];
+static atomic_int cleaned;
 static pthread_t first;
 static void clean_up(void *given)
 {
@@ -19,6 +22,7 @@ static void *sleep_long(void *given)
 {
 	pthread_mutex_lock(&mutex);
 	pthread_cleanup_push(clean_up, NULL);
+	sem_post(&ready);
 	for (;;)
 		sleep(1000);
 	pthread_cleanup_pop(0);
@@ -28,6 +32,7 @@ static void *await_condition(void *given)
 {
 	pthread_mutex_lock(&mutex);
 	pthread_cleanup_push(clean_up, NULL);
+	sem_post(&ready);
 	for (;;)
 		pthread_cond_wait(&condition, &mutex);
 	pthread_cleanup_pop(0);
@@ -40,6 +45,7 @@ static void count(void *given)
 static void *await_semaphore(void *given)
 {
 	pthread_cleanup_push(count, NULL);
+	sem_post(&ready);
 	sem_wait(&semaphore);
 	pthread_cleanup_pop(0);
 	return NULL;
@@ -49,6 +55,7 @@ static void *await_byte(void *given)
 	char byte;
 
 	pthread_cleanup_push(count, NULL);
+	sem_post(&ready);
 	read(ends[0], &byte, 1);
 	pthread_cleanup_pop(0);
 	return NULL;
@@ -56,6 +63,7 @@ static void *await_byte(void *given)
 static void *await_thread(void *given)
 {
 	pthread_cleanup_push(count, NULL);
+	sem_post(&ready);
 	pthread_join(first, NULL);
 	pthread_cleanup_pop(0);
 	return NULL;
@@ -70,12 +78,12 @@ int main(void)
 	first = pthread_self();
 	pipe(ends);
 	sem_init(&semaphore, 0, 0);
+	sem_init(&ready, 0, 0);
 	for (int i = 0; i < 5; i++) {
 		pthread_create(&threads[i], NULL, routines[i], NULL);
-		if (i == 3)
-			usleep(1000);
+		sem_wait(&ready);
 	}
-	usleep(1000);
+	usleep(1000); /* so most of them wait when they are cancelled */
 	for (int i = 0; i < 5; i++)
 		pthread_cancel(threads[i]);
 	for (int i = 0; i < 5; i++) {

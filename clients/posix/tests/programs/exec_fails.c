@@ -19,11 +19,14 @@ static int error_of(const char *path, char **words)
 
 int main(int argc, char **argv)
 {
-	char *words[42] = {argv[0], "again", NULL}, script[] = "/tmp/exec_fails.XXXXXX", text[] = "echo script of sh: $1 $2\n";
-	int fd = mkstemp(script), status = 0;
+	char *words[42] = {argv[0], "again", NULL}, script[4096], text[] = "echo script of sh: $1 $2\n";
+	const char *folder = getenv("TMPDIR");
+	int fd, status = 0;
 
 	if (argc > 1)
 		return printf("again %d\n", argc - 1) < 0;
+	snprintf(script, sizeof script, "%s/exec_fails.XXXXXX", folder != NULL ? folder : "/tmp");
+	fd = mkstemp(script);
 	if (fd < 0 || fchmod(fd, 0700) != 0 || write(fd, text, strlen(text)) < 0 || close(fd) != 0)
 		return 2;
 	printf("directory %d, text %d, none %d, ", error_of("/", words), error_of(script, words), error_of("/nonexistent", words));

@@ -41,9 +41,10 @@ static void start(pthread_t *thread, void *(*routine)(void *), int state, void *
 int main(void)
 {
 	pthread_t thread;
-	void *stacks[2];
-	if (posix_memalign(&stacks[0], 4096, SIZE) != 0 || posix_memalign(&stacks[1], 4096, SIZE) != 0)
-		return 1;
+	void *stacks[3]; /* the last one keeps the others mapped: natively a thread that is done may still have to end */
+	for (int i = 0; i < 3; i++)
+		if (posix_memalign(&stacks[i], 4096, SIZE) != 0)
+			return 1;
 	sem_init(&done, 0, 0);
 	start(&thread, post, PTHREAD_CREATE_DETACHED, stacks[0]);
 	sem_wait(&done);

@@ -1,22 +1,28 @@
 /* Two threads wait for one signal each; the signals are sent at once, or when both wait.
  * flags: -DWAITS=0 | -DWAITS=1
- * prints: 2 */
+ * prints: 2
+ * schedules: 200 */
 #include <pthread.h>
+#include <semaphore.h>
 #include <signal.h>
+#include <stdatomic.h>
 #include <stdio.h>
 #include <unistd.h>
 static sigset_t s;
-static int n;
+static atomic_int n;
+static sem_t taken;
 static void *t(void *a)
 {
 	int g;
 	sigwait(&s, &g);
 	n++;
+	sem_post(&taken);
 	return 0;
 }
 int main(void)
 {
 	pthread_t p[2];
+	sem_init(&taken, 0, 0);
 	sigemptyset(&s);
 	sigaddset(&s, SIGUSR1);
 	pthread_sigmask(SIG_BLOCK, &s, 0);
@@ -26,7 +32,7 @@ int main(void)
 		sleep(1);
 	for (int i = 0; i < 2; i++) {
 		kill(getpid(), SIGUSR1);
-		sleep(1);
+		sem_wait(&taken); /* two that are pending would be one */
 	}
 	for (int i = 0; i < 2; i++)
 		pthread_join(p[i], 0);

@@ -22,12 +22,12 @@
 #define CHECK(holds) ((holds) ? (void)0 : (printf("line %d: %s, errno %d\n", __LINE__, #holds, errno), exit(1)))
 #define FAILS(call, number) CHECK((errno = 0, (call) == -1 && errno == (number)))
 
-static char folder[] = "/tmp/vectors.XXXXXX", front[2], back[9];
+static char folder[4096], front[2], back[9];
 static struct iovec put[3] = {{"ab", 2}, {"", 0}, {"cde", 3}}, got[2] = {{front, 2}, {back, 9}};
 
 static const char *in_folder(const char *name)
 {
-	static char path[64];
+	static char path[5000];
 	snprintf(path, sizeof path, "%s/%s", folder, name);
 	return path;
 }
@@ -142,6 +142,8 @@ static void waits(void)
 
 int main(void)
 {
+	const char *temporary = getenv("TMPDIR");
+	snprintf(folder, sizeof folder, "%s/vectors.XXXXXX", temporary != NULL ? temporary : "/tmp");
 	CHECK(mkdtemp(folder) != NULL);
 	file();
 	fifo();
