@@ -9,7 +9,50 @@
 
 #include <fcntl.h>
 #include <sys/resource.h>
+#include <sys/stat.h>
 #include <unistd.h>
+
+// An open file, or -1: the program may close its descriptor, and open another file that gets its number.
+class tracehost_file {
+public:
+    explicit tracehost_file(int file) : descriptor(file)
+    {
+        struct stat status;
+        if (file >= 0 && fstat(file, &status) == 0) {
+            device = status.st_dev;
+            inode = status.st_ino;
+        }
+    }
+    ~tracehost_file()
+    {
+        if (is_open())
+            close(descriptor);
+    }
+    tracehost_file(const tracehost_file &) = delete;
+    tracehost_file &operator=(const tracehost_file &) = delete;
+
+    bool is_none() const { return descriptor < 0; }
+    // nobody closes it
+    void leave() { descriptor = -1; }
+    // throws std::system_error if the number means another file by now
+    int number() const
+    {
+        if (!is_open())
+            throw std::system_error(EBADF, std::generic_category());
+        return descriptor;
+    }
+
+private:
+    bool is_open() const
+    {
+        struct stat status;
+        return descriptor >= 0 && fstat(descriptor, &status) == 0 && status.st_dev == device && status.st_ino == inode;
+    }
+
+    int descriptor;
+    dev_t device = 0;
+    ino_t inode = 0;
+};
 
 // A scenario that is whole after each step, and the lines of its steps. Members throw std::system_error.
 class tracehost_recording {
@@ -18,14 +61,8 @@ public:
     tracehost_recording(int scenario, int lines, bool kills) : scenario_file(scenario), lines_file(lines), owner(getpid())
     {
         const std::string head = std::string("{\"kill_on_debugger_exit\":") + (kills ? "1" : "0") + ",\"steps\":[";
-        try {
-            replace_end(scenario_file, head, closing(), scenario_size, "");
-        } catch (...) {
-            close_files();
-            throw;
-        }
+        replace_end(scenario_file.number(), head, closing(), scenario_size, "");
     }
-    ~tracehost_recording() { close_files(); }
     tracehost_recording(const tracehost_recording &) = delete;
     tracehost_recording &operator=(const tracehost_recording &) = delete;
 
@@ -46,13 +83,13 @@ public:
         if (line.find(" error ENOMEM ") != std::string::npos || owner != getpid())
             return;
         const off_t lines_before = lines_size;
-        if (lines_file >= 0)
-            replace_end(lines_file, line + "\n", "", lines_size, "");
+        if (!lines_file.is_none())
+            replace_end(lines_file.number(), line + "\n", "", lines_size, "");
         try {
-            replace_end(scenario_file, (count == 0 ? "\n" : ",\n") + step, closing(), scenario_size, closing());
+            replace_end(scenario_file.number(), (count == 0 ? "\n" : ",\n") + step, closing(), scenario_size, closing());
         } catch (const std::system_error &error) {
             lines_size = lines_before;
-            if (lines_file >= 0 && ftruncate(lines_file, lines_size) != 0)
+            if (!lines_file.is_none() && ftruncate(lines_file.number(), lines_size) != 0)
                 throw std::system_error(error.code(), "the lines have one more than the steps");
             throw;
         }
@@ -91,14 +128,7 @@ private:
         throw std::system_error(error, std::generic_category(), is_restored ? "" : "the file isn't whole");
     }
 
-    void close_files()
-    {
-        close(scenario_file);
-        if (lines_file >= 0)
-            close(lines_file);
-    }
-
-    int scenario_file, lines_file;
+    tracehost_file scenario_file, lines_file;
     off_t scenario_size = 0, lines_size = 0;
     std::size_t count = 0;
     pid_t owner;

@@ -21,11 +21,14 @@
 #include <cstdlib>
 #include <exception>
 #include <filesystem>
-#include <iostream>
+#include <mutex>
 #include <optional>
 #include <string>
 #include <system_error>
+#include <thread>
 
+#include <poll.h>
+#include <signal.h>
 #include <spawn.h>
 #include <sys/file.h>
 #include <sys/stat.h>
@@ -43,23 +46,20 @@ public:
         has_own_folder = named == nullptr || *named == '\0';
         folder = has_own_folder ? new_folder(name) : std::filesystem::absolute(named);
         std::filesystem::create_directories(folder);
-        for (int nth = 1; locked < 0; nth++) {
+        int file = -1;
+        for (int nth = 1; file < 0; nth++) {
             stem = folder / (nth == 1 ? name : name + "-" + std::to_string(nth));
-            locked = open_locked(path(".json"));
+            file = open_locked(path(".json"));
         }
+        locked.emplace(file);
         std::error_code ignored;
         std::filesystem::remove(path(".html"), ignored); // of an earlier run
-    }
-    ~tracehost_artifacts()
-    {
-        if (!is_kept)
-            close(locked);
     }
     tracehost_artifacts(const tracehost_artifacts &) = delete;
     tracehost_artifacts &operator=(const tracehost_artifacts &) = delete;
 
     std::string path(const char *end) const { return stem.string() + end; }
-    int scenario() const { return locked; }
+    int scenario() const { return locked->number(); }
 
     // the test has passed
     void remove()
@@ -74,13 +74,16 @@ public:
     // The test has failed after so many steps. The files keep their names while the program runs.
     void keep(const std::string &test, const std::string &message, std::size_t step)
     {
-        is_kept = true;
+        locked->leave();
         if (step > 0)
             make_page(test, message, std::to_string(step));
-        const std::string page = std::filesystem::exists(path(".html")) ? path(".html") : "none";
-        std::cerr << "tracehost: scenario: " << path(".json") << "\ntracehost: lines:    " << path(".out")
-                  << "\ntracehost: page:     " << page << std::endl;
+        std::error_code ignored;
+        const std::string page = std::filesystem::exists(path(".html"), ignored) ? path(".html") : "none";
+        say("scenario: " + path(".json") + "\ntracehost: lines:    " + path(".out") + "\ntracehost: page:     " + page);
     }
+
+    // on standard error, and not by a stream, which may throw
+    static void say(const std::string &text) { std::fputs(("tracehost: " + text + "\n").c_str(), stderr); }
 
 private:
     // A file's name for a test's: with a digest of it (FNV-1a) if it has other characters, or is long.
@@ -144,24 +147,48 @@ trace=$("$TRACEHOST" --json=trace+rows -- "$1") && printf '%s\n' "$trace" |
         const char *const words[] = {"/bin/sh", "-c", script.c_str(), "sh", scenario_path.c_str(), page.c_str(), test.c_str(),
             message.c_str(), step.c_str(), nullptr};
         posix_spawn_file_actions_t files;
+        posix_spawnattr_t attributes;
         if (posix_spawn_file_actions_init(&files) != 0)
             return;
-        posix_spawn_file_actions_addopen(&files, STDIN_FILENO, "/dev/null", O_RDONLY, 0);
-        posix_spawn_file_actions_adddup2(&files, STDERR_FILENO, STDOUT_FILENO);
-        pid_t child = 0;
-        int status = 0;
-        if (posix_spawn(&child, words[0], &files, nullptr, const_cast<char *const *>(words), environ) == 0)
-            while (waitpid(child, &status, 0) < 0 && errno == EINTR) // a program that ignores SIGCHLD gets no status
-                continue;
+        if (posix_spawnattr_init(&attributes) == 0) {
+            posix_spawn_file_actions_addopen(&files, STDIN_FILENO, "/dev/null", O_RDONLY, 0);
+            posix_spawn_file_actions_adddup2(&files, STDERR_FILENO, STDOUT_FILENO);
+            posix_spawnattr_setflags(&attributes, POSIX_SPAWN_SETPGROUP);
+            pid_t child = 0;
+            if (posix_spawn(&child, words[0], &files, &attributes, const_cast<char *const *>(words), environ) == 0)
+                wait_for(child);
+            posix_spawnattr_destroy(&attributes);
+        }
         posix_spawn_file_actions_destroy(&files);
     }
 
+    // Waits for a group of processes by its first one, and kills it if it doesn't end.
+    static void wait_for(pid_t child)
+    {
+        int status = 0;
+        for (int times = 0; times < seconds_for_a_page * 100; times++) {
+            const pid_t ended = waitpid(child, &status, WNOHANG);
+            if (ended != 0 && (ended > 0 || errno != EINTR)) // a program that ignores SIGCHLD gets no status
+                return;
+            poll(nullptr, 0, 10);
+        }
+        say("the page isn't made in " + std::to_string(seconds_for_a_page) + " seconds");
+        kill(-child, SIGKILL);
+        while (waitpid(child, &status, 0) < 0 && errno == EINTR)
+            continue;
+    }
+
+#ifndef TRACEHOST_SECONDS_FOR_A_PAGE // a test has less
+#define TRACEHOST_SECONDS_FOR_A_PAGE 300
+#endif
+    static constexpr int seconds_for_a_page = TRACEHOST_SECONDS_FOR_A_PAGE;
+
     std::filesystem::path folder, stem;
-    bool has_own_folder = false, is_kept = false;
-    int locked = -1;
+    bool has_own_folder = false;
+    std::optional<tracehost_file> locked;
 };
 
-// A session that is recorded from its beginning, for a test.
+// A session that is recorded from its beginning, for a test. Nothing that is done for the record throws.
 class tracehost_test : public tracehost_session {
 public:
     explicit tracehost_test(std::string name, bool kill_on_debugger_exit = true)
@@ -173,7 +200,7 @@ public:
         try {
             artifacts.emplace(test);
             record_in(own(artifacts->scenario()), tracehost_recording::opened(artifacts->path(".out")));
-        } catch (const std::system_error &error) {
+        } catch (const std::exception &error) {
             tell(error);
         }
     }
@@ -185,31 +212,37 @@ public:
             fail("an exception");
         try {
             if (has_failed)
-                artifacts->keep(test, message, step);
+                artifacts->keep(test, message, step == unknown ? steps() : step);
             else
                 artifacts->remove();
         } catch (const std::exception &error) {
-            std::cerr << "tracehost: " << test << ": " << error.what() << std::endl;
+            tell(error);
         }
     }
     tracehost_test(const tracehost_test &) = delete;
     tracehost_test &operator=(const tracehost_test &) = delete;
 
-    // The test has failed. The first message and its step are on the page, with what explain() says.
+    // The test has failed. The first message and its step are on the page, with what explain() says. Any thread may call it; the
+    // page of another one's failure is of the last step.
     void fail(const std::string &said, const char *file = nullptr, int line = 0)
     {
+        const std::lock_guard<std::mutex> guard(failing);
         if (has_failed)
             return;
         has_failed = true;
-        message = said + (file == nullptr ? "" : "\n" + std::string(file) + ":" + std::to_string(line));
-        step = steps();
         try {
+            message = said + (file == nullptr ? "" : "\n" + std::string(file) + ":" + std::to_string(line));
+            if (std::this_thread::get_id() != thread) // else the session might be in a call
+                return;
+            step = steps();
             message += "\n" + explain();
         } catch (const std::exception &) { // the message is enough
         }
     }
 
 private:
+    static constexpr std::size_t unknown = static_cast<std::size_t>(-1);
+
     // a second descriptor of the file, whose lock stays with the first
     static int own(int file)
     {
@@ -221,18 +254,21 @@ private:
 
     std::size_t steps() const { return recording ? recording->steps() : lost_at; }
 
-    void tell(const std::system_error &error)
-    {
+    void tell(const std::exception &error) noexcept
+    try {
         lost_at = steps();
-        std::cerr << "tracehost: " << test << ": not recorded from step " << lost_at + 1 << " on: " << error.what() << std::endl;
+        tracehost_artifacts::say(test + ": not recorded from step " + std::to_string(lost_at + 1) + " on: " + error.what());
+    } catch (const std::exception &) { // no memory for the words
     }
 
     std::string test, message;
     std::optional<tracehost_artifacts> artifacts;
     const int exceptions = std::uncaught_exceptions();
     const pid_t owner = getpid();
+    const std::thread::id thread = std::this_thread::get_id();
+    std::mutex failing;
     bool has_failed = false;
-    std::size_t step = 0, lost_at = 0;
+    std::size_t step = unknown, lost_at = 0;
 };
 
 #endif

@@ -18,7 +18,7 @@ struct thp_test {
     volatile sig_atomic_t is_open;
     th_host *host;
     pid_t owner;
-    int file; /* the scenario, which is locked; -1 if there is none */
+    struct thp_file file; /* the scenario, which is locked */
     struct thp_artifacts artifacts;
     char name[256], message[1024];
     int has_failed;
@@ -54,16 +54,16 @@ static void say_in_handler(const char *label, const char *text)
 static void make_page_in_handler(const struct thp_test *test, const char *message, const char *step)
 {
     const char *argv[THP_PAGE_WORDS];
-    int status;
     thp_page_command(argv, &test->artifacts, test->name, message, step);
     pid_t child = _Fork();
     if (child == 0) {
+        setpgid(0, 0);
         dup2(STDERR_FILENO, STDOUT_FILENO);
         execve(argv[0], (char *const *)argv, environ);
         _exit(127);
     }
-    while (child > 0 && waitpid(child, &status, 0) < 0 && errno == EINTR)
-        continue;
+    if (child > 0)
+        thp_wait_for_page(child);
 }
 #else
 static void make_page_in_handler(const struct thp_test *test, const char *message, const char *step)
@@ -90,7 +90,7 @@ static void leave_in_handler(const struct thp_test *test)
 static void on_abort(int signal)
 {
     for (const struct thp_test *test = tests; test != NULL; test = test->next)
-        if (test->is_open && test->file >= 0 && test->owner == getpid())
+        if (test->is_open && test->file.number >= 0 && test->owner == getpid())
             leave_in_handler(test);
     raise(signal); /* SA_RESETHAND: it ends the program, once it isn't blocked any more */
 }
@@ -135,7 +135,7 @@ static struct thp_test *open_test(th_host *h, const char *name)
     if (test != NULL) {
         test->host = h;
         test->owner = getpid();
-        test->file = -1;
+        test->file.number = -1;
         test->has_failed = 0;
         test->message[0] = '\0';
         snprintf(test->name, sizeof test->name, "%s", name);
@@ -167,7 +167,7 @@ int th_test_begin(th_host *h, const char *name)
 {
     int scenario, lines, result = 0;
     thp_enter(h);
-    if (h->test != NULL || h->answered || h->scenario >= 0) {
+    if (h->test != NULL || h->answered || h->scenario.number >= 0) {
         errno = EBUSY;
         result = -1;
     } else if ((h->test = open_test(h, name)) == NULL) {
@@ -175,7 +175,7 @@ int th_test_begin(th_host *h, const char *name)
     } else if (thp_open_artifacts(&h->test->artifacts, name, &scenario, &lines) != 0) {
         thp_tell_lost_record(h, errno);
     } else {
-        h->test->file = scenario;
+        h->test->file = thp_file_of(scenario);
         if (thp_begin_record(h, scenario, lines) != 0)
             thp_tell_lost_record(h, errno);
     }
@@ -213,15 +213,15 @@ int th_test_end(th_host *h, int passed)
         return !passed;
     int failed = !passed || test->has_failed, is_mine = test->owner == getpid();
     thp_enter(h);
-    h->scenario = -1; /* it stays open while it is locked */
+    h->scenario.number = -1; /* it stays open while it is locked */
     thp_close_record(h);
     thp_leave(h);
-    if (is_mine && test->file >= 0 && failed)
+    if (is_mine && test->file.number >= 0 && failed)
         leave(test);
-    if (is_mine && test->file >= 0 && !failed)
+    if (is_mine && test->file.number >= 0 && !failed)
         thp_remove_artifacts(&test->artifacts);
-    if (test->file >= 0 && (!failed || !is_mine))
-        close(test->file);
+    if (!failed || !is_mine)
+        thp_close_file(&test->file);
     close_test(test);
     return failed;
 }

@@ -161,7 +161,7 @@ static int library_exchange(th_host *h) { return result_of(make_line(h)); }
 static int library_make(th_host *h, const struct thp_step *step, struct thp_reply *reply)
 {
     tracehost_reply told;
-    int records = h->scenario >= 0;
+    int records = h->scenario.number >= 0;
     if (records && thp_write_step(h, step) != 0)
         return -1;
     uint32_t code = call_library(h->library, step, &told);

@@ -133,6 +133,13 @@ struct thp_text {
     int failed; /* memory ran out: what was to be added is missing */
 };
 
+/* an open file, and -1 for none: the program may close its descriptor, and open another file that gets its number */
+struct thp_file {
+    int number;
+    dev_t device;
+    ino_t inode;
+};
+
 /* a wait that is blocked */
 struct thp_wait {
     struct thp_wait *next;
@@ -166,6 +173,7 @@ struct th_host {
     int broken; /* nothing more is exchanged */
     int socket; /* -1 once it is closed */
     int reasons; /* the program's standard error */
+    struct thp_text errors; /* what was read of it, and nobody has had */
     pid_t program;
     pid_t owner; /* the process that opened the session */
     void *library; /* a session in the process */
@@ -174,7 +182,7 @@ struct th_host {
     int kills; /* the setting of kern.kill_on_debugger_exit */
     int answered; /* a step was answered */
     unsigned long changes; /* steps that may have changed rows */
-    int scenario, lines; /* the files of th_record; -1 for none */
+    struct thp_file scenario, lines; /* of th_record */
     size_t steps; /* recorded in them */
     off_t recorded; /* bytes of the scenario before the brackets that close it */
     off_t lines_end; /* bytes of the lines */
@@ -207,6 +215,9 @@ int thp_ask(th_host *h, const struct thp_step *step, unsigned kinds, struct thp_
 /* Adds the step and its answer to the files of th_record; -1 with errno. */
 int thp_record(th_host *h, const struct thp_reply *reply);
 void thp_close_record(th_host *h);
+struct thp_file thp_file_of(int number);
+/* Closes the file, unless its number means another one by now. */
+void thp_close_file(struct thp_file *file);
 
 /* Begins a record in files that are empty; -1 with errno, and the session isn't recorded. */
 int thp_begin_record(th_host *h, int scenario, int lines);
@@ -228,6 +239,8 @@ void thp_page_command(
     const char *argv[THP_PAGE_WORDS], const struct thp_artifacts *a, const char *test, const char *message, const char *step);
 /* Makes the page of a test that failed after so many steps; -1 if there is none, and standard error says why. */
 int thp_make_page(const struct thp_artifacts *a, const char *test, const char *message, size_t step);
+/* Waits for the group of processes that makes a page, and kills it if it doesn't end. A signal's handler may call it. */
+void thp_wait_for_page(pid_t child);
 /* A step of a test can't be recorded, which is told. */
 void thp_tell_lost_record(const th_host *h, int error);
 /* The session of a test that hasn't ended is closed. */

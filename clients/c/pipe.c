@@ -4,13 +4,18 @@
 #include "internal.h"
 
 #include <fcntl.h>
+#include <poll.h>
+#include <signal.h>
 #include <spawn.h>
 #include <string.h>
 #include <sys/socket.h>
 #include <sys/wait.h>
+#include <time.h>
 #include <unistd.h>
 
 extern char **environ;
+
+enum { MS_TO_END = 5000, MOST_OF_ERRORS = 1 << 16 };
 
 /* ---------------------------------------------------------------- start and end */
 
@@ -74,6 +79,7 @@ static int open_session(th_host *h, const char *program)
     }
     close(lines[1]);
     close(errors[1]);
+    fcntl(lines[0], F_SETFL, O_NONBLOCK);
     fcntl(errors[0], F_SETFL, O_NONBLOCK);
     h->socket = lines[0];
     h->reasons = errors[0];
@@ -86,49 +92,107 @@ static void pipe_stop(th_host *h)
     h->socket = -1;
 }
 
-/* What the program has written to standard error, and no refused step has read, goes to the caller's. */
+/* ---------------------------------------------------------------- standard error, which is read along: a full socket would stop it */
+
+/* What no refused step has had goes to the caller's standard error. */
 static void pass_errors_on(th_host *h)
 {
+    for (size_t at = 0; at < h->errors.length;) {
+        ssize_t written = write(STDERR_FILENO, h->errors.bytes + at, h->errors.length - at);
+        if (written < 0 && errno != EINTR)
+            break;
+        at += written < 0 ? 0 : (size_t)written;
+    }
+    h->errors.length = 0;
+}
+
+/* Reads what there is. Whether there may be more later. */
+static int read_errors(th_host *h)
+{
     char bytes[1024];
+    for (;;) {
+        ssize_t got = read(h->reasons, bytes, sizeof bytes);
+        if (got < 0 && errno == EINTR)
+            continue;
+        if (got <= 0)
+            return got < 0 && (errno == EAGAIN || errno == EWOULDBLOCK);
+        if (h->errors.length + (size_t)got > MOST_OF_ERRORS)
+            pass_errors_on(h);
+        thp_add_bytes(&h->errors, bytes, (size_t)got);
+    }
+}
+
+static int64_t now_in_ms(void)
+{
+    struct timespec now;
+    clock_gettime(CLOCK_MONOTONIC, &now);
+    return (int64_t)now.tv_sec * 1000 + now.tv_nsec / 1000000;
+}
+
+/* Waits for one of these events of the connection; with a deadline, whether it came before. */
+static int wait_for(th_host *h, short events, const int64_t *deadline)
+{
+    struct pollfd files[] = {{.fd = h->socket, .events = events}, {.fd = h->reasons, .events = POLLIN}};
+    for (;;) {
+        int64_t left = deadline == NULL ? -1 : *deadline - now_in_ms();
+        if (deadline != NULL && left <= 0)
+            return 0;
+        if (poll(files, COUNT(files), (int)left) < 0)
+            files[0].revents = files[1].revents = 0;
+        if (files[1].revents != 0 && !read_errors(h))
+            files[1].fd = -1;
+        if (files[0].revents != 0)
+            return 1;
+    }
+}
+
+/* ---------------------------------------------------------------- the end */
+
+/* The status of the program, which is killed at the deadline; -1 if nobody knows it. */
+static int wait_for_program(th_host *h, int64_t deadline)
+{
+    int status, is_killed = 0;
+    for (;;) {
+        pid_t ended = waitpid(h->program, &status, is_killed ? 0 : WNOHANG);
+        if (ended < 0 && errno != EINTR)
+            return -1;
+        if (ended > 0)
+            return status;
+        struct pollfd errors = {.fd = h->reasons, .events = POLLIN};
+        if (ended == 0 && (poll(&errors, 1, 1) <= 0 || !read_errors(h)))
+            poll(NULL, 0, 1);
+        if (!is_killed && now_in_ms() >= deadline)
+            is_killed = kill(h->program, SIGKILL) == 0;
+    }
+}
+
+/* Reads the rest: the program has written its last answer when its input is at its end and its output is closed. */
+static void read_rest(th_host *h, int64_t deadline)
+{
+    char rest[4096];
     ssize_t got;
-    do {
-        got = read(h->reasons, bytes, sizeof bytes);
-        for (ssize_t at = 0, written; at < got; at += written) {
-            written = write(STDERR_FILENO, bytes + at, (size_t)(got - at));
-            if (written < 0 && errno != EINTR)
-                return;
-            if (written < 0)
-                written = 0;
-        }
-    } while (got > 0 || (got < 0 && errno == EINTR));
+    shutdown(h->socket, SHUT_WR);
+    do
+        got = wait_for(h, POLLIN, &deadline) ? recv(h->socket, rest, sizeof rest, 0) : 0;
+    while (got > 0 || (got < 0 && (errno == EINTR || errno == EAGAIN || errno == EWOULDBLOCK)));
+    pipe_stop(h);
 }
 
 static int pipe_end(th_host *h)
 {
-    if (thp_is_inherited(h)) { /* the program is the parent's, and so is the connection */
+    int status = 0;
+    if (!thp_is_inherited(h)) {
+        int64_t deadline = now_in_ms() + MS_TO_END;
         if (h->socket >= 0)
-            pipe_stop(h);
-        close(h->reasons);
-        return 0;
-    }
-    if (h->socket >= 0) {
-        /* the program has written its last answer when its input is at its end and its output is closed */
-        char rest[4096];
-        ssize_t got;
-        shutdown(h->socket, SHUT_WR);
-        do
-            got = recv(h->socket, rest, sizeof rest, 0);
-        while (got > 0 || (got < 0 && errno == EINTR));
+            read_rest(h, deadline);
+        status = wait_for_program(h, deadline);
+        read_errors(h);
+        pass_errors_on(h);
+    } else if (h->socket >= 0) { /* the program is the parent's, and so is the connection */
         pipe_stop(h);
     }
-    int status = -1;
-    pid_t ended;
-    do
-        ended = waitpid(h->program, &status, 0);
-    while (ended < 0 && errno == EINTR);
-    pass_errors_on(h);
     close(h->reasons);
-    return ended < 0 ? -1 : status;
+    return status;
 }
 
 /* ---------------------------------------------------------------- a line and its answer */
@@ -138,7 +202,7 @@ static int send_all(th_host *h, const char *bytes, size_t length)
     while (length > 0) {
         ssize_t sent = send(h->socket, bytes, length, MSG_NOSIGNAL);
         if (sent < 0) {
-            if (errno == EINTR)
+            if (errno == EINTR || ((errno == EAGAIN || errno == EWOULDBLOCK) && wait_for(h, POLLOUT, NULL)))
                 continue;
             thp_break_off(h);
             errno = EPIPE;
@@ -166,8 +230,9 @@ static int receive_line(th_host *h)
             errno = ENOMEM;
             return -1;
         }
+        wait_for(h, POLLIN, NULL);
         ssize_t got = recv(h->socket, answer->bytes + answer->length, answer->size - answer->length, 0);
-        if (got < 0 && errno == EINTR)
+        if (got < 0 && (errno == EINTR || errno == EAGAIN || errno == EWOULDBLOCK))
             continue;
         if (got <= 0) {
             thp_break_off(h);
@@ -183,19 +248,12 @@ static int pipe_exchange(th_host *h) { return send_all(h, h->step.bytes, h->step
 /* The program has written the reason before its answer. */
 static void pipe_reason(th_host *h, char *reason, size_t size)
 {
-    char more[256];
-    size_t length = 0;
-    for (;;) {
-        size_t room = size - 1 - length;
-        ssize_t got = room > 0 ? read(h->reasons, reason + length, room) : read(h->reasons, more, sizeof more);
-        if (got < 0 && errno == EINTR)
-            continue;
-        if (got <= 0)
-            break;
-        if (room > 0)
-            length += (size_t)got;
-    }
+    read_errors(h);
+    size_t length = h->errors.length < size ? h->errors.length : size - 1;
+    if (length > 0)
+        memcpy(reason, h->errors.bytes, length);
     reason[length] = '\0';
+    h->errors.length = 0;
 }
 
 th_host *th_start(const char *program, const struct th_settings *settings)

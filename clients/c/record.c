@@ -6,9 +6,36 @@
 #include <fcntl.h>
 #include <string.h>
 #include <sys/resource.h>
+#include <sys/stat.h>
 #include <unistd.h>
 
 static const char end[] = "\n]}\n";
+
+struct thp_file thp_file_of(int number)
+{
+    struct stat status;
+    struct thp_file none = {.number = -1}, file = {.number = number};
+    if (number < 0 || fstat(number, &status) != 0)
+        return none;
+    file.device = status.st_dev;
+    file.inode = status.st_ino;
+    return file;
+}
+
+/* whether the number still means the file; else errno */
+static int is_open(const struct thp_file *file)
+{
+    struct thp_file now = thp_file_of(file->number);
+    errno = EBADF;
+    return now.number >= 0 && now.device == file->device && now.inode == file->inode;
+}
+
+void thp_close_file(struct thp_file *file)
+{
+    if (is_open(file))
+        close(file->number);
+    file->number = -1;
+}
 
 /* a longer file than the limit isn't begun, since SIGXFSZ would end the program */
 static int may_have_size(off_t size)
@@ -18,21 +45,23 @@ static int may_have_size(off_t size)
 }
 
 /* Writes the bytes from `at` on, if the file ends in `before`; -1 with errno, and the file ends as before. */
-static int replace_end(int file, const char *bytes, size_t length, off_t at, const char *before)
+static int replace_end(const struct thp_file *file, const char *bytes, size_t length, off_t at, const char *before)
 {
     size_t done = 0, kept = strlen(before);
+    if (!is_open(file))
+        return -1;
     if (!may_have_size(at + (off_t)length)) {
         errno = EFBIG;
         return -1;
     }
     while (done < length) {
-        ssize_t written = pwrite(file, bytes + done, length - done, at + (off_t)done);
+        ssize_t written = pwrite(file->number, bytes + done, length - done, at + (off_t)done);
         if (written >= 0) {
             done += (size_t)written;
         } else if (errno != EINTR) {
             int error = errno;
-            if (done > 0 && (kept == 0 || pwrite(file, before, kept, at) == (ssize_t)kept))
-                (void)!ftruncate(file, at + (off_t)kept);
+            if (done > 0 && (kept == 0 || pwrite(file->number, before, kept, at) == (ssize_t)kept))
+                (void)!ftruncate(file->number, at + (off_t)kept);
             errno = error;
             return -1;
         }
@@ -53,13 +82,16 @@ static int add_entry(th_host *h, const char *between, const char *bytes, size_t 
         errno = ENOMEM;
         return -1;
     }
-    if (replace_end(h->scenario, entry->bytes, entry->length, h->recorded, h->recorded == 0 ? "" : end) != 0)
+    if (replace_end(&h->scenario, entry->bytes, entry->length, h->recorded, h->recorded == 0 ? "" : end) != 0)
         return -1;
     h->recorded += (off_t)added;
     return 0;
 }
 
-static int open_new(const char *path) { return open(path, O_WRONLY | O_CREAT | O_TRUNC | O_CLOEXEC, 0666); }
+static struct thp_file open_new(const char *path)
+{
+    return thp_file_of(open(path, O_WRONLY | O_CREAT | O_TRUNC | O_CLOEXEC, 0666));
+}
 
 static int add_head(th_host *h)
 {
@@ -69,14 +101,14 @@ static int add_head(th_host *h)
 
 static int open_record(th_host *h, const char *scenario, const char *lines)
 {
-    if (h->answered || h->scenario >= 0) {
+    if (h->answered || h->scenario.number >= 0) {
         errno = EBUSY;
         return -1;
     }
     h->scenario = open_new(scenario);
-    if (h->scenario >= 0 && lines != NULL)
+    if (h->scenario.number >= 0 && lines != NULL)
         h->lines = open_new(lines);
-    if (h->scenario >= 0 && (lines == NULL || h->lines >= 0) && add_head(h) == 0)
+    if (h->scenario.number >= 0 && (lines == NULL || h->lines.number >= 0) && add_head(h) == 0)
         return 0;
     int error = errno;
     thp_close_record(h);
@@ -86,11 +118,11 @@ static int open_record(th_host *h, const char *scenario, const char *lines)
 
 int thp_begin_record(th_host *h, int scenario, int lines)
 {
-    h->scenario = scenario;
-    h->lines = lines;
+    h->scenario = thp_file_of(scenario);
+    h->lines = thp_file_of(lines);
     if (add_head(h) == 0)
         return 0;
-    h->scenario = -1;
+    h->scenario.number = -1;
     return -1;
 }
 
@@ -106,16 +138,16 @@ int th_record(th_host *h, const char *scenario, const char *lines)
 static int is_recorded(const th_host *h, const struct thp_reply *reply)
 {
     int is_made = reply->kind != THP_REFUSED && (reply->kind != THP_ERROR || reply->error != ENOMEM);
-    return h->scenario >= 0 && is_made && !thp_is_inherited(h);
+    return h->scenario.number >= 0 && is_made && !thp_is_inherited(h);
 }
 
 static int add_line(th_host *h)
 {
     struct thp_text *answer = &h->answer;
-    if (h->lines < 0)
+    if (h->lines.number < 0)
         return 0;
     answer->bytes[answer->length - 1] = '\n';
-    int result = replace_end(h->lines, answer->bytes, answer->length, h->lines_end, "");
+    int result = replace_end(&h->lines, answer->bytes, answer->length, h->lines_end, "");
     answer->bytes[answer->length - 1] = '\0';
     return result;
 }
@@ -126,7 +158,7 @@ static int lose_record(th_host *h, int error)
     h->record_error = error;
     if (h->test != NULL) {
         thp_tell_lost_record(h, error);
-        h->scenario = -1;
+        h->scenario.number = -1;
         return 0;
     }
     thp_break_off(h);
@@ -142,16 +174,15 @@ int thp_record(th_host *h, const struct thp_reply *reply)
     int result = add_line(h);
     if (result == 0) {
         result = add_entry(h, h->steps == 0 ? "\n" : ",\n", h->step.bytes, h->step.length - 1);
-        if (result != 0 && h->lines >= 0) {
-            int error = errno;
-            (void)!ftruncate(h->lines, h->lines_end);
-            errno = error;
-        }
+        int error = errno;
+        if (result != 0 && is_open(&h->lines))
+            (void)!ftruncate(h->lines.number, h->lines_end);
+        errno = error;
     }
     if (result != 0)
         return lose_record(h, errno);
     h->steps++;
-    if (h->lines >= 0)
+    if (h->lines.number >= 0)
         h->lines_end += (off_t)h->answer.length;
     return 0;
 }
@@ -160,9 +191,6 @@ int th_record_error(const th_host *h) { return h->record_error; }
 
 void thp_close_record(th_host *h)
 {
-    if (h->scenario >= 0)
-        close(h->scenario);
-    if (h->lines >= 0)
-        close(h->lines);
-    h->scenario = h->lines = -1;
+    thp_close_file(&h->scenario);
+    thp_close_file(&h->lines);
 }

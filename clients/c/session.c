@@ -72,7 +72,7 @@ th_host *thp_new(const struct thp_transport *transport, const struct th_settings
         return NULL;
     h->transport = transport;
     h->kills = settings == NULL || settings->kill_on_debugger_exit != 0;
-    h->scenario = h->lines = -1;
+    h->scenario.number = h->lines.number = -1;
     h->session = next_session();
     h->owner = getpid();
     int error = thp_init_threads(h);
@@ -92,6 +92,7 @@ void thp_free(th_host *h)
     thp_close_record(h);
     if (!thp_is_inherited(h)) /* else it would wait for threads that sleep in the parent */
         thp_end_threads(h);
+    free(h->errors.bytes);
     free(h->step.bytes);
     free(h->answer.bytes);
     free(h->entry.bytes);

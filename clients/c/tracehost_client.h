@@ -215,7 +215,8 @@ th_host *th_open(const struct th_settings *settings);
 
 /*
  * Ends the session, frees it, and returns the program's status as waitpid(2) of the host system gives it. For NULL it does nothing.
- * What the program has written on standard error by then, except reasons, is written there. 0 after th_open.
+ * A program that doesn't end within five seconds is killed. What it has written on standard error by then, except reasons, is
+ * written there. 0 after th_open.
  */
 int th_close(th_host *h);
 

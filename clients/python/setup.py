@@ -19,11 +19,11 @@ TOOLS = HERE.parent.parent / "tools"
 VIEWER = HERE.parent.parent / "viewer"
 
 
-def answer_of(tool: str) -> str | None:
+def answer_of(tool: str, *words: str) -> str | None:
     """What a script in tools/ prints; None if it finds nothing, or outside the repository."""
     if not (TOOLS / tool).exists():
         return None
-    done = subprocess.run([TOOLS / tool], stdout=subprocess.PIPE, text=True)
+    done = subprocess.run([TOOLS / tool, *words], stdout=subprocess.PIPE, text=True)
     return done.stdout.strip() if done.returncode == 0 else None
 
 
@@ -76,7 +76,7 @@ commands += ["tracehost = tracehost.__main__:main"] if program else []
 
 setup(
     version=version(),
-    license="BSD-2-Clause",
+    license=(answer_of("licenses", "sum") if built else None) or "BSD-2-Clause",
     cmdclass={"build_py": BuildPackage},
     # the name is the module's, so that pytest takes -p tracehost.pytest_plugin and an installed package for one plugin
     entry_points={"pytest11": ["tracehost.pytest_plugin = tracehost.pytest_plugin"], "console_scripts": commands},

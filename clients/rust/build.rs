@@ -2,6 +2,7 @@
 //! is part of, else by pkg-config.
 
 use std::env;
+use std::fs;
 use std::path::{Path, PathBuf};
 use std::process::{self, Command};
 
@@ -35,6 +36,14 @@ fn installed() -> Option<PathBuf> {
     (found.status.success() && folder.join(ARCHIVE).exists()).then_some(folder)
 }
 
+/// Whether the archive has this crate's version among its strings, as `tracehost_version` returns it.
+fn has_own_version(archive: &[u8]) -> bool {
+    let wanted = format!("{}\0", env!("CARGO_PKG_VERSION"));
+    let is_longer = |at: usize| at > 0 && (archive[at - 1].is_ascii_digit() || archive[at - 1] == b'.');
+    let mut places = archive.windows(wanted.len()).enumerate();
+    places.any(|(at, text)| text == wanted.as_bytes() && !is_longer(at))
+}
+
 fn fail(reason: &str) -> ! {
     eprintln!("{reason}");
     process::exit(1)
@@ -52,7 +61,17 @@ fn main() {
             fail("tracehost: there is no libtracehost.a: install tracehost, or name its folder in TRACEHOST_LIB_DIR")
         }
     };
-    println!("cargo:rerun-if-changed={}", folder.join(ARCHIVE).display());
+    let archive = folder.join(ARCHIVE);
+    match fs::read(&archive) {
+        Ok(bytes) if has_own_version(&bytes) => (),
+        Ok(_) => fail(&format!(
+            "tracehost: {} isn't of this crate's version, {}",
+            archive.display(),
+            env!("CARGO_PKG_VERSION")
+        )),
+        Err(reason) => fail(&format!("tracehost: {}: {reason}", archive.display())),
+    }
+    println!("cargo:rerun-if-changed={}", archive.display());
     println!("cargo:rustc-link-search=native={}", folder.display());
     println!("cargo:rustc-link-lib=static=tracehost");
 }

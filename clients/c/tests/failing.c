@@ -15,6 +15,7 @@
 #include <stdio.h>
 #include <stdlib.h>
 #include <string.h>
+#include <sys/stat.h>
 #include <sys/wait.h>
 #include <unistd.h>
 
@@ -170,6 +171,23 @@ static int misuse(const char *name)
     return th_close(h) != 0 || is_wrong;
 }
 
+/* It closes the record's files, and opens its own, which get their numbers and stay empty. */
+static int closes_files(const char *name)
+{
+    struct stat status;
+    FILE *own[64];
+    int is_whole = 1, count = 0;
+    th_host *h = begin(name);
+    for (int file = 3; file < 64; file++)
+        if (fstat(file, &status) == 0 && S_ISREG(status.st_mode) && close(file) == 0 && (own[count] = tmpfile()) != NULL)
+            is_whole &= fileno(own[count++]) == file;
+    int failed = th_test_end(h, attaches(h, TH_SIGSEGV));
+    failed |= th_close(h) != 0;
+    while (count-- > 0)
+        is_whole &= fstat(fileno(own[count]), &status) == 0 && status.st_size == 0 && fclose(own[count]) == 0;
+    return failed || !is_whole;
+}
+
 int main(int argc, char **argv)
 {
     static const struct {
@@ -177,7 +195,8 @@ int main(int argc, char **argv)
         int (*run)(const char *name);
     } cases[] = {{"passes", passes}, {"fails", fails}, {"twice", twice}, {"threads", threads}, {"forks", forks},
         {"forks_and_aborts", forks_and_aborts}, {"aborts", aborts}, {"aborts_elsewhere", aborts_elsewhere},
-        {"handles_abort", handles_abort}, {"closes", closes}, {"no_step", no_step}, {"misuse", misuse}};
+        {"handles_abort", handles_abort}, {"closes", closes}, {"closes_files", closes_files}, {"no_step", no_step},
+        {"misuse", misuse}};
     program = argc > 2 ? argv[1] : "";
     for (size_t i = 0; argc > 2 && i < sizeof cases / sizeof cases[0]; i++)
         if (strcmp(cases[i].name, argv[2]) == 0)

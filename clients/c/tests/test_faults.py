@@ -11,6 +11,7 @@ import pathlib
 import random
 import signal
 import subprocess
+import sys
 import time
 
 import pytest
@@ -73,6 +74,61 @@ def test_a_file_that_may_not_grow(faults: str, tmp_path: pathlib.Path) -> None:
         scenario, lines = tmp_path / f"{size}.json", tmp_path / f"{size}.out"
         made = int(run(faults, "limit", named_program(), scenario, lines, size))
         assert recorded(scenario, lines) == made
+
+
+# ---- programs that hang, or write much on standard error
+
+NEW = "1001 1 new 1000 100000"
+PROGRAMS = {
+    # the call's errno, the signal that ends the program, and how many bytes it has written on standard error
+    "ignores the end of its input": (f"import sys, time; sys.stdin.readline(); print('{NEW}', flush=True); time.sleep(1000)", 0, 9, 0),
+    "stops": (f"import os, sys; sys.stdin.readline(); print('{NEW}', flush=True); os.kill(os.getpid(), 19)", 0, 9, 0),
+    "prints without an end": (
+        f"import signal, sys; sys.stdin.readline(); print('{NEW}', flush=True); sys.stdin.read()\n"
+        "try:\n    while True: sys.stdout.write('x')\nexcept OSError: signal.pause()",
+        0, 9, 0,
+    ),
+    "writes much before its answer": (
+        f"import sys; sys.stdin.readline(); sys.stderr.write('x' * 1000000); print('{NEW}')", 0, 0, 1000000,
+    ),
+    "writes much at its end": (
+        f"import sys; sys.stdin.readline(); print('{NEW}', flush=True); sys.stdin.read(); sys.stderr.write('x' * 1000000)", 0, 0, 1000000,
+    ),
+    "writes much before it reads": (
+        f"import sys; sys.stderr.write('x' * 1000000); sys.stdin.readline(); print('{NEW}')", 0, 0, 1000000,
+    ),
+}  # fmt: skip
+
+
+@pytest.fixture(scope="module")
+def hanging(tmp_path_factory: pytest.TempPathFactory) -> str:
+    built = tmp_path_factory.mktemp("hanging") / "hanging"
+    sources = [str(CLIENT / "tests/faults/hanging.c"), str(CLIENT / "tracehost_client.c")]
+    flags = ["-std=c11", "-g", "-pthread", *WARNINGS, *SANITIZERS, f"-I{CLIENT}"]
+    subprocess.run(["cc", *flags, "-o", str(built), *sources], check=True)
+    return str(built)
+
+
+@pytest.mark.parametrize("text, error, ended_by, written", PROGRAMS.values(), ids=PROGRAMS)
+def test_a_program_that_hangs(hanging: str, tmp_path: pathlib.Path, text: str, error: int, ended_by: int, written: int) -> None:
+    """th_close returns after five seconds, or some more on a busy machine; standard error is read along."""
+    program = tmp_path / "program"
+    program.write_text(f"#!{sys.executable}\n{text}\n")
+    program.chmod(0o700)
+    began = time.monotonic()
+    done = subprocess.run([hanging, program, "call"], stdout=subprocess.PIPE, stderr=subprocess.PIPE, timeout=300, check=False)
+    assert done.stdout.split() == [str(error).encode(), str(ended_by).encode()]
+    assert done.stderr == b"x" * written
+    assert time.monotonic() - began > 4 or not ended_by
+
+
+def test_a_program_that_answers_nothing(hanging: str, tmp_path: pathlib.Path) -> None:
+    """A session without a call is left too."""
+    program = tmp_path / "program"
+    program.write_text("#!/bin/sh\ntrap '' TERM\nwhile :; do sleep 9; done\n")
+    program.chmod(0o700)
+    done = subprocess.run([hanging, program], stdout=subprocess.PIPE, stderr=subprocess.PIPE, timeout=300, check=False)
+    assert (done.stdout, done.stderr) == (b"0 9\n", b"")
 
 
 RECORDER = r"""

@@ -8,6 +8,7 @@
 #include "failing.hpp"
 
 #include <functional>
+#include <iostream>
 #include <map>
 #include <stdexcept>
 #include <thread>
@@ -68,6 +69,35 @@ int forks(const std::string &name)
     _exit(7); // the child, whose session is gone
 }
 
+// It closes the record's files, and opens its own, which get their numbers and stay empty.
+int closes_files(const std::string &name)
+{
+    std::vector<std::FILE *> own;
+    struct stat status;
+    bool is_whole = true;
+    {
+        tracehost_test test(name);
+        for (int file = 3; file < 64; file++)
+            if (fstat(file, &status) == 0 && S_ISREG(status.st_mode) && close(file) == 0) {
+                own.push_back(std::tmpfile());
+                is_whole &= own.back() != nullptr && fileno(own.back()) == file;
+            }
+        is_whole &= signal_after_step(test) == sigsegv;
+    }
+    for (std::FILE *file : own)
+        is_whole &= fstat(fileno(file), &status) == 0 && status.st_size == 0 && std::fclose(file) == 0;
+    return !is_whole;
+}
+
+// Nothing can be written on standard error, and streams throw then.
+int loses_standard_error(const std::string &name)
+{
+    std::cerr.exceptions(std::ios::badbit | std::ios::failbit);
+    const int full = open("/dev/full", O_WRONLY);
+    dup2(full, STDERR_FILENO);
+    return fails(name) + passes("another") == 1 ? 0 : 1;
+}
+
 int no_step(const std::string &name)
 {
     tracehost_test test(name);
@@ -80,6 +110,7 @@ int no_step(const std::string &name)
 int main(int argc, char **argv)
 {
     const std::map<std::string, std::function<int(const std::string &)>> cases = {{"passes", passes}, {"fails", fails},
-        {"twice", twice}, {"throws", throws}, {"threads", threads}, {"forks", forks}, {"no_step", no_step}};
+        {"twice", twice}, {"throws", throws}, {"threads", threads}, {"forks", forks}, {"no_step", no_step},
+        {"closes_files", closes_files}, {"loses_standard_error", loses_standard_error}};
     return argc < 2 ? 2 : cases.at(argv[1])(argv[argc > 2 ? 2 : 1]);
 }

@@ -3,7 +3,9 @@
 
 #include "failing.hpp"
 
+#include <atomic>
 #include <stdexcept>
+#include <thread>
 
 TEST(debugger, passes)
 {
@@ -61,6 +63,20 @@ TEST(debugger, dies)
     tracehost_gtest test;
     EXPECT_EQ(signal_after_step(test), sigsegv);
     EXPECT_DEATH(test.call(tracehost_spawn, 1001), ""); // it doesn't, and the child leaves nothing
+}
+
+// A check fails in another thread while the session makes steps.
+TEST(debugger, fails_in_a_thread)
+{
+    tracehost_gtest test;
+    std::atomic<bool> is_done{false};
+    std::thread other([&] {
+        EXPECT_EQ(1, 2);
+        is_done = true;
+    });
+    while (!is_done)
+        signal_after_step(test);
+    other.join();
 }
 
 class numbered : public testing::TestWithParam<int> {};

@@ -334,26 +334,38 @@ def test_a_full_disk_changes_no_outcome(runs: Runs, tmp_path: pathlib.Path) -> N
     assert {1 <= steps(folder) < 40 for folder in folders(tmp_path)} == {True}
 
 
-def test_a_record_that_cannot_be_made(tmp_path: pathlib.Path) -> None:
-    """The test goes on without it."""
-    (tmp_path / "conftest.py").write_text(
-        "import pathlib\nimport pytest\nimport tracehost.pytest_plugin as plugin\n\n"
-        "@pytest.fixture(autouse=True)\ndef no_room(monkeypatch):\n"
-        "    made = plugin.Sessions.__init__\n"
-        "    def without(self, folder):\n        made(self, pathlib.Path('/dev/null/nowhere'))\n"
-        "    monkeypatch.setattr(plugin.Sessions, '__init__', without)\n"
+@pytest.mark.parametrize("folder", ["/dev/null/nowhere", "/dev/null", "/proc/nowhere"])
+@pytest.mark.parametrize("words", workers)
+def test_a_folder_that_cannot_be_made(runs: Runs, folder: str, words: tuple[str, ...]) -> None:
+    """The tests go on without records. The report of the one that fails says so, and the summary for the others."""
+    said = runs(
+        """
+from hypothesis import settings
+from tracehost.stateful import Debugging
+
+class Machine(Debugging):
+    pass
+
+TestMachine = Machine.TestCase
+TestMachine.settings = settings(max_examples=3, deadline=None)
+
+def test_passes(tracehost, capfd):
+    assert tracehost.user(1001).spawn().pid == 1000
+    assert capfd.readouterr() == ("", "")
+
+def test_fails(tracehost):
+    tracehost.user(1001).spawn()
+    assert 0, "the test's own"
+""",
+        "-Werror",
+        "--tracehost-artifacts",
+        folder,
+        *words,
     )
-    (tmp_path / "test_suite.py").write_text("def test_one(tracehost):\n    assert tracehost.user(1001).spawn().pid == 1000\n")
-    command = [sys.executable, "-m", "pytest", "-p", "tracehost.pytest_plugin", "-p", "no:cacheprovider", "-s"]
-    done = subprocess.run(
-        command,
-        cwd=tmp_path,
-        env={**os.environ, "PYTHONPATH": str(CLIENT)},
-        stdout=subprocess.PIPE,
-        stderr=subprocess.STDOUT,
-        text=True,
-    )
-    assert "1 passed" in done.stdout and "tracehost: not recorded: " in done.stdout, done.stdout
+    assert "1 failed, 2 passed" in said and "AssertionError: the test's own" in said
+    assert re.search(rf"^\S*test_suite\.py::test_passes: not recorded: [A-Za-z]+Error: .*{folder}", said, re.MULTILINE)
+    assert re.search(rf"^not recorded: [A-Za-z]+Error: .*{folder}", said, re.MULTILINE)
+    assert "session.html" not in said
 
 
 # ---- searches

@@ -33,21 +33,13 @@ class Checkout:
         self.note()
 
     def note(self) -> None:
-        def digest(name: str) -> str:
-            return hashlib.sha256((self.top / RELEASE / name).read_bytes()).hexdigest()
-
         def sources(crate: str) -> str:
             return subprocess.run([self.top / "tools/sources", crate], stdout=subprocess.PIPE, text=True).stdout.strip()
 
-        words = {
-            "sources": sources("tracehost"),
-            "program": digest("tracehost"),
-            "needs": "Linux",
-            "library-sources": sources("tracehost_c"),
-            "archive": digest("libtracehost.a"),
-            "shared": digest("libtracehost.so"),
-        }
-        (self.top / RELEASE / "MANIFEST").write_text("".join(f"{key} {value}\n" for key, value in words.items()))
+        facts = ["version 1.0", "kit a kit", "needs Linux", "library-needs Linux"]
+        facts += [f"sources {sources('tracehost')}", f"library-sources {sources('tracehost_c')}"]
+        words = [sys.executable, "tools/manifest.py", "write", str(RELEASE)]
+        subprocess.run(words, cwd=self.top, input="\n".join(facts), text=True, check=True)
 
     def python(self, code: str) -> str:
         """What it prints, or the last line of its traceback."""

@@ -6,9 +6,12 @@ dropped and how often a process forks: 1 for a few seconds, 20 for 10,000 sessio
 
 from __future__ import annotations
 
+import copy
 import gc
+import inspect
 import os
 import pathlib
+import pickle
 import resource
 import signal
 import subprocess
@@ -16,6 +19,7 @@ import sys
 import threading
 import time
 from collections.abc import Callable, Iterator
+from types import FrameType
 from typing import Any, Literal
 
 import pytest
@@ -89,7 +93,7 @@ def test_dropped_sessions_leave_nothing(transport: Transport) -> None:
 
 
 def test_a_program_that_ignores_the_end_of_its_input_is_killed(tmp_path: pathlib.Path, monkeypatch: pytest.MonkeyPatch) -> None:
-    monkeypatch.setattr("tracehost.pipe._SECONDS_TO_END", 0.2)
+    monkeypatch.setattr("tracehost.pipe.SECONDS_TO_END", 0.2)
     program = tmp_path / "program"
     program.write_text("#!/bin/sh\nread line; echo '1001 1 new 1000 100000'; exec sleep 1000\n")
     program.chmod(0o700)
@@ -108,6 +112,106 @@ def test_a_session_at_the_end_of_the_interpreter() -> None:
         stderr=subprocess.PIPE, timeout=300, env={**os.environ, "PYTHONPATH": str(pathlib.Path(__file__).parents[1])},
     )  # fmt: skip
     assert (done.returncode, done.stderr) == (0, b"")
+
+
+# ---- programs that hang
+
+HANGING = {
+    "answers nothing": "read line; exec sleep 1000",
+    "ignores the end of its input": "read line; echo '1001 1 new 1000 100000'; exec sleep 1000",
+    "prints without an end": "read line; echo '1001 1 new 1000 100000'; exec yes",
+    "ignores SIGTERM and has a child": "trap '' TERM; read line; echo '1001 1 new 1000 100000'; sleep 9",
+}
+
+
+@pytest.fixture
+def hanging(tmp_path: pathlib.Path, monkeypatch: pytest.MonkeyPatch, request: pytest.FixtureRequest) -> Iterator[Host]:
+    """A session with a program that hangs, and is killed soon."""
+    for module in ("pipe", "host"):
+        monkeypatch.setattr(f"tracehost.{module}.SECONDS_TO_END", 0.3)
+    program = tmp_path / "program"
+    program.write_text(f"#!/bin/sh\n{request.param}\n")
+    program.chmod(0o700)
+    before = programs(), descriptors()
+    yield Host(program)
+    assert (programs(), descriptors()) == before
+
+
+@pytest.mark.parametrize("hanging", HANGING.values(), ids=HANGING, indirect=True)
+def test_a_program_that_hangs_is_left(hanging: Host) -> None:
+    """By close and by with; closing again says the same. Who still prints then may be ended by SIGPIPE first."""
+    with hanging as host:
+        assert isinstance(host._made, Pipe)
+        host._made._to.write(b"{}\n")
+        status = host.close()
+        assert status == host.close() and status == (-signal.SIGKILL if host._made.was_killed else -signal.SIGPIPE)
+    with pytest.raises(SessionClosed):
+        host.user(1001).spawn()
+
+
+LEAVES_A_PROCESS = "read line; sleep 4 & exec sleep 1000"
+
+
+@pytest.mark.parametrize("hanging", [HANGING["answers nothing"], LEAVES_A_PROCESS], indirect=True)
+def test_a_call_of_another_thread_that_hangs_is_left(hanging: Host) -> None:
+    """Also if another process still has the program's output."""
+    said: list[BaseException] = []
+
+    def call() -> None:
+        try:
+            hanging.user(1001).spawn()
+        except BaseException as error:
+            said.append(error)
+
+    thread = threading.Thread(target=call)
+    thread.start()
+    while hanging._call_in is None:
+        time.sleep(0.01)
+    assert hanging.close() == -signal.SIGKILL
+    thread.join(60)
+    assert [type(error) for error in said] in ([ProgramEnded], [SessionClosed])
+
+
+def test_a_program_that_was_stopped_is_left() -> None:
+    """Within five seconds, and some more on a busy machine."""
+    with Host(transport="pipe") as host:
+        host.user(1001).spawn()
+        assert isinstance(host._made, Pipe)
+        os.kill(host._made.process.pid, signal.SIGSTOP)
+        began = time.monotonic()
+        assert host.close() == -signal.SIGKILL
+        assert 4 < time.monotonic() - began < 60
+
+
+@pytest.mark.parametrize("hanging", [HANGING["ignores the end of its input"]], indirect=True)
+def test_an_interrupted_close_can_be_made_again(hanging: Host) -> None:
+    hanging.user(1001).spawn()
+    assert isinstance(hanging._made, Pipe)
+    pid = hanging._made.process.pid
+    old = signal.signal(signal.SIGALRM, signal.default_int_handler)
+    try:
+        with pytest.raises(KeyboardInterrupt):
+            signal.setitimer(signal.ITIMER_REAL, 0.1)
+            hanging.close()
+            time.sleep(60)  # until the signal comes on a busy machine
+    finally:
+        signal.signal(signal.SIGALRM, old)
+    assert hanging.close() == -signal.SIGKILL
+    with pytest.raises(ProcessLookupError):
+        os.kill(pid, 0)
+
+
+def test_descriptors_that_the_test_has_closed() -> None:
+    """The program ends, and close raises nothing."""
+    host = Host(transport="pipe")
+    host.user(1001).spawn()
+    assert isinstance(host._made, Pipe)
+    made = host._made
+    assert made.process.stdin and made.process.stdout and made._errors
+    for file in (made.process.stdin, made.process.stdout, made._errors):
+        os.close(file.fileno())
+    assert isinstance(host.close(), int)
+    assert made.process.returncode is not None
 
 
 # ---- fork
@@ -254,6 +358,40 @@ def test_a_call_of_a_signal_handler_says_busy(transport: Transport) -> None:
         assert said == ["the session is busy: this thread is in a call of it already"] * 4
         host._text._transport = slow._made
         assert host.user(1001).spawn() == New(1002, 100002)
+
+
+@over_both
+def test_an_interrupt_before_the_call_is_taken_away(transport: Transport) -> None:
+    """As Python 3.9 may raise it: the next call isn't told that the session is busy."""
+    body = inspect.getsource(Host._alone).splitlines()
+    first = Host._alone.__code__.co_firstlineno
+    last = next(number for number, line in enumerate(body) if "self._call_in = None" in line)
+
+    def trace(frame: FrameType, event: str, argument: object) -> Any:
+        if frame.f_code is not Host._alone.__code__:
+            return None
+        if event == "line" and frame.f_lineno == first + last:
+            raise KeyboardInterrupt
+        return trace
+
+    with Host(transport=transport) as host:
+        user, before = host.user(1001), sys.gettrace()
+        sys.settrace(trace)
+        try:
+            with pytest.raises(KeyboardInterrupt):
+                user.spawn()
+        finally:
+            sys.settrace(before)
+        assert host._call_in is not None
+        assert user.spawn() == New(1001, 100001)
+
+
+@over_both
+@pytest.mark.parametrize("copied", [copy.copy, copy.deepcopy, pickle.dumps])
+def test_what_only_a_copy_of_a_session_may_do(transport: Transport, copied: Call) -> None:
+    with Host(transport=transport) as host:
+        with pytest.raises(TypeError, match=r"Host\.copy\(\) makes a copy"):
+            copied(host)  # type: ignore[call-arg]
 
 
 # ---- what can't be encoded, and what is closed

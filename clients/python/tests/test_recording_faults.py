@@ -22,7 +22,7 @@ import pytest
 
 sys.path.insert(0, str(pathlib.Path(__file__).resolve().parents[1]))
 from tracehost import Host, RecordingFailed, SessionClosed
-from tracehost.recording import mend
+from tracehost.recording import _File, mend
 
 PACKAGE = pathlib.Path(__file__).resolve().parents[1]
 SCALE = int(os.environ.get("TRACEHOST_TEST_SCALE", "1"))
@@ -88,21 +88,21 @@ def test_a_file_that_may_not_grow(files: Files, limit: Callable[[int], None], si
         host.line(SPAWN)
 
 
-class FullDisk:
-    """os.pwrite(2) of a disk that has room for so many bytes more."""
+def fill(patch: pytest.MonkeyPatch, room: int) -> None:
+    """From now on the disk of recordings has room for so many bytes more."""
+    write_at = _File.write_at
 
-    def __init__(self, room: int) -> None:
-        self.room, self._pwrite = room, os.pwrite
-        self.sizes: dict[int, int] = {}
-
-    def __call__(self, file: int, text: bytes, place: int) -> int:
-        grows = max(0, place + len(text) - os.fstat(file).st_size)
-        if grows > self.room and not (fits := len(text) - grows + self.room):
+    def write_while_there_is_room(file: _File, place: int, text: bytes) -> int:
+        nonlocal room
+        grows = max(0, place + len(text) - os.fstat(file._number).st_size)
+        if grows > room and not (fits := len(text) - grows + room):
             raise OSError(errno.ENOSPC, os.strerror(errno.ENOSPC))
-        elif grows > self.room:
-            text, grows = text[:fits], self.room
-        self.room -= grows
-        return self._pwrite(file, text, place)
+        elif grows > room:
+            text, grows = text[:fits], room
+        room -= grows
+        return write_at(file, place, text)
+
+    patch.setattr(_File, "write_at", write_while_there_is_room)
 
 
 @pytest.mark.parametrize("transport", TRANSPORTS)
@@ -113,7 +113,7 @@ def test_a_disk_that_is_full_at_each_byte(
     """A short write and ENOSPC after it, at each byte of the first steps, of the lines as of the scenario."""
     host = Host(transport=transport, record=files.scenario, record_lines=files.lines)
     with monkeypatch.context() as patch:
-        patch.setattr(os, "pwrite", FullDisk(room))
+        fill(patch, room)
         made, failed = record_until_it_fails(host)
     assert isinstance(failed.__cause__, OSError) and failed.__cause__.errno == errno.ENOSPC
     of_each = len("1001 1 new 1000 100000\n") + len(",\n") + len(SPAWN)
@@ -133,7 +133,7 @@ def test_a_typed_call_fails_too(files: Files, monkeypatch: pytest.MonkeyPatch) -
     host = Host(record=files.scenario, record_lines=files.lines)
     user = host.user(1001)
     user.spawn()
-    monkeypatch.setattr(os, "pwrite", FullDisk(3))
+    fill(monkeypatch, 3)
     with pytest.raises(RecordingFailed):
         user.spawn()
     monkeypatch.undo()

@@ -52,6 +52,10 @@ from .rows import DueStop, LwpMode, LwpRow, ProcessRow, ProcessState, View
 from .steps import Act, Block, Compute, Enter, Leave, Raise, Rule
 from .viewing import view
 
+# tools/format version
+__version__ = "0.21.0"
+# end
+
 __all__ = [
     "Act", "Action", "Block", "Call", "Caught", "Compute", "Decision", "DueStop", "Ended", "Enter", "EventMask",
     "Handled", "Held", "Host", "Leave", "LwpEvent", "LwpInfo", "LwpMode", "LwpRow", "New", "Process", "ProcessRow",

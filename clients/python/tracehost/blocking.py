@@ -2,10 +2,12 @@
 
 from __future__ import annotations
 
+import sys
 import threading
 import time
 from collections.abc import Callable, Sequence
-from typing import Any
+from types import FrameType
+from typing import Any, Optional
 
 
 class Progress:
@@ -130,3 +132,11 @@ class Turns:
         stuck = number if number in self._ready else (order[0] if order else number)
         self._current = next((n for n in order if self._ready[n]()), stuck)
         self._changed.notify_all()
+
+
+def is_running(frame: FrameType) -> bool:
+    """Whether this thread is in a call with this frame."""
+    at: Optional[FrameType] = sys._getframe(1)
+    while at is not None and at is not frame:
+        at = at.f_back
+    return at is not None

@@ -4,20 +4,21 @@ from __future__ import annotations
 
 import json
 import os
+import sys
 import threading
 import time
 from collections.abc import Callable, Iterable, Mapping, Sequence
-from types import TracebackType
-from typing import Any, Literal, Optional, TypeVar, Union, overload
+from types import FrameType, TracebackType
+from typing import Any, Literal, NoReturn, Optional, TypeVar, Union, overload
 
 from . import forks
-from .blocking import Progress
+from .blocking import Progress, is_running
 from .checks import number_of_process, of_kind, whole, without_foreign_signals, word
 from .errors import Held, ProtocolError, RecordingFailed, RefusedStep, SessionBusy, SessionClosed
 from .library import RawRows, Session, find
 from .names import ALL_EVENTS, CALLER_OPS, OPTIONS, Action, Decision, EventMask, Request, WaitOption, names_of
-from .pipe import Pipe
-from .program import default
+from .pipe import SECONDS_TO_END, Pipe
+from .program import asked_for, command
 from .recording import Recording
 from .refusals import Asked, Rows, asked_by, explanation, refusal
 from .replica import Replica
@@ -26,6 +27,7 @@ from .rows import View, lwp_row, process_row
 from .steps import Act, Rule, check_act
 from .text import Sent, TextCalls, ask_program, words_of
 from .typed import NotTyped, TypedCalls
+from .verdicts import REQUESTS, Verdict, verdict
 
 _ENCODE = json.JSONEncoder(separators=(",", ":")).encode
 _Result = TypeVar("_Result")
@@ -72,7 +74,7 @@ class Host:
             raise ValueError("program: it goes with a pipe")
         wants_library = transport == "library"
         library = None
-        if wants_library or (transport is None and program is None and _may_be_library()):
+        if wants_library or (transport is None and program is None and not asked_for()):
             library = find(needed=wants_library)
         recording = None if record is None else Recording(record, kill_on_debugger_exit, record_lines)
         made: Union[Session, Pipe]
@@ -80,7 +82,7 @@ class Host:
             if library is not None:
                 made = Session(library, kill_on_debugger_exit is not False)
             else:
-                made = Pipe(_command(program, kill_on_debugger_exit, explain), keep_errors=explain)
+                made = Pipe(command(program, kill_on_debugger_exit, explain), keep_errors=explain)
         except BaseException:
             if recording is not None:
                 recording.close()
@@ -100,7 +102,8 @@ class Host:
         self._explains = explain
         self._progress = Progress()
         # a signal handler and a ``__del__`` run in the thread of a call, which a plain lock would stop for ever
-        self._lock, self._is_busy = threading.RLock(), False
+        self._lock = threading.RLock()
+        self._call_in: Optional[FrameType] = None
         self._text = TextCalls(made, self._progress, recording, self._replica)
         self._typed = TypedCalls(made, self._progress) if isinstance(made, Session) and recording is None else None
         self.transport = "library" if isinstance(made, Session) else "pipe"
@@ -108,7 +111,7 @@ class Host:
 
     def in_child(self) -> None:
         """After fork(2), in the child: over the library it has a copy of the session, which isn't recorded."""
-        self._lock, self._is_busy = threading.RLock(), False
+        self._lock, self._call_in = threading.RLock(), None
         self._progress.in_child()
         if self._replica is not None and isinstance(self._made, Pipe):
             self._replica.end(self._made.why_ended())
@@ -122,11 +125,20 @@ class Host:
         self.close()
 
     def close(self) -> int:
-        """Ends the session, waits for the program, and returns its exit status. Closing again does nothing more.
+        """Ends the session, waits for the program, and returns its exit status. Closing again does nothing.
 
-        A call of another thread that sleeps raises SessionClosed.
+        Another thread's call that sleeps raises SessionClosed. A program that doesn't end in five seconds is killed.
         """
-        return self._alone(self._close)
+        if isinstance(self._made, Session):
+            return self._alone(self._close)
+        for _ in range(2):
+            if self._lock.acquire(timeout=SECONDS_TO_END):
+                try:
+                    return self._alone(self._close)
+                finally:
+                    self._lock.release()
+            self._made.kill()
+        return self._close()  # a process that the program has left keeps that thread waiting
 
     def _close(self) -> int:
         status = self._made.close()
@@ -138,12 +150,12 @@ class Host:
         return status
 
     def stop_recording(self) -> None:
-        """The steps from now on aren't recorded. The files are those of the steps so far."""
+        """Later steps aren't recorded. The files are those of the steps so far."""
         if self._recording is not None:
             self._alone(self._recording.close)
 
     def copy(self) -> Host:
-        """A host at the present state of this one: the same machine, with no recording. Both then go their own ways.
+        """A host at the present state of this one: the same machine, with no recording. Both go their own ways.
 
         Raises NotImplementedError over a pipe, SessionClosed and MemoryError.
         """
@@ -152,6 +164,10 @@ class Host:
         host = Host.__new__(Host)
         host._begin(self._alone(self._made.copy), None, explain=self._explains)
         return host
+
+    def __reduce__(self) -> NoReturn:
+        """For copy.copy, copy.deepcopy and pickle."""
+        raise TypeError("a session is neither copied nor pickled so: Host.copy() makes a copy")
 
     def line(self, text: str) -> str:
         """Sends a line as it is, and returns the line of its answer, without their line feeds.
@@ -202,10 +218,11 @@ class Host:
     def _alone(self, function: Callable[..., _Result], *arguments: Any) -> _Result:
         """Calls the function while no other call of the session runs. Raises SessionBusy."""
         with self._lock:
-            if self._is_busy:
+            # Python 3.9 may raise KeyboardInterrupt before the frame is taken away, so one that has ended is none
+            if self._call_in is not None and is_running(self._call_in):
                 raise SessionBusy
             try:
-                self._is_busy = True
+                self._call_in = sys._getframe()
                 return function(*arguments)
             except RecordingFailed:
                 self._close()
@@ -215,7 +232,7 @@ class Host:
                     refused.ask = ask_program
                 raise
             finally:
-                self._is_busy = False
+                self._call_in = None
 
     def _call(self, name: str, *arguments: Any) -> Any:
         """Makes the call of this name (`TextCalls`, `TypedCalls`)."""
@@ -290,18 +307,6 @@ def _asked(name: str, arguments: Sequence[Any]) -> Asked:
     return Asked(name, arguments[0], 0, arguments[1:])
 
 
-def _may_be_library() -> bool:
-    """Whether the environment asks for no program."""
-    return bool(os.environ.get("TRACEHOST_LIBRARY")) or not os.environ.get("TRACEHOST")
-
-
-def _command(program: str | os.PathLike[str] | None, kill_on_debugger_exit: bool | None, explain: bool) -> list[str]:
-    command = [os.fspath(program or default()), "--lines", f"--explain={'always' if explain else 'never'}"]
-    if kill_on_debugger_exit is not None:
-        command += ["--kill-on-debugger-exit", str(int(kill_on_debugger_exit))]
-    return command
-
-
 def _check_timeout(block: bool, timeout: float | None) -> None:
     if timeout is None:
         return
@@ -355,24 +360,6 @@ class User:
         if not 0 <= self.uid < 1 << 32:
             raise ValueError(f"{self.uid} is no user")
         return self.host._alone(self.host._view, self.uid)
-
-
-Verdict = Union[Decision, tuple[Decision, int]]
-"""What a function of `Process.handle_with` returns."""
-_REQUESTS = {
-    Decision.CONTINUE: Request.PT_CONTINUE,
-    Decision.DETACH: Request.PT_DETACH,
-    Decision.KILL: Request.PT_KILL,
-}
-
-
-def _verdict(given: object) -> tuple[Decision, int]:
-    """The decision, and the signal that is passed on; 0 for none."""
-    decision, passed = given if isinstance(given, tuple) and len(given) == 2 else (given, 0)
-    of_kind("decision", Decision, decision)
-    if passed and decision not in (Decision.CONTINUE, Decision.DETACH):
-        raise ValueError(f"decision: {decision.name} passes on no signal")
-    return decision, word("signal", passed)
 
 
 class Process:
@@ -484,8 +471,8 @@ class Process:
         handled = self.handle(block=True, timeout=timeout) if block else self.handle(timeout=timeout)
         if not isinstance(handled, Handled) or handled.decision not in (Decision.LEAVE, Decision.DECLINE):
             return handled
-        decision, passed = _verdict(decide(handled))
-        request = _REQUESTS.get(decision)
+        decision, passed = verdict(decide(handled))
+        request = REQUESTS.get(decision)
         if request is not None:
             self.ptrace(request, handled.pid, passed)
         passes = decision in (Decision.CONTINUE, Decision.DETACH)

@@ -9,30 +9,28 @@
 - An assertion that compares replies shows statuses, signals and flags by name.
 - A test that fails, in a fixture too, leaves its scenario, its lines and its page in pytest's temporary folder, or in a
   folder of its own below the one that ``--tracehost-artifacts``, or the environment's ``TRACEHOST_ARTIFACTS``, names.
-  The report says where, and JUnit's XML has the page as the property ``tracehost_page``. What can't be recorded, as on a
-  full disk, is told on standard error, and the test goes on.
+  The report says where, and JUnit's XML has the page as the property ``tracehost_page``. Pages are made at the end of
+  the run, when no test's patches are left.
+- The plugin changes no test's outcome. What can't be done, as on a full disk, is told in a section of the test's report,
+  or of the summary.
 """
 
 from __future__ import annotations
 
-import hashlib
 import os
-import re
-import subprocess
 import sys
 import warnings
-import weakref
-from collections.abc import Callable, Generator, Iterator, Sequence
+from collections.abc import Callable, Generator, Iterator
 from pathlib import Path
 from typing import TYPE_CHECKING, Any, Optional, Protocol, TypeVar
 
 import pytest
 
-from .errors import RecordingFailed
 from .host import Host
 from .naming import REPLIES, describe, field_text
+from .pages import Pages
 from .replies import Waited
-from .viewing import view
+from .sessions import HEAD, Sessions, add_to, folder_name, message_of, readable, said_by
 
 if TYPE_CHECKING:
     from .explore import Found
@@ -43,15 +41,15 @@ __all__ = ["Explore", "NewHost", "explore", "new_tracehost", "tracehost"]
 _Hook = TypeVar("_Hook", bound=Callable[..., Generator[None, Any, None]])
 _wrapper: Callable[[_Hook], _Hook] = pytest.hookimpl(hookwrapper=True)  # untyped in some versions of pytest
 
-_MOST_OF_A_NAME = 80  # characters; the digest makes it the test's own
-_MOST_OF_A_MESSAGE = 4000
+_PAGE = f"{HEAD}_page"
 _artifacts = pytest.StashKey[Optional[Path]]()
-_sessions_of_item = pytest.StashKey["Sessions"]()
+_sessions_of_item = pytest.StashKey[Sessions]()
 _current: list[pytest.Item] = []
+_set_up: list[Any] = []  # the fixtures that are being set up, each by the one before
 
 
 class NewHost(Protocol):
-    """Starts a `Host` that records as `name` in the folder of the test. A further one of that name takes its place."""
+    """Starts a `Host` that records as `name` in the test's folder. A further one of that name takes its place."""
 
     def __call__(self, name: str = "session", **settings: Any) -> Host:
         ...
@@ -62,51 +60,6 @@ class Explore(Protocol):
 
     def __call__(self, world: World, name: str = "session", **options: Any) -> Found:
         ...
-
-
-class Sessions:
-    """The sessions of a test, and the folder of their records."""
-
-    def __init__(self, folder: Path) -> None:
-        self.folder = folder
-        self._hosts: dict[str, weakref.ref[Host]] = {}
-        self._earlier: weakref.WeakSet[Host] = weakref.WeakSet()
-
-    def start(self, name: str, settings: dict[str, Any]) -> Host:
-        """A host that records as `name`. An earlier one of that name goes on unrecorded, since the file is no longer its."""
-        earlier = self._hosts[name]() if name in self._hosts else None
-        if earlier is not None:
-            earlier.stop_recording()
-            self._earlier.add(earlier)
-        host = self._recorded(name, settings)
-        self._hosts[name] = weakref.ref(host)
-        return host
-
-    def _recorded(self, name: str, settings: dict[str, Any]) -> Host:
-        """A host that records; without a record if its files can't be made."""
-        try:
-            host = Host(record=self.folder / f"{name}.json", record_lines=self.folder / f"{name}.out", **settings)
-        except OSError as error:
-            host = Host(**settings)  # raises what isn't about the files
-            print(f"tracehost: not recorded: {error}", file=sys.stderr)
-        if host._recording is not None:
-            host._recording.ends_session = False
-        return host
-
-    def close(self) -> None:
-        """Closes those that the test hasn't closed. What it has dropped is closed already."""
-        for host in [*self._earlier, *(reference() for reference in self._hosts.values())]:
-            if host is not None:
-                host.close()
-
-    def records(self) -> list[Path]:
-        return sorted(self.folder.glob("*.json"))
-
-    def clear(self, kinds: Sequence[str] = ("json", "out", "html")) -> None:
-        """Removes what an earlier run of the test has left."""
-        for kind in kinds:
-            for file in self.folder.glob(f"*.{kind}"):
-                file.unlink()
 
 
 def pytest_addoption(parser: pytest.Parser) -> None:
@@ -124,16 +77,37 @@ def pytest_configure(config: pytest.Config) -> None:
     named: Optional[str] = config.getoption("--tracehost-artifacts") or os.environ.get("TRACEHOST_ARTIFACTS") or None
     artifacts = None if named is None else Path(named).absolute()  # a test may change the folder that it runs in
     config.stash[_artifacts] = artifacts
-    if artifacts is not None:  # so that a later job finds the same failing examples
+    if artifacts is not None and _is_usable(artifacts):  # so that a later job finds the same failing examples
         os.environ.setdefault("HYPOTHESIS_STORAGE_DIRECTORY", str(artifacts / ".hypothesis"))
+    if not hasattr(config, "workerinput"):  # the reports of a worker of xdist come to the process that started it
+        config.pluginmanager.register(Pages(), "tracehost_pages")
+
+
+def _is_usable(folder: Path) -> bool:
+    """Whether files can be made in the folder. Hypothesis warns of one that isn't, or fails."""
+    try:
+        folder.mkdir(parents=True, exist_ok=True)
+    except OSError:
+        return False
+    return os.access(folder, os.R_OK | os.W_OK | os.X_OK)
+
+
+# ---- fixtures
 
 
 @pytest.fixture(scope="session")
-def new_tracehost(tmp_path_factory: pytest.TempPathFactory) -> NewHost:
+def new_tracehost() -> NewHost:
     """A function that starts a `Host` which records, with the settings of `Host`."""
 
     def start(name: str = "session", **settings: Any) -> Host:
-        return _sessions(_current[-1], tmp_path_factory).start(name, settings)
+        if not _current:
+            raise RuntimeError("new_tracehost: a session belongs to a test, and none is running; use tracehost.Host")
+        if _set_up and _set_up[-1].scope != "function":
+            raise RuntimeError(
+                f"new_tracehost: a session ends with its test, and the fixture {_set_up[-1].argname!r} has the scope"
+                f" {_set_up[-1].scope!r}; give it the scope 'function', or use tracehost.Host"
+            )
+        return _sessions(_current[-1]).start(name, settings)
 
     return start
 
@@ -147,7 +121,7 @@ def tracehost(request: pytest.FixtureRequest, new_tracehost: NewHost) -> Iterato
 
 
 @pytest.fixture
-def explore(request: pytest.FixtureRequest, tmp_path_factory: pytest.TempPathFactory) -> Explore:
+def explore(request: pytest.FixtureRequest) -> Explore:
     """A function that searches all interleavings of a world, with the options of `tracehost.explore.explore`."""
     marker = request.node.get_closest_marker("interleavings")
 
@@ -157,11 +131,11 @@ def explore(request: pytest.FixtureRequest, tmp_path_factory: pytest.TempPathFac
         __tracebackhide__ = True
         found = searches.explore(world, **{**(marker.kwargs if marker else {}), **options})
         if not found.passed:
-            scenario = _sessions(request.node, tmp_path_factory).folder / f"{name}.json"
-            try:
+            sessions = _sessions(request.node)
+            with sessions.guarded("not recorded"):
+                scenario = sessions.scenario(name)
                 found.save(scenario)
-            except (OSError, RecordingFailed) as error:
-                print(f"tracehost: not recorded: {error}", file=sys.stderr)
+                sessions.note(scenario)
             raise AssertionError(str(found)) from found.error
         for said in found.vacuous:
             warnings.warn(said, stacklevel=2)
@@ -170,10 +144,20 @@ def explore(request: pytest.FixtureRequest, tmp_path_factory: pytest.TempPathFac
     return search
 
 
+# ---- assertions
+
+
 def pytest_assertrepr_compare(op: str, left: object, right: object) -> Optional[list[str]]:
     """The words of two replies, and the fields in which they differ."""
-    if op not in ("==", "!=") or not (isinstance(left, REPLIES) or isinstance(right, REPLIES)):
+    if op not in ("==", "!=") or not (issubclass(type(left), REPLIES) or issubclass(type(right), REPLIES)):
         return None
+    try:
+        return _compared(op, left, right)
+    except Exception as error:  # fields may be anything
+        return [f"(tracehost can't say how they differ: {said_by(error)})"]
+
+
+def _compared(op: str, left: object, right: object) -> list[str]:
     left, right = _as_waited(left, right), _as_waited(right, left)
     text = [f"{describe(left)} {op} {describe(right)}"]
     if isinstance(left, REPLIES) and type(left) is type(right):
@@ -190,91 +174,95 @@ def _as_waited(value: object, other: object) -> object:
     return value
 
 
+# ---- a test
+
+
 @_wrapper
 def pytest_runtest_protocol(item: pytest.Item) -> Generator[None, None, None]:
-    """Nothing of an earlier run of the test is left, and none of its sessions is open at its end."""
+    """Nothing of an earlier run of the test is left."""
+    sessions = _sessions(item)
     _current.append(item)
     artifacts = item.config.stash[_artifacts]
     if artifacts is not None:
-        Sessions(artifacts / _name(item.nodeid)).clear()
+        with sessions.guarded("files of an earlier run"):
+            sessions.clear(artifacts / folder_name(item.nodeid))
     yield
     _current.pop()
-    sessions = item.stash.get(_sessions_of_item, None)
-    if sessions is not None:
-        sessions.close()
+
+
+@_wrapper
+def pytest_runtest_setup(item: pytest.Item) -> Generator[None, None, None]:
+    """pytest's folder is made before the test replaces the file system: later tests have the same one."""
+    if item.config.stash[_artifacts] is None and {"new_tracehost", "explore"} & {*getattr(item, "fixturenames", ())}:
+        with _sessions(item).guarded("pytest's folder"):
+            _factory(item).getbasetemp()
+    yield
+
+
+@_wrapper
+def pytest_fixture_setup(fixturedef: Any) -> Generator[None, None, None]:
+    _set_up.append(fixturedef)
+    yield
+    _set_up.pop()
 
 
 @_wrapper
 def pytest_runtest_call(item: pytest.Item) -> Generator[None, None, None]:
     """State machines record in the folder of the test that runs them."""
-    stateful = sys.modules.get(f"{__package__}.stateful")
-    if stateful is not None:
-        factory: pytest.TempPathFactory = item.config._tmp_path_factory  # type: ignore[attr-defined]
-        stateful.Debugging.artifacts = _sessions(item, factory).folder
+    stateful: Any = sys.modules.get(f"{__package__}.stateful")
+    if stateful is None:
+        yield
+        return
+    before, stateful.start = stateful.start, lambda settings: _sessions(item).start("session", settings)
     yield
-    if stateful is not None:
-        stateful.Debugging.artifacts = None
+    stateful.start = before
 
 
 @_wrapper
-def pytest_runtest_makereport(item: pytest.Item, call: pytest.CallInfo[None]) -> Generator[None, Any, None]:
+def pytest_runtest_teardown(item: pytest.Item) -> Generator[None, None, None]:
+    """None of its sessions is open at its end."""
+    yield
+    _sessions(item).close()
+
+
+@_wrapper
+def pytest_runtest_makereport(item: pytest.Item) -> Generator[None, Any, None]:
     outcome = yield
+    if outcome.excinfo is not None:
+        return  # of another plugin
     report: pytest.TestReport = outcome.get_result()
+    sessions, failures = _sessions(item), []
+    with sessions.guarded("what the test leaves"):
+        if report.failed:
+            failures = sessions.failures(item.nodeid, message_of(report))
+    with sessions.guarded("the report"):
+        add_to(report, failures, sessions.take_told() if report.failed or report.when == "teardown" else [])
+        pages: list[tuple[str, object]] = [(_PAGE, str(failure.page())) for failure in failures]
+        for properties in (item.user_properties, report.user_properties):
+            properties += [page for page in pages if page not in properties]
+        if report.when == "teardown":  # JUnit's XML has the properties of this report
+            item.user_properties[:] = [one for one in item.user_properties if one[0] != _PAGE]
+            sessions.end_attempt()
+
+
+def _sessions(item: pytest.Item) -> Sessions:
+    """The sessions of a test."""
     sessions = item.stash.get(_sessions_of_item, None)
     if sessions is None:
-        return
-    if not report.failed:
-        if report.when == "call":
-            sessions.clear(("html",))  # of an earlier attempt
-        return
-    message = _message(call)
-    kept = [_kept(scenario, item.nodeid, message) for scenario in sessions.records()]
-    if kept:
-        report.sections.append(("tracehost", "\n".join(text for text, _ in kept)))
-    for page in (page for _, page in kept if page is not None):
-        item.user_properties.append(("tracehost_page", str(page)))  # JUnit's XML has those of the last report
-        if report.when == "teardown":
-            report.user_properties.append(("tracehost_page", str(page)))
-
-
-def _message(call: pytest.CallInfo[None]) -> str:
-    """The assertion or the exception."""
-    if call.excinfo is None:
-        return ""
-    kind, said = call.excinfo.typename, str(call.excinfo.value).strip()
-    text = said if said and kind == "AssertionError" else f"{kind}: {said}".removesuffix(": ")
-    return text if len(text) <= _MOST_OF_A_MESSAGE else text[:_MOST_OF_A_MESSAGE] + " .."
-
-
-def _kept(scenario: Path, test: str, message: str) -> tuple[str, Optional[Path]]:
-    """Makes the page. Reports the files, and returns the page."""
-    page: Optional[Path] = None
-    try:
-        page = view(scenario, title=test, failed=test, message=message)
-        where = str(page)
-    except (OSError, subprocess.CalledProcessError) as error:
-        where = f"none ({error})"
-    steps = scenario.with_suffix(".out")
-    return f"scenario: {scenario}\nlines:    {steps}\npage:     {where}", page
-
-
-def _name(nodeid: str) -> str:
-    """A file name that no other test has: a part of the test's name, and a digest of all of it."""
-    readable = re.sub(r"[^A-Za-z0-9_.-]+", "_", nodeid)[-_MOST_OF_A_NAME:]
-    return f"{hashlib.sha256(nodeid.encode('utf-8', 'surrogatepass')).hexdigest()[:12]}-{readable}"
-
-
-def _sessions(item: pytest.Item, factory: pytest.TempPathFactory) -> Sessions:
-    """The sessions of a test; its folder is made with the first."""
-    sessions = item.stash.get(_sessions_of_item, None)
-    if sessions is None:
-        artifacts = item.config.stash[_artifacts]
-        if artifacts is None:
-            readable = re.sub(r"[^A-Za-z0-9_.-]+", "_", item.name)[:_MOST_OF_A_NAME]
-            folder = factory.mktemp(f"tracehost_{readable}")
-        else:
-            folder = artifacts / _name(item.nodeid)
-            folder.mkdir(parents=True, exist_ok=True)
-        sessions = Sessions(folder)
-        item.stash[_sessions_of_item] = sessions
+        sessions = item.stash[_sessions_of_item] = Sessions(lambda: _folder(item))
     return sessions
+
+
+def _folder(item: pytest.Item) -> Path:
+    """Makes the folder of a test's records."""
+    artifacts = item.config.stash[_artifacts]
+    if artifacts is None:
+        return _factory(item).mktemp(f"tracehost_{readable(item.name)[:80]}")
+    folder = artifacts / folder_name(item.nodeid)
+    folder.mkdir(parents=True, exist_ok=True)
+    return folder
+
+
+def _factory(item: pytest.Item) -> pytest.TempPathFactory:
+    factory: pytest.TempPathFactory = item.config._tmp_path_factory  # type: ignore[attr-defined]
+    return factory

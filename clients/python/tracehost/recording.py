@@ -6,9 +6,9 @@ import errno
 import json
 import os
 import resource
-import sys
 import warnings
-from collections.abc import Iterator
+from collections.abc import Callable, Iterator
+from contextlib import suppress
 from pathlib import Path
 from typing import Optional
 
@@ -28,10 +28,12 @@ class Recording:
     numbers of that user's later steps are one lower. A session that is longer than a scenario may be is recorded up to
     there. Both give a RuntimeWarning.
 
-    A step that can't be written, as on a full disk, leaves both files as they were. It ends the session, unless that is
-    a test's (`ends_session`): then standard error says so. Lines are written before their
-    step: a process that is killed between the two leaves one line more (`mend`). A forked child records nothing.
+    A step that can't be written, as on a full disk, leaves both files as they were, and ends the session. If that is a
+    test's, all of this is told by `tell`, and neither warns nor raises. Lines are written before their step: a process
+    that is killed between the two leaves one line more (`mend`). A forked child records nothing.
     """
+
+    tell: Optional[Callable[[str], None]] = None
 
     def __init__(
         self,
@@ -54,8 +56,7 @@ class Recording:
         except OSError as error:
             self.close()
             raise error if error.filename else OSError(error.errno, error.strerror, os.fspath(path)) from None
-        self._steps, self._size, self._size_of_lines = 0, len(start), 0
-        self.ends_session = True
+        self.steps, self._size, self._size_of_lines = 0, len(start), 0
         self._records = True
 
     def add(self, step: str, answer: str) -> None:
@@ -64,24 +65,30 @@ class Recording:
         if words[0] == "refused" or not self._records:
             return
         if words[2:] == ["error", "ENOMEM 12"]:
-            warnings.warn(f"{self.path}: a step answered ENOMEM isn't recorded", RuntimeWarning, stacklevel=2)
+            self._warn("a step answered ENOMEM isn't recorded")
             return
-        text = (b",\n" if self._steps else b"\n") + step.strip(" \t\r").encode()
-        if self._steps == _MOST_STEPS or self._size + len(text) + len(_END) > _MOST_BYTES:
+        text = (b",\n" if self.steps else b"\n") + step.strip(" \t\r").encode()
+        if self.steps == _MOST_STEPS or self._size + len(text) + len(_END) > _MOST_BYTES:
             self._records = False
-            warnings.warn(
-                f"{self.path}: the recording ends after {self._steps} steps, as no scenario may be longer",
-                RuntimeWarning,
-                stacklevel=2,
-            )
+            self._warn(f"the recording ends after {self.steps} steps, as no scenario may be longer")
             return
         try:
             self._put(text, answer.encode() + b"\n")
         except OSError as error:
-            self.close()
-            if self.ends_session:
-                raise RecordingFailed(f"{self.path}: step {self._steps + 1} can't be recorded: {error.strerror}") from error
-            print(f"tracehost: {self.path}: not recorded from step {self._steps + 1} on: {error.strerror}", file=sys.stderr)
+            self._lose(error)
+
+    def _warn(self, text: str) -> None:
+        if self.tell is not None:
+            self.tell(f"{self.path}: {text}")
+        else:
+            warnings.warn(f"{self.path}: {text}", RuntimeWarning, stacklevel=3)
+
+    def _lose(self, error: OSError) -> None:
+        """Ends the recording: the files have the steps before."""
+        self.close()
+        if self.tell is None:
+            raise RecordingFailed(f"{self.path}: step {self.steps + 1} can't be recorded: {error.strerror}") from error
+        self.tell(f"{self.path}: not recorded from step {self.steps + 1} on: {error.strerror}")
 
     def close(self) -> None:
         """Closes the files. Closing again does nothing more."""
@@ -104,40 +111,66 @@ class Recording:
             if self._lines is not None:
                 self._lines.cut(self._size_of_lines)
             raise
-        self._steps += 1
+        self.steps += 1
         self._size += len(step)
         self._size_of_lines += len(line)
 
 
 class _File:
-    """A file whose end is rewritten."""
+    """A file whose end is rewritten.
+
+    A test may replace functions, close descriptors and open others: it is used by functions that are kept here, and only
+    while its number still means this file.
+    """
+
+    _open, _close, _fstat = staticmethod(os.open), staticmethod(os.close), staticmethod(os.fstat)
+    _pwrite, _ftruncate = staticmethod(os.pwrite), staticmethod(os.ftruncate)
+    _getrlimit = staticmethod(resource.getrlimit)
+    _number = -1
 
     def __init__(self, path: Path) -> None:
-        self._file = path.open("wb", buffering=0)
+        self._number = self._open(path, os.O_WRONLY | os.O_CREAT | os.O_TRUNC, 0o666)
+        status = self._fstat(self._number)
+        self._identity = status.st_dev, status.st_ino
+
+    def __del__(self) -> None:
+        self.close()
 
     def replace_end(self, text: bytes, place: int, before: bytes = b"") -> None:
         """Writes the text from this place on. Raises OSError, and `before` is there again, up to the file's end.
 
         A text that is longer than the limit of a file's size isn't begun, since SIGXFSZ would end the process.
         """
-        limit = resource.getrlimit(resource.RLIMIT_FSIZE)[0]
+        limit = self._getrlimit(resource.RLIMIT_FSIZE)[0]
         if limit != resource.RLIM_INFINITY and place + len(text) > limit:
             raise OSError(errno.EFBIG, os.strerror(errno.EFBIG))
         written = 0
         try:
             while written < len(text):
-                written += os.pwrite(self._file.fileno(), text[written:], place + written)
+                written += self.write_at(place + written, text[written:])
         except OSError:
             if written:
-                os.pwrite(self._file.fileno(), before, place)  # over bytes that the file has
+                self.write_at(place, before)  # over bytes that the file has
                 self.cut(place + len(before))
             raise
 
+    def write_at(self, place: int, text: bytes) -> int:
+        return self._pwrite(self._own_number(), text, place)
+
     def cut(self, size: int) -> None:
-        os.ftruncate(self._file.fileno(), size)
+        self._ftruncate(self._own_number(), size)
 
     def close(self) -> None:
-        self._file.close()
+        with suppress(OSError):  # each write was told already
+            self._close(self._own_number())
+        self._number = -1
+
+    def _own_number(self) -> int:
+        """The descriptor. Raises OSError if somebody has closed it."""
+        status = self._fstat(self._number)
+        if (status.st_dev, status.st_ino) != self._identity:
+            raise OSError(errno.EBADF, os.strerror(errno.EBADF))
+        return self._number
 
 
 def mend(scenario: str | os.PathLike[str], lines: Optional[str | os.PathLike[str]] = None) -> int:

@@ -13,7 +13,7 @@
 
 from __future__ import annotations
 
-from collections.abc import Sequence
+from collections.abc import Callable, Sequence
 from pathlib import Path
 from typing import Any, ClassVar, Optional
 
@@ -31,6 +31,14 @@ __all__ = ["Debugging"]
 
 _UID = 1001
 _FIRST_LWP = 100_000
+
+
+def _unrecorded(settings: dict[str, Any]) -> Host:
+    return Host(**settings)
+
+
+start: Callable[[dict[str, Any]], Host] = _unrecorded
+"""What starts the host of a machine that names no folder. pytest's plugin replaces it during a test."""
 
 
 def _of_machine(name: str) -> st.SearchStrategy[int]:
@@ -56,15 +64,11 @@ class Debugging(RuleBasedStateMachine):
     most_processes: ClassVar[int] = 4
     """How many processes the rule `new_process` makes at most."""
     artifacts: ClassVar[Optional[Path]] = None
-    """The folder of the recording, session.json and session.out."""
+    """The folder of the recording, session.json and session.out. Under pytest it is the test's if none is named here."""
 
     def __init__(self) -> None:
         super().__init__()
-        folder = self.artifacts
-        files: dict[str, Any] = {}
-        if folder is not None:
-            files = {"record": folder / "session.json", "record_lines": folder / "session.out"}
-        self.host = Host(**files, **self.settings_of_host)
+        self.host = self._new_host()
         self.user = self.host.user(_UID)
         made = self.user.spawn()
         self.debugger = self.user.process(made)
@@ -75,6 +79,12 @@ class Debugging(RuleBasedStateMachine):
         self.lwps: list[int] = []
         """The LWPs of the world, ended ones too."""
         self._in_call: dict[int, Call] = {}
+
+    def _new_host(self) -> Host:
+        folder, settings = self.artifacts, self.settings_of_host
+        if folder is not None:
+            return Host(record=folder / "session.json", record_lines=folder / "session.out", **settings)
+        return start(settings)
 
     def process_made(self, new: New) -> None:
         """Called for each process that the rule `new_process` makes."""

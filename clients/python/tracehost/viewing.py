@@ -5,6 +5,7 @@ from __future__ import annotations
 import errno
 import os
 import shutil
+import signal
 import subprocess
 import sys
 import tempfile
@@ -12,6 +13,9 @@ from collections.abc import Sequence
 from pathlib import Path
 
 from .program import default
+
+
+_SECONDS = 300.0
 
 
 class NoPage(subprocess.CalledProcessError):
@@ -29,13 +33,14 @@ def view(
     program: str | os.PathLike[str] | None = None,
     failed: str | None = None,
     message: str = "",
+    step: int | None = None,
 ) -> Path:
-    """Makes a page that shows this scenario, such as `Host` records one, and returns the page's path.
+    """Makes a page of this scenario, such as `Host` records one, and returns its path.
 
-    The page is one HTML file; without `page` it gets the scenario's name with ``.html`` in place of ``.json``.
-    `program` runs the scenario; without it the one that `Host` chooses. `failed` is a test that failed after the last
-    step, and `message` what it said: the page shows both. Raises FileNotFoundError if there is no such scenario, or the
-    viewer isn't installed, and NoPage if the scenario is refused or the page can't be written.
+    Without `page` the HTML file is called as the scenario, with ``.html``. `program` runs the scenario; without it the one
+    that `Host` chooses. The page shows the test `failed`, what it said, `message`, and the `step`, from 1, after which it
+    failed; else the last one. Raises FileNotFoundError if there is no such scenario, or the viewer isn't installed, and
+    NoPage if the scenario is refused or the page can't be written.
     """
     source = Path(scenario)
     if not source.exists():
@@ -46,16 +51,27 @@ def view(
     with tempfile.TemporaryDirectory() as room:
         lines_file = Path(room, source.stem + ".lines")
         lines_file.write_bytes(lines)
-        words = [f"--output={os.fspath(target)}", f"--title={source.stem if title is None else title}"]
-        words += [] if failed is None else [f"--failed={failed}", f"--message={message}"]
+        words = [f"--output={os.fspath(target)}", f"--title={shown(source.stem if title is None else title)}"]
+        words += [] if failed is None else [f"--failed={shown(failed)}", f"--message={shown(message)}"]
+        words += [] if failed is None or not step else [f"--at={step}"]
         files = [os.fspath(lines_file)] if lines else [os.fspath(lines_file), os.fspath(source)]  # for a run without steps
         _output_of([*_viewer(run), *words, "--", *files])
     return target
 
 
+def shown(text: str) -> str:
+    """The text as a word of a command, which has neither a NUL nor half of a character."""
+    return text.replace("\0", "\\x00").encode("utf-8", "backslashreplace").decode("utf-8")
+
+
 def _output_of(command: Sequence[str]) -> bytes:
-    """What the command prints. Raises NoPage if its status isn't 0."""
-    done = subprocess.run(command, stdin=subprocess.DEVNULL, stdout=subprocess.PIPE, stderr=subprocess.PIPE)
+    """What the command prints. Raises NoPage if its status isn't 0, or it doesn't end."""
+    try:
+        done = subprocess.run(
+            command, stdin=subprocess.DEVNULL, stdout=subprocess.PIPE, stderr=subprocess.PIPE, timeout=_SECONDS, check=False
+        )
+    except subprocess.TimeoutExpired:
+        raise NoPage(-signal.SIGKILL, command, b"", f"{command[0]}: it didn't end in {_SECONDS:.0f} seconds") from None
     said = done.stderr.decode("utf-8", "replace")
     if done.returncode:
         raise NoPage(done.returncode, command, done.stdout, said)

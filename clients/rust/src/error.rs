@@ -24,6 +24,8 @@ pub enum Error {
     /// The step was made, and can't be recorded: [`Session::record_error`](crate::Session::record_error) says why. The
     /// session has ended, and its later calls return this too.
     RecordingFailed,
+    /// The library that was linked isn't of this crate's version, so no session is opened.
+    OtherLibrary,
 }
 
 impl Error {
@@ -51,6 +53,12 @@ impl fmt::Display for Error {
             Error::NoText => f.pad("Out of memory for the text of an answer"),
             Error::TooMany => f.pad("The user has had all its answers"),
             Error::RecordingFailed => f.pad("A step can't be recorded, and the session has ended"),
+            Error::OtherLibrary => {
+                let (library, own) = (sys::version(), env!("CARGO_PKG_VERSION"));
+                f.pad(&format!(
+                    "The linked libtracehost.a is of version {library}, and this crate of {own}"
+                ))
+            }
         }
     }
 }

@@ -58,6 +58,9 @@ impl Session {
 
     /// Opens a session with these settings. [`Error::NoMemory`] if memory runs out.
     pub fn with_settings(settings: Settings) -> Result<Session, Error> {
+        if sys::version() != env!("CARGO_PKG_VERSION") {
+            return Err(Error::OtherLibrary);
+        }
         match sys::Handle::open(settings.kill_on_debugger_exit) {
             Ok(handle) => Ok(Session::of(handle, settings)),
             Err(code) => Err(Error::of_code(code)),

@@ -3,10 +3,13 @@
 #![allow(unsafe_code)]
 
 use std::cell::UnsafeCell;
-use std::ffi::{c_int, c_void};
+use std::ffi::{c_char, c_int, c_void, CStr};
 use std::fs::File;
 use std::io;
 use std::os::fd::AsRawFd;
+
+#[cfg(not(all(target_os = "linux", target_pointer_width = "64")))]
+compile_error!("the library of tracehost is for 64-bit Linux");
 
 /// The code of a call that was answered.
 pub const ANSWERED: u32 = 0;
@@ -120,6 +123,7 @@ record! {
 }
 
 extern "C" {
+    fn tracehost_version() -> *const c_char;
     fn tracehost_open(kill_on_debugger_exit: bool, out: *mut Raw) -> u32;
     fn tracehost_close(h: *mut Raw) -> u32;
     fn tracehost_copy(from: *mut Raw, to: *mut Raw) -> u32;
@@ -189,6 +193,14 @@ pub fn file_size_limit() -> u64 {
     // SAFETY: on 64-bit Linux a struct rlimit is two u64, the soft limit first, and no limit is the greatest.
     unsafe { getrlimit(RLIMIT_FSIZE, &mut limit) };
     limit[0]
+}
+
+/// The version of the library that was linked; empty if it is no text.
+pub fn version() -> &'static str {
+    // SAFETY: the call takes nothing, and returns a string that stays.
+    unsafe { CStr::from_ptr(tracehost_version()) }
+        .to_str()
+        .unwrap_or_default()
 }
 
 /// An open handle. It isn't `Sync`: `UnsafeCell` keeps calls by `&self` on one thread, one after another.

@@ -12,7 +12,7 @@ use crate::{Session, Settings};
 use std::cell::RefCell;
 use std::fmt::Display;
 use std::ops::{Deref, DerefMut};
-use std::panic::{self, Location};
+use std::panic::{self, AssertUnwindSafe, Location};
 use std::sync::Once;
 use std::thread;
 
@@ -137,6 +137,13 @@ impl DerefMut for TestSession {
 
 impl Drop for TestSession {
     fn drop(&mut self) {
+        // a second panic would abort the program, and with it the tests that haven't run
+        let _ = panic::catch_unwind(AssertUnwindSafe(|| self.end()));
+    }
+}
+
+impl TestSession {
+    fn end(&mut self) {
         if thread::panicking() && !self.began_in_panic {
             let said = PANIC.try_with(|last| last.borrow_mut().take());
             self.fail(said.ok().flatten().unwrap_or_else(|| "a panic".to_owned()));

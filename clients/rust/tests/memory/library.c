@@ -13,6 +13,8 @@ static void wanted(bool truth)
         abort();
 }
 
+const char *tracehost_version(void) { return TRACEHOST_VERSION; }
+
 uint32_t tracehost_open(bool kill_on_debugger_exit, tracehost *out)
 {
     wanted(out->tag == 0);
