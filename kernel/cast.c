@@ -170,11 +170,9 @@ enum state cast_state(int process)
 {
     struct process_facts facts;
     struct cast_process *row = &cast.process[process];
-    if (row->gone || row->native == 0 || !system_process(row->native, &facts)) {
-        row->gone = true;
-        return STATE_GONE;
-    }
-    return facts.state;
+    bool is_born = row->native != 0; /* else it is a child of a call that stops at its entry */
+    row->gone = row->gone || (is_born && !system_process(row->native, &facts));
+    return row->gone || !is_born ? STATE_GONE : facts.state;
 }
 
 /* A new LWP has begun to live; the one that made it is negative for the player. */
@@ -250,6 +248,7 @@ void cast_spawn(int lwp, long user)
         if (own != 0)
             _exit(own < 0);
         signal(SIGPIPE, SIG_DFL);
+        signal(SIGXFSZ, SIG_DFL);
         signal(SIGTERM, SIG_DFL);
         system_become(plays_users() ? native_user(user) : -1);
         for (int descriptor = 0; descriptor < STAGE_DESCRIPTOR; descriptor++)
@@ -288,11 +287,12 @@ bool cast_waits_for_child(int lwp)
     return state != STATE_GONE && state != STATE_ZOMBIE;
 }
 
-/* The end of tracing lifts suspensions. */
-static bool still_traced(int process)
+/* The end of tracing lifts suspensions, whether the debugger detaches or ends. */
+static void lift_suspension(int lwp)
 {
     struct process_facts facts;
-    return system_process(cast.process[process].native, &facts) && facts.tracer != 0;
+    if (cast.lwp[lwp].suspended && system_process(cast.process[cast.lwp[lwp].process].native, &facts))
+        cast.lwp[lwp].suspended = facts.tracer != 0;
 }
 
 /* Until the LWP has gone through user mode, or doesn't run. */
@@ -311,7 +311,7 @@ static enum state settle_lwp(int lwp)
             return state;
         if (state != STATE_RUNS && state != STATE_WAITS)
             return state;
-        if (cast.lwp[lwp].suspended && still_traced(cast.lwp[lwp].process))
+        if (cast.lwp[lwp].suspended)
             return state;
     }
     return STATE_RUNS;
@@ -324,6 +324,7 @@ static unsigned long settle_once(void)
     for (int i = 0; i < cast.lwps; i++) {
         if (cast.lwp[i].gone)
             continue;
+        lift_suspension(i);
         enum state state = settle_lwp(i);
         cast_collect();
         cast.lwp[i].gone = state == STATE_GONE;

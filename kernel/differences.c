@@ -81,6 +81,16 @@ struct known *differences_at(int place) { return &known[place]; }
 
 /* ---- conditions */
 
+/* Whom a request or a signal is for, or whom the model's wait reports; 0: nobody. */
+static long target_of(const struct line *line)
+{
+    int place = line->op == OP_PTRACE ? 1 : 0;
+    long reported = 0;
+    if (line->op == OP_WAIT4)
+        return sscanf(line->reply, "status %ld", &reported) == 1 ? reported : 0;
+    return (line->op == OP_PTRACE || line->op == OP_KILL) && line->count > place ? atol(line->words[place]) : 0;
+}
+
 /* Whom a name of a condition means; 0: nobody. */
 static long who(const char *name, size_t length, const struct found *found, bool *is_lwp)
 {
@@ -90,43 +100,49 @@ static long who(const char *name, size_t length, const struct found *found, bool
         *is_lwp = found->row_is_lwp;
         return found->row;
     }
+    if (strncmp(name, "tracer", length) == 0) {
+        char tracer[32];
+        rows_field(false, false, found->row_is_lwp ? 0 : found->row, "tracer", tracer, sizeof tracer);
+        return atol(tracer);
+    }
     if (strncmp(name, "lwp", length) == 0) {
         *is_lwp = true;
         return line->op == OP_TURN ? line->actor : 0;
     }
     long number = line->actor;
-    if (strncmp(name, "target", length) == 0) {
-        int place = line->op == OP_PTRACE ? 1 : 0;
-        bool has = (line->op == OP_PTRACE || line->op == OP_KILL || line->op == OP_WAIT4) && line->count > place;
-        number = has ? atol(line->words[place]) : 0;
+    if (strncmp(name, "target", length) == 0)
+        number = target_of(line);
+    if (number >= FIRST_LWP) { /* also one that has ended */
+        int lwp = cast_lwp(number);
+        number = lwp < 0 ? 0 : cast.process[cast.lwp[lwp].process].number;
     }
-    if (number >= FIRST_LWP) {
-        char owner[32];
-        rows_field(false, true, number, "process", owner, sizeof owner);
-        number = atol(owner);
-    }
+    if (strncmp(name, "tracee", length) == 0)
+        number = rows_stopped_tracee(number);
     return number;
 }
 
-/* The value of a side of a condition: WHO.FIELD, WHO, `data`, a setting, or the words themselves. */
+/* The value of a side of a condition: WHO.FIELD, WHO, `data`, how many users have processes, a setting, or the words themselves. */
 static void value_of(const char *side, const struct found *found, char *text, size_t size)
 {
-    static const char *const names[] = {"caller", "target", "row", "was", "lwp"};
+    static const char *const names[] = {"caller", "target", "row", "was", "tracer", "lwp", "tracee"};
     size_t length = strcspn(side, ".");
     bool is_lwp;
     snprintf(text, size, "%s", side);
     if (strcmp(side, "data") == 0)
         snprintf(text, size, "%s", found->line->op == OP_PTRACE && found->line->count > 2 ? found->line->words[2] : "0");
+    if (strcmp(side, "users") == 0)
+        snprintf(text, size, "%d", rows_users());
     if (strcmp(side, "kill_on_debugger_exit") == 0)
         snprintf(text, size, "%d", found->kills);
     for (size_t i = 0; i < sizeof names / sizeof *names; i++) {
         if (strlen(names[i]) != length || strncmp(side, names[i], length) != 0)
             continue;
         long number = who(side, length, found, &is_lwp);
+        bool after = strcmp(names[i], "row") == 0 || strcmp(names[i], "tracee") == 0;
         if (side[length] == 0)
             snprintf(text, size, "%ld", number);
         else
-            rows_field(strcmp(names[i], "row") == 0, is_lwp, number, side + length + 1, text, size);
+            rows_field(after, is_lwp, number, side + length + 1, text, size);
     }
 }
 
@@ -176,7 +192,7 @@ struct known *differences_find(const struct found *found)
 {
     struct known *first = NULL;
     bool same = strcmp(found->model, found->kernel) == 0;
-    mark_candidates(found->step != NULL ? found->step : step_words(found->line));
+    mark_candidates(step_words(found->line));
     for (int i = 0; i < known_count; i++) {
         if (!known[i].candidate || fnmatch(known[i].model, found->model, 0) != 0 || !all_hold(known[i].condition, found))
             continue;

@@ -58,6 +58,7 @@ const unsigned system_most_rounds = 20000; /* its clock stands still while it co
 const bool system_is_reaper = false, system_has_users = false, system_spawns_image = false;
 
 pid_t system_fork_inner(void) { return 0; }
+void system_end_with_parent(void) {}
 void system_inner(void) {}
 void system_become(long user) { (void)user; }
 
@@ -81,11 +82,16 @@ pid_t system_fork_inner(void)
     return fork();
 }
 
-void system_inner(void)
+void system_end_with_parent(void)
 {
     int signal = SIGTERM;
-    setsid();
     procctl(P_PID, getpid(), PROC_PDEATHSIG_CTL, &signal);
+}
+
+void system_inner(void)
+{
+    setsid();
+    system_end_with_parent();
     procctl(P_PID, getpid(), PROC_REAP_ACQUIRE, NULL);
 }
 
@@ -118,23 +124,6 @@ void system_why_untraced(char *text, size_t size) { snprintf(text, size, "securi
 /* ---- threads: under PT_SYSCALL they make no call but those of the steps */
 
 #if ON_MODEL
-static __thread struct slot *self;
-
-struct slot *system_self(void) { return self; }
-void system_set_self(struct slot *slot) { self = slot; }
-
-static void *run_thread(void *slot) { puppet_live((int)((struct slot *)slot - stage->slots)); }
-
-int system_thread(int slot)
-{
-    pthread_t thread;
-    pthread_attr_t attributes;
-    pthread_attr_init(&attributes);
-    pthread_attr_setdetachstate(&attributes, PTHREAD_CREATE_DETACHED);
-    errno = pthread_create(&thread, &attributes, run_thread, &stage->slots[slot]);
-    return errno != 0 ? -1 : 0;
-}
-
 void system_thread_end(void) { pthread_exit(NULL); }
 
 void system_rest(bool silent)
@@ -227,8 +216,11 @@ static int look(int what, pid_t number, struct kinfo_proc *found, int most)
 {
     const int name[4] = {CTL_KERN, KERN_PROC, what, number};
     size_t size = (size_t)most * sizeof *found;
-    if (sysctl(name, number == 0 ? 3 : 4, found, &size, NULL, 0) < 0 && errno != ENOMEM)
+    if (sysctl(name, number == 0 ? 3 : 4, found, &size, NULL, 0) < 0 && errno != ENOMEM) {
+        if (errno != ESRCH) /* what can't be looked at isn't gone */
+            fault("the host refuses to show process %d: %s", number, strerror(errno));
         return 0;
+    }
     return (int)(size / sizeof *found) < most ? (int)(size / sizeof *found) : most;
 }
 
@@ -252,6 +244,7 @@ bool system_process(pid_t process, struct process_facts *facts)
         .parent = row.ki_ppid,
         .tracer = row.ki_tracer,
         .lwps = row.ki_stat == SZOMB ? 0 : row.ki_numthreads,
+        .status = -1,
         .pending = bits_of(&row.ki_siglist),
         .ignored = bits_of(&row.ki_sigignore),
         .caught = bits_of(&row.ki_sigcatch)};
@@ -305,7 +298,7 @@ int system_list(long user, pid_t *found, int most)
     int count = 0;
     (void)user;
     for (int i = 0; i < cast.processes && count < most; i++)
-        if (look(KERN_PROC_PID, cast.process[i].native, &row, 1) == 1 && row.ki_pid != 0)
+        if (cast.process[i].native != 0 && look(KERN_PROC_PID, cast.process[i].native, &row, 1) == 1 && row.ki_pid != 0)
             found[count++] = cast.process[i].native;
     return count;
 }

@@ -27,7 +27,6 @@ const bool system_has_lwp_pending = true;
 const unsigned system_most_rounds = 0;
 const bool system_is_reaper = true, system_has_users = true, system_spawns_image = false;
 bool private_numbers;
-static __thread struct slot *self;
 
 /* ---- memory and image, which are inherited and have no name */
 
@@ -124,6 +123,8 @@ pid_t system_fork_inner(void)
     return fork();
 }
 
+void system_end_with_parent(void) { prctl(PR_SET_PDEATHSIG, SIGTERM); }
+
 void system_inner(void)
 {
     setsid();
@@ -165,9 +166,6 @@ void system_kill_all(void)
 
 /* ---- LWPs */
 
-struct slot *system_self(void) { return self; }
-void system_set_self(struct slot *slot) { self = slot; }
-
 void system_newborn(struct slot *slot)
 {
     atomic_store(&slot->lwp, syscall(SYS_gettid));
@@ -190,25 +188,17 @@ void system_rest(bool silent)
             __asm__ volatile("" ::: "memory");
 }
 
-static void *run_thread(void *slot) { puppet_live((int)((struct slot *)slot - stage->slots)); }
-
-int system_thread(int slot)
-{
-    pthread_t thread;
-    pthread_attr_t attributes;
-    pthread_attr_init(&attributes);
-    pthread_attr_setdetachstate(&attributes, PTHREAD_CREATE_DETACHED);
-    errno = pthread_create(&thread, &attributes, run_thread, &stage->slots[slot]);
-    return errno != 0 ? -1 : 0;
-}
-
 void system_thread_end(void)
 {
     for (;;)
         syscall(SYS_exit, 0);
 }
 
-int system_raise(int signal) { return (int)syscall(SYS_tgkill, atomic_load(&self->process), atomic_load(&self->lwp), signal); }
+int system_raise(int signal)
+{
+    const struct slot *self = system_self();
+    return (int)syscall(SYS_tgkill, atomic_load(&self->process), atomic_load(&self->lwp), signal);
+}
 
 /* The call's number, which is one of FreeBSD's, can't be seen here. */
 bool system_has_other(long number)
@@ -249,10 +239,19 @@ long system_ptrace(const struct command *command, struct answer *answer)
 
 /* ---- what /proc says */
 
+/* What can't be looked at isn't gone. */
+static void gone_or_fault(const char *path)
+{
+    if (errno != ENOENT && errno != ESRCH)
+        fault("cannot read %s: %s", path, strerror(errno));
+}
+
 static bool read_text(const char *path, char *text, size_t size)
 {
     int descriptor = open(path, O_RDONLY | O_CLOEXEC);
     ssize_t got = descriptor < 0 ? -1 : read(descriptor, text, size - 1);
+    if (got < 0)
+        gone_or_fault(path);
     if (descriptor >= 0)
         close(descriptor);
     text[got > 0 ? got : 0] = 0;
@@ -320,6 +319,8 @@ static void look_at_lwps(pid_t process, struct process_facts *facts)
     int stopped = 0, traced = 0;
     snprintf(path, sizeof path, "/proc/%d/task", process);
     DIR *folder = opendir(path);
+    if (folder == NULL)
+        gone_or_fault(path);
     facts->lwps = 0;
     for (struct dirent *entry; folder != NULL && (entry = readdir(folder)) != NULL;) {
         if (!isdigit((unsigned char)*entry->d_name))
@@ -345,6 +346,27 @@ static long owner_of(long thread)
     return thread != 0 && read_text(path, text, sizeof text) ? atol(field(text, "\nTgid:")) : thread;
 }
 
+/* What /proc shows to a debugger of it, to others as 0. */
+static bool may_see_status(long user)
+{
+    struct __user_cap_header_struct header = {.version = _LINUX_CAPABILITY_VERSION_3};
+    struct __user_cap_data_struct sets[2] = {{0}};
+    return user == (long)getuid() || (syscall(SYS_capget, &header, sets) == 0 && (sets[0].effective >> CAP_SYS_PTRACE & 1) != 0);
+}
+
+static int zombie_status(pid_t process, long user)
+{
+    enum { STATE = 3, STATUS = 52 };
+    char path[64], text[1024];
+    snprintf(path, sizeof path, "/proc/%d/stat", process);
+    if (!may_see_status(user) || !read_text(path, text, sizeof text))
+        return -1;
+    const char *at = strrchr(text, ')');
+    for (int place = STATE; at != NULL && place <= STATUS; place++)
+        at = strchr(at + 1, ' ');
+    return at == NULL ? -1 : atoi(at);
+}
+
 bool system_process(pid_t process, struct process_facts *facts)
 {
     char path[64], text[4096];
@@ -362,6 +384,7 @@ bool system_process(pid_t process, struct process_facts *facts)
     facts->tracer = owner_of(atol(field(text, "\nTracerPid:")));
     if (atol(field(text, "\nThreads:")) > 1)
         look_at_lwps(process, facts);
+    facts->status = facts->state == STATE_ZOMBIE ? zombie_status(process, facts->user) : -1;
     return facts->state != STATE_GONE;
 }
 
@@ -381,6 +404,8 @@ int system_list(long user, pid_t *found, int most)
 {
     int count = 0;
     DIR *folder = opendir("/proc");
+    if (folder == NULL)
+        gone_or_fault("/proc");
     for (struct dirent *entry; folder != NULL && (entry = readdir(folder)) != NULL;) {
         struct process_facts facts;
         pid_t process = (pid_t)atol(entry->d_name);

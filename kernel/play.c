@@ -27,7 +27,6 @@ struct ignored {
 static struct playing {
     const char *file;
     const struct session *session;
-    const struct line *line; /* the step that began the group */
     long compared;
     enum verdict verdict;
     bool over;
@@ -73,8 +72,7 @@ static void unlisted(const struct line *line, const char *step, const char *mode
 
 static void compare_reply(const struct line *line, const char *step, const char *model, const char *kernel)
 {
-    struct found found = {
-        .line = line, .step = step == line->text ? NULL : step, .kills = playing.session->kills, .model = model, .kernel = kernel};
+    struct found found = {.line = line, .kills = playing.session->kills, .model = model, .kernel = kernel};
     if (playing.over)
         return;
     struct known *known = differences_find(&found);
@@ -145,14 +143,23 @@ static void keep_caught(void)
             playing.caught[lwp][number] = caught(lwp, number);
 }
 
-/* The model's turns that catch a signal are no acts of the player: they are compared with what handlers have counted. */
-static void expect_caught(const struct line *line)
+/* The model's turns that catch a signal are no acts of the player: they are compared with what handlers have counted. One that
+ * differs is known by its own words, or by the step that began the group. */
+static void expect_caught(const struct line *line, const struct line *began)
 {
     int lwp = cast_lwp(line->actor), number = atoi(line->reply + strlen("caught "));
-    if (lwp < 0 || number < 1 || number >= MODEL_SIGNALS || playing.caught[lwp][number] >= caught(lwp, number))
-        compare_reply(line, line->text, line->reply, "ok");
-    else
+    if (lwp >= 0 && number >= 1 && number < MODEL_SIGNALS && playing.caught[lwp][number] < caught(lwp, number)) {
         playing.caught[lwp][number]++;
+        return;
+    }
+    struct found found = {.line = line, .kills = playing.session->kills, .model = line->reply, .kernel = "ok"};
+    struct known *known = differences_find(&found);
+    found.line = began;
+    known = known == NULL ? differences_find(&found) : known;
+    if (known != NULL)
+        listed(known, line, line->text, line->reply, "ok");
+    else
+        unlisted(line, line->text, line->reply, "ok");
 }
 
 static void compare_caught(const struct line *line)
@@ -203,10 +210,19 @@ static size_t end_of_group(size_t at)
     return end;
 }
 
-static void make_and_compare(const struct line *line)
+/* Whether one of the turns up to `end` stops the LWP of this one. */
+static bool stops_again(const struct line *line, const struct line *end)
+{
+    for (const struct line *turn = line + 1; turn < end; turn++)
+        if (is_turn(turn, "compute") && turn->actor == line->actor && strncmp(turn->reply, "stopped ", strlen("stopped ")) == 0)
+            return true;
+    return false;
+}
+
+static void make_and_compare(const struct line *line, const struct course *course)
 {
     char got[LONG_TEXT];
-    if (step_make(line, got, sizeof got) == NOT_TRIED) {
+    if (step_make(line, course, got, sizeof got) == NOT_TRIED) {
         not_tried(line, got);
         return;
     }
@@ -239,23 +255,26 @@ static void compare_last(size_t at, size_t end)
 static void play_group(size_t at, size_t end)
 {
     const struct line *lines = playing.session->lines;
-    make_and_compare(&lines[at]);
-    for (size_t i = at + 1; i < end && !playing.over; i++)
+    struct course course = {0};
+    make_and_compare(&lines[at], &course);
+    for (size_t i = at + 1; i < end && !playing.over; i++) {
+        course = (struct course){.settles = lines[at].op != OP_TURN, .stops_again = stops_again(&lines[i], &lines[end])};
         if (is_turn(&lines[i], "leave"))
-            make_and_compare(&lines[i]);
+            make_and_compare(&lines[i], &course);
+    }
     if (playing.over) /* an LWP may be in the midst of a call that nobody looks at */
         return;
     cast_settle();
-    for (size_t i = at; i < end && !playing.over; i++) {
+    for (size_t i = at; i < end; i++)
         if (lines[i].reply == NULL)
             rows_state(&lines[i]);
-        else if (is_turn(&lines[i], "compute") && strncmp(lines[i].reply, "caught ", strlen("caught ")) == 0)
-            expect_caught(&lines[i]);
-        playing.compared += lines[i].reply != NULL && is_turn(&lines[i], "compute") && i > at;
+    total.rows += rows_compare(compare_row, (void *)&lines[at]);
+    for (size_t i = at; i < end && !playing.over; i++) {
+        if (is_turn(&lines[i], "compute") && strncmp(lines[i].reply, "caught ", strlen("caught ")) == 0)
+            expect_caught(&lines[i], &lines[at]);
+        playing.compared += is_turn(&lines[i], "compute") && i > at;
     }
     compare_caught(&lines[at]);
-    if (!playing.over)
-        total.rows += rows_compare(compare_row, (void *)&lines[at]);
     compare_last(at, end);
     keep_caught();
     rows_keep();

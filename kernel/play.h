@@ -75,6 +75,7 @@ struct slot {
 struct stage {
     atomic_int interrupted; /* the signal that has come to the outer process */
     atomic_uint session; /* a puppet of an earlier one ends */
+    atomic_int player; /* whose end ends the puppets; 0 if the kernel sees to that */
     atomic_bool silent; /* LWPs make no calls of their own: calls are reported */
     struct slot slots[MOST_LWPS];
 };
@@ -110,6 +111,7 @@ struct process_facts {
     enum state state;
     long user, parent, tracer;
     int lwps;
+    int status; /* of a zombie, as wait(2) has it; negative if it isn't shown */
     unsigned pending, ignored, caught; /* sets of the model's signals */
 };
 
@@ -127,6 +129,7 @@ extern const bool system_has_lwp_pending; /* pending signals of an LWP are told 
 int system_stage(size_t size); /* a descriptor of shared memory without a name */
 int system_image(void); /* a descriptor of this program, which any user may execute */
 pid_t system_fork_inner(void);
+void system_end_with_parent(void); /* SIGTERM comes as the process ends that started this one */
 void system_inner(void);
 void system_become(long user);
 void system_kill_all(void);
@@ -229,9 +232,14 @@ void cast_clear(void);
 
 enum made { MADE, NOT_TRIED };
 
+struct course {
+    bool settles; /* the turns are those that follow a caller's step */
+    bool stops_again; /* the model's LWP stops at a later one of them */
+};
+
 void steps_begin(void);
 /* Makes the step: `text` gets the kernel's reply, or why it can't be made here. */
-enum made step_make(const struct line *line, char *text, size_t size);
+enum made step_make(const struct line *line, const struct course *course, char *text, size_t size);
 
 /* ---- rows of the model, and of the kernel (rows.c) */
 
@@ -246,6 +254,8 @@ void rows_begin(void);
 void rows_keep(void); /* what is stated from now on comes after the step */
 void rows_state(const struct line *line);
 void rows_field(bool after, bool is_lwp, long number, const char *field, char *text, size_t size);
+long rows_stopped_tracee(long tracer); /* the one that is stated last; 0: none */
+int rows_users(void); /* how many had processes before the step */
 int rows_compare(rows_difference told, void *with); /* how many were compared */
 
 /* ---- known differences (differences.c) */
@@ -258,7 +268,6 @@ struct known {
 
 struct found {
     const struct line *line;
-    const char *step; /* in place of the line's words */
     bool kills, row_is_lwp;
     long row;
     const char *model, *kernel;

@@ -113,11 +113,21 @@ void puppet_begin(int slot)
     puppet_live(slot);
 }
 
+/* Both processes of the player may be killed at once. */
+static bool player_is_gone(void)
+{
+    pid_t player = atomic_load(&stage->player);
+    return player != 0 && kill(player, 0) < 0 && errno == ESRCH;
+}
+
 void puppet_live(int slot)
 {
+    enum { LOOK = 4096 };
     newborn(slot);
-    while (atomic_load(&stage->session) == session) {
+    for (unsigned round = 1; atomic_load(&stage->session) == session; round++) {
         struct slot *self = system_self();
+        if (round % LOOK == 0 && !atomic_load(&stage->silent) && player_is_gone())
+            break;
         unsigned asked = atomic_load(&self->asked);
         if (asked != atomic_load(&self->begun))
             do_command(self, asked);

@@ -18,7 +18,6 @@ static struct rows now, before;
 
 void rows_begin(void) { now.count = before.count = 0; }
 void rows_keep(void) { before = now; }
-bool rows_are_stated(void) { return now.count > 0; }
 
 static struct row *find(struct rows *rows, bool is_lwp, long number)
 {
@@ -54,6 +53,35 @@ static void value_of(const struct row *row, const char *field, char *text, size_
 void rows_field(bool after, bool is_lwp, long number, const char *field, char *text, size_t size)
 {
     value_of(find(after ? &now : &before, is_lwp, number), field, text, size);
+}
+
+long rows_stopped_tracee(long tracer)
+{
+    char value[32];
+    const struct row *last = NULL;
+    for (int i = 0; i < now.count; i++) {
+        const struct row *row = &now.row[i];
+        value_of(row, "tracer", value, sizeof value);
+        bool is_tracee = !row->is_lwp && !row->gone && atol(value) == tracer;
+        value_of(row, "state", value, sizeof value);
+        if (is_tracee && strcmp(value, "trace_stop") == 0 && (last == NULL || row->line->number > last->line->number))
+            last = row;
+    }
+    return last == NULL ? 0 : last->number;
+}
+
+int rows_users(void)
+{
+    char text[32];
+    bool has[USERS] = {false};
+    int count = 0;
+    for (int i = 0; i < before.count; i++) {
+        value_of(&before.row[i], "user", text, sizeof text);
+        long user = atol(text) - FIRST_USER;
+        if (user >= 0 && user < USERS && !has[user])
+            has[user] = true, count++;
+    }
+    return count;
 }
 
 /* ---- the kernel's */
@@ -153,8 +181,11 @@ static void compare_process(struct comparing *comparing)
     compare_number(comparing, "parent", model_process((pid_t)facts.parent));
     compare_number(comparing, "tracer", facts.tracer == 0 ? 0 : model_process((pid_t)facts.tracer));
     compare_number(comparing, "lwps", facts.lwps);
-    if (facts.state == STATE_ZOMBIE) /* its signals concern nobody */
+    if (facts.state == STATE_ZOMBIE) { /* its signals concern nobody */
+        if (facts.status >= 0)
+            compare_number(comparing, "status", model_status(facts.status));
         return;
+    }
     compare_set(comparing, "pending", facts.pending);
     compare_set(comparing, "ignored", facts.ignored);
     compare_set(comparing, "caught", facts.caught);

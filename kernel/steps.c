@@ -11,6 +11,7 @@ struct reply {
     char *text;
     size_t size;
     const char *wanted; /* the model's reply */
+    const struct course *course;
 };
 
 static long next_process[USERS], next_lwp[USERS];
@@ -246,13 +247,9 @@ static int lwp_meant(long target)
 static void note_suspension(const struct line *line)
 {
     const char *request = line->words[0];
-    long target = line->count > 1 ? atol(line->words[1]) : 0;
-    int lwp = lwp_meant(target), process = lwp < 0 ? cast_process(target) : cast.lwp[lwp].process;
+    int lwp = lwp_meant(line->count > 1 ? atol(line->words[1]) : 0);
     if (lwp >= 0 && (strcmp(request, "PT_SUSPEND") == 0 || strcmp(request, "PT_RESUME") == 0))
         cast.lwp[lwp].suspended = strcmp(request, "PT_SUSPEND") == 0;
-    for (int i = 0; i < cast.lwps && strcmp(request, "PT_DETACH") == 0; i++)
-        if (cast.lwp[i].process == process)
-            cast.lwp[i].suspended = false;
 }
 
 static enum made say_info(const struct reply *reply, const struct lwp_info *info)
@@ -388,16 +385,25 @@ static void give_numbers(int lwp, enum act act)
     cast.lwp[lwp].gone = false;
 }
 
+/* Whether the LWP has made another one, whose stop keeps it in the call. */
+static bool bears(int lwp)
+{
+    const struct slot *slot = &stage->slots[lwp];
+    return slot->command.act == ACT_THR_NEW &&
+           system_find_newborn(&stage->slots[slot->command.child], atomic_load(&slot->process), true);
+}
+
 static enum made leave_birth(int lwp, enum outcome outcome, const struct reply *reply)
 {
     struct slot *slot = &stage->slots[lwp];
     int child = slot->command.child;
     if (outcome == OUT_DONE && slot->answer.error != 0) {
-        if (wants(reply, "new "))
+        if (!wants(reply, "error "))
             fault("the host refuses a new process or thread: %s", strerror(slot->answer.error));
         return refuse(reply, slot->answer.error);
     }
-    bool born_stopped = outcome == OUT_STOPPED && wants(reply, "new "); /* it is the new LWP that has stopped the process */
+    /* by the new LWP, or once the call was done */
+    bool born_stopped = outcome == OUT_STOPPED && wants(reply, "new ") && (reply->course->stops_again || bears(lwp));
     if (outcome != OUT_GONE && (outcome != OUT_STOPPED || born_stopped || strstr(reply->wanted, "PL_FLAG_SCX") != NULL)) {
         cast_await_newborn(child, lwp);
         give_numbers(child, slot->command.act);
@@ -416,11 +422,14 @@ static enum made make_leave(int lwp, const struct reply *reply)
         return cannot(reply, "the LWP is in no call");
     if (outcome == OUT_STOPPED)
         outcome = cast_await(lwp);
-    entered[lwp] = outcome == OUT_STOPPED && strstr(reply->wanted, "PL_FLAG_SCX") == NULL ? OUT_STOPPED : OUT_NONE;
+    bool in_call = outcome == OUT_STOPPED && wants(reply, "stopped ") && strstr(reply->wanted, "PL_FLAG_SCX") == NULL;
+    entered[lwp] = in_call ? OUT_STOPPED : OUT_NONE;
     if (command->act == ACT_FORK || command->act == ACT_VFORK || command->act == ACT_THR_NEW)
         return leave_birth(lwp, outcome, reply);
-    if (outcome == OUT_STOPPED)
-        return say_stopped(reply);
+    if (outcome == OUT_STOPPED) /* before it could say that the call is done, as after PT_STEP */
+        return reply->course->stops_again && wants(reply, "ok") ? say(reply, "ok") : say_stopped(reply);
+    if (outcome == OUT_DONE && command->act == ACT_EXEC && slot->answer.error != 0 && !wants(reply, "error "))
+        fault("the host refuses a new image: %s", strerror(slot->answer.error));
     if (outcome == OUT_DONE)
         return plain(reply, &slot->answer);
     if (command->act == ACT_EXIT)
@@ -429,22 +438,14 @@ static enum made make_leave(int lwp, const struct reply *reply)
     return say(reply, state == STATE_GONE || state == STATE_ZOMBIE ? "ended 0" : "ok");
 }
 
-/* Whether the LWP has made another one, whose stop keeps it in the call. */
-static bool bears(int lwp)
-{
-    const struct slot *slot = &stage->slots[lwp];
-    return slot->command.act == ACT_THR_NEW &&
-           system_find_newborn(&stage->slots[slot->command.child], atomic_load(&slot->process), true);
-}
-
-/* Whether the LWP is in a call whose end is to be looked at: it is through, has ended in it, waits for its vfork child, goes on, or
- * has stopped at its exit. */
+/* Whether the LWP is in a call whose end is to be looked at: it is through, has ended in it, waits for its vfork child, goes on, has
+ * stopped at its exit, or behind it. */
 static bool leaves(int lwp, const struct reply *reply)
 {
     if (entered[lwp] == OUT_GONE || entered[lwp] == OUT_BORN || entered[lwp] == OUT_DONE)
         return true;
     return entered[lwp] == OUT_STOPPED && !cast.lwp[lwp].gone &&
-           (wants(reply, "stopped ") || bears(lwp) || !is_stopped(cast_state(cast.lwp[lwp].process)));
+           (wants(reply, "stopped ") || bears(lwp) || reply->course->settles || !is_stopped(cast_state(cast.lwp[lwp].process)));
 }
 
 static enum made make_turn(const struct line *line, const struct reply *reply)
@@ -478,7 +479,7 @@ static enum made make_none(const struct line *line, const struct reply *reply)
     return cannot(reply, "stop handlers aren't the kernel's");
 }
 
-enum made step_make(const struct line *line, char *text, size_t size)
+enum made step_make(const struct line *line, const struct course *course, char *text, size_t size)
 {
     static enum made (*const makers[])(const struct line *, const struct reply *) = {[OP_SPAWN] = make_spawn,
         [OP_PTRACE] = make_ptrace,
@@ -489,7 +490,7 @@ enum made step_make(const struct line *line, char *text, size_t size)
         [OP_INSTALL] = make_none,
         [OP_HANDLE] = make_none,
         [OP_TURN] = make_turn};
-    struct reply reply = {.text = text, .size = size, .wanted = line->reply};
+    struct reply reply = {.text = text, .size = size, .wanted = line->reply, .course = course};
     if (cast.lwps >= MOST_LWPS - 1)
         return cannot(&reply, "more LWPs than there is room for");
     return makers[line->op](line, &reply);

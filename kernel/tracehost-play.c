@@ -37,7 +37,12 @@ static void end_puppets(void)
 {
     enum { SECONDS = 10 };
     const double end = seconds_now() + SECONDS;
-    while (system_is_reaper && !private_numbers && seconds_now() < end) {
+    if (!system_is_reaper)
+        system_kill_all();
+    if (!system_is_reaper || private_numbers)
+        return;
+    close(IMAGE_DESCRIPTOR); /* looking for them may need the last descriptor that there is */
+    while (seconds_now() < end) {
         system_kill_all();
         if (waitpid(-1, NULL, WNOHANG) < 0 && errno == ECHILD)
             return;
@@ -78,20 +83,21 @@ void fault(const char *format, ...)
 struct options {
     const char *differences;
     char **files;
+    long parent; /* with which it ends; 0: with none */
 };
 
 static void __attribute__((noreturn)) usage(void)
 {
-    fprintf(stderr, "usage: tracehost-play [--differences FILE] [--kill-on-debugger-exit 0|1] [--results FILE] [--time SECONDS] "
-                    "[SESSIONS ..]\n");
+    fprintf(stderr, "usage: tracehost-play [--differences FILE] [--kill-on-debugger-exit 0|1] [--parent PID] [--results FILE] "
+                    "[--time SECONDS] [SESSIONS ..]\n");
     _exit(STATUS_WRONG);
 }
 
 static void read_options(int count, char **words, struct options *options)
 {
     static const struct option names[] = {{"differences", required_argument, NULL, 'd'},
-        {"kill-on-debugger-exit", required_argument, NULL, 'k'}, {"results", required_argument, NULL, 'r'},
-        {"time", required_argument, NULL, 't'}, {NULL, 0, NULL, 0}};
+        {"kill-on-debugger-exit", required_argument, NULL, 'k'}, {"parent", required_argument, NULL, 'p'},
+        {"results", required_argument, NULL, 'r'}, {"time", required_argument, NULL, 't'}, {NULL, 0, NULL, 0}};
     char *end;
     for (int found; (found = getopt_long(count, words, "", names, NULL)) != -1;) {
         switch (found) {
@@ -101,6 +107,11 @@ static void read_options(int count, char **words, struct options *options)
             if (strcmp(optarg, "0") != 0 && strcmp(optarg, "1") != 0)
                 usage();
             kills_on_debugger_exit = *optarg - '0';
+            break;
+        case 'p':
+            options->parent = strtol(optarg, &end, 10);
+            if (end == optarg || *end != 0 || options->parent < 1)
+                usage();
             break;
         case 't':
             time_limit = strtod(optarg, &end);
@@ -135,9 +146,17 @@ static void raise_limit(int kind, bool privileged)
         setrlimit(kind, &limit);
 }
 
-static void reset_inherited(void)
+/* A file that may grow no more is told by an error, as a full disk is. */
+static void raise_limits(void)
 {
     static const int limits[] = {RLIMIT_NPROC, RLIMIT_CPU, RLIMIT_FSIZE, RLIMIT_AS, RLIMIT_NOFILE};
+    for (size_t i = 0; i < sizeof limits / sizeof *limits; i++)
+        raise_limit(limits[i], geteuid() == 0);
+    signal(SIGXFSZ, SIG_IGN);
+}
+
+static void reset_inherited(void)
+{
     const struct rlimit none = {0, 0};
     sigset_t empty;
     for (int number = 1; number < MODEL_SIGNALS; number++)
@@ -145,8 +164,6 @@ static void reset_inherited(void)
             signal(native_signal(number), SIG_DFL);
     sigemptyset(&empty);
     sigprocmask(SIG_SETMASK, &empty, NULL);
-    for (size_t i = 0; i < sizeof limits / sizeof *limits; i++)
-        raise_limit(limits[i], geteuid() == 0);
     setrlimit(RLIMIT_CORE, &none);
     setpriority(PRIO_PROCESS, 0, 0);
     umask(022);
@@ -186,8 +203,11 @@ static void __attribute__((noreturn)) be_inner(int outer_lives, const struct opt
     if (system_is_reaper)
         reset_inherited();
     signal(SIGPIPE, SIG_IGN);
+    signal(SIGXFSZ, SIG_IGN);
     if (!private_numbers)
         signal(SIGTERM, note_signal);
+    if (system_is_reaper && !private_numbers)
+        atomic_store(&stage->player, getpid());
     system_inner();
     if (system_is_reaper && poll(&outer, 1, 0) != 0) /* it has ended before it could be noticed */
         _exit(STATUS_FAULT);
@@ -269,12 +289,19 @@ int main(int count, char **words)
     open_standard();
     read_options(count, words, &options);
     closefrom(STDERR_FILENO + 1);
+    if (system_is_reaper)
+        raise_limits();
     bool kept = keep_as(system_stage(sizeof(struct stage)), STAGE_DESCRIPTOR) && keep_as(system_image(), IMAGE_DESCRIPTOR);
     stage = kept ? map_stage() : NULL;
     if (stage == NULL || pipe(lives) < 0)
         fault("the host refuses memory: %s", strerror(errno));
     if (system_is_reaper)
         catch_signals();
+    if (options.parent != 0) {
+        system_end_with_parent();
+        if (getppid() != options.parent)
+            fault("process %ld, which it is to end with, didn't start it, or has ended", options.parent);
+    }
     pid_t inner = system_fork_inner();
     if (inner < 0)
         fault("the host refuses a new process: %s", strerror(errno));

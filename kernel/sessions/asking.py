@@ -44,12 +44,10 @@ def _is_seen(rows: Rows, step: Step) -> bool:
 
 
 def _traces_start(rows: Rows, step: Step) -> bool:
-    """Whether system calls are to be traced from the stop of an exec on."""
+    """Whether system calls are to be traced before an image has gone through its start."""
     traces = step.get("request") in _TRACES_CALLS or not _SYSTEM_CALLS.isdisjoint(step.get("mask", ()))
     row = _owner(rows, step.get("target", 0)) if traces else None
-    if row is None or row["state"] != "trace_stop":
-        return False
-    return "PL_FLAG_EXEC" in rows.lwps[row["stop_lwp"]].get("flags", ())
+    return row is not None and row["pid"] in rows.starting
 
 
 def _is_any_child(rows: Rows, step: Step) -> bool:

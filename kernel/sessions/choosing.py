@@ -17,8 +17,18 @@ _CALLS = ("fork", "vfork", "exec", "thr_new", "thr_exit")
 _STRANGE = 0.06
 # how often a step is of processes that have to do with each other, and how often one that goes on with what they began
 _AIMED, _GOES_ON = 0.75, 0.6
-# how often a refusal is looked for that was reached less often than wanted
-_LOOKS_FOR_REFUSALS, _WANTED = 0.2, 30
+# how much more often a tracee that runs gets something to stop for
+_EXCITES = 3
+# calls of a process that runs, which their arguments refuse
+_REFUSED_CALLS = {
+    "kill no_signal_to_post": "kill {caller} {caller} 32",
+    "kill no_groups": "kill {caller} -3 15",
+    "kill process_gone": "kill {caller} {gone} 15",
+    "wait4 no_groups": "wait4 {caller} 0",
+    "wait4 no_child_of_number": "wait4 {caller} {caller}",
+    "sigaction no_signal": "sigaction {caller} 32 ignore",
+    "sigaction fixed_signal": "sigaction {caller} 9 ignore",
+}
 _PASSES = ("PT_CONTINUE", "PT_STEP", "PT_TO_SCE", "PT_TO_SCX", "PT_SYSCALL", "PT_DETACH")
 # signals that stop, continue, end, or come by themselves are met more often than the rest
 _OFTEN = tuple(Signal[name] for name in "SIGSTOP SIGCONT SIGTSTP SIGKILL SIGTERM SIGCHLD SIGUSR1 SIGTRAP".split())
@@ -48,7 +58,6 @@ class Chooser:
             "raise": lambda: f"turn {self._lwp()} raise {self._signal()}",
             "exit": lambda: f"turn {self._lwp()} enter exit {self._chance.choice((0, 1, 7, 255))}",
             "other": lambda: f"turn {self._lwp()} enter other 20",
-            "refused": lambda: self._rarest_refusal()[1],
             "PT_TRACE_ME": lambda: f"ptrace {self._child()} PT_TRACE_ME",
             "PT_ATTACH": self._attach,
             **{call: self._entering(call) for call in _CALLS},
@@ -58,10 +67,6 @@ class Chooser:
     def step(self, rows: Rows, seen: Numbers) -> str:
         """The words of a step of the user with these rows, without the user."""
         self._rows, self._seen = rows, seen
-        if self._is(_LOOKS_FOR_REFUSALS):
-            refusal, words = self._rarest_refusal()
-            if self._counts[refusal] < _WANTED:
-                return words
         next_steps = self._next_steps() if self._is(_GOES_ON) else []
         if next_steps:
             return self._chance.choice(next_steps)()
@@ -89,7 +94,7 @@ class Chooser:
                 elif row["state"] == "trace_stop":
                     steps.append(partial(self._command, asker, row))
             if row["state"] == "runs" and row.get("tracer"):
-                steps.append(partial(self._excite, row))
+                steps += [partial(self._excite, row)] * _EXCITES
             if row["state"] == "job_stop":
                 steps.append(partial(self._release, row))
         waiting = [lwp["vfork_child"] for lwp in self._rows.lwps.values() if lwp["mode"] == "waits_for_vfork"]
@@ -110,7 +115,9 @@ class Chooser:
     def _excite(self, row: Process) -> str:
         """What a traced process stops for: a signal, or a call of one of its LWPs."""
         if self._is(0.5):
-            signal = min(self._chance.sample(self._kind.signals, 4), key=lambda signal: self._counts[f"stop {signal.name}"])
+            signals = [signal for signal in self._kind.signals if signal is not Signal.SIGKILL]
+            self._chance.shuffle(signals)
+            signal = min(signals, key=lambda signal: self._counts[f"stop {signal.name}"])
             return f"kill {self._caller()} {row['pid']} {int(signal)}"
         lwp = self._chance.choice(self._rows.of(row["pid"]))["lwp"]
         calls = [call for call in (*_CALLS, "other") if call in self._names]
@@ -216,29 +223,52 @@ class Chooser:
 
     # ---- refusals
 
-    def _rarest_refusal(self) -> tuple[str, str]:
-        """Of the steps that may be refused here, the one whose refusal was reached least often."""
-        steps = list(self._refusals())
-        self._chance.shuffle(steps)
-        return min(steps, key=lambda step: self._counts[step[0]])
+    def refused_steps(self, rows: Rows, seen: Numbers) -> list[tuple[str, str]]:
+        """Refusals, and words of steps that they answer: first those that were reached least often."""
+        self._rows, self._seen = rows, seen
+        refusals = [*self._refused_requests(), *self._refused_calls(), *self._refused_turns()]
+        self._chance.shuffle(refusals)
+        return sorted(refusals, key=lambda refusal: self._counts[refusal[0]])
 
-    def _refusals(self) -> Iterator[tuple[str, str]]:
-        """Refusals, and the steps that they answer."""
+    def _refused_requests(self) -> Iterator[tuple[str, str]]:
         requests = [name for name in self._names if name.startswith("PT_") and name != "PT_TRACE_ME"]
         for relation, (caller, target) in self._pairs().items():
-            for name in requests if relation else ():
-                if name != "PT_ATTACH" or relation.startswith(("caller", "target")):
-                    yield f"refusal {name} {relation}", f"ptrace {caller} {name} {target}"
+            for name in requests:
+                words = f"ptrace {caller} {name} {target}"
+                if relation.startswith(("caller", "target")) or (relation and name != "PT_ATTACH"):
+                    yield f"refusal {name} {relation}", words
+                elif name in _PASSES:
+                    yield f"refusal {name} no_signal_to_pass", f"{words} 32"
+                elif name == "PT_GETLWPLIST":
+                    yield f"refusal {name} no_count", words
+                elif name == "PT_ATTACH" and relation != "not_traced" and caller != target:
+                    yield f"refusal {name} traced_already", words
+
+    def _refused_calls(self) -> Iterator[tuple[str, str]]:
+        for relation, (caller, target) in self._pairs().items():
             if relation.startswith("caller"):
+                for words in (f"list {caller}", f"kill {caller} {target} 0", f"wait4 {caller} -1", f"sigaction {caller} 15 ignore"):
+                    yield f"refusal {words.split()[0]} {relation}", words
                 if "PT_TRACE_ME" in self._names:
                     yield f"refusal PT_TRACE_ME {relation}", f"ptrace {caller} PT_TRACE_ME"
-                yield f"refusal list {relation}", f"list {caller}"
-                yield f"refusal kill {relation}", f"kill {caller} {target} 0"
-                yield f"refusal wait4 {relation}", f"wait4 {caller} -1"
-                yield f"refusal sigaction {relation}", f"sigaction {caller} 15 ignore"
-        for reason, lwp in self._idle():
+        running = self._where(lambda row: row["state"] == "runs")
+        if not running:
+            return
+        row = self._chance.choice(running)
+        for refusal, words in _REFUSED_CALLS.items():
+            yield f"refusal {refusal}", words.format(caller=row["pid"], gone=self._no_process())
+        if len(self._rows.processes) == 1:
+            yield "refusal kill no_other_process", f"kill {row['pid']} -1 15"
+        if "PT_TRACE_ME" in self._names and row["parent"] == 1 and not row.get("tracer"):
+            yield "refusal PT_TRACE_ME parent_is_1", f"ptrace {row['pid']} PT_TRACE_ME"
+
+    def _refused_turns(self) -> Iterator[tuple[str, str]]:
+        for reason, idle in self._idle():
             for act in ("raise 30", "block 30", "enter fork"):
-                yield f"refusal {act.split()[0]} {reason}", f"turn {lwp} {act}"
+                yield f"refusal {act.split()[0]} {reason}", f"turn {idle} {act}"
+        for number, lwp in self._rows.lwps.items():
+            if self._rows.processes[lwp["pid"]]["state"] == "runs" and lwp["mode"] == "runs" and not lwp.get("suspended"):
+                yield "refusal raise no_signal_to_raise", f"turn {number} raise {self._chance.choice((0, 32))}"
 
     def _idle(self) -> Iterator[tuple[str, int]]:
         """LWPs that get no turn, and why."""

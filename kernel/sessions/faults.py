@@ -71,6 +71,10 @@ def _of_row(session: Text, line: int) -> Iterator[Fault]:
         return
     kind = text.split()[1]
     if "state=zombie" in text:
+        status = re.search(r" status=(\d+)", text)
+        if status:
+            changed = text.replace(status[0], f" status={int(status[1]) ^ 256}")
+            yield Fault("row process status", _changed(session, line, changed), line)
         return
     if _STOPS.search(text):
         yield Fault(f"stop left out, {_STOPS.findall(text)[0]}", _changed(session, line, _STOPS.sub("state=runs", text)), line)

@@ -35,7 +35,8 @@ def _discards(rows: Rows, row: Process, signal: int) -> bool:
     name = DISCARDED.get(signal)
     if name is None or name in row.get("catch", ()) or name in row.get("ignore", ()):
         return False
-    return signal == _SIGIO or any(name in lwp.get("blocked", ()) for lwp in rows.of(row["pid"]))
+    blocked = any(name in lwp.get("blocked", ()) for lwp in rows.of(row["pid"]))
+    return blocked or (signal == _SIGIO and not row.get("tracer"))
 
 
 def _requests(rows: Rows, step: Step) -> str:
@@ -64,7 +65,7 @@ def _attaches(rows: Rows, caller: Process, row: Process) -> str:
 def _commands(caller: Process, row: Process, step: Step) -> str:
     if row.get("tracer") != caller["pid"]:
         return ""
-    if not row.get("reported"):
+    if not row.get("reported") and (row["state"] == "trace_stop" or step["request"] == "PT_KILL"):
         return f"{step['request']} of {row['state']}"
     return f"{step['request']} with a signal" if step.get("data", 0) in range(1, 32) else ""
 

@@ -13,7 +13,7 @@ from .model import Lwp, Rows
 
 # how often each step comes; those of ptrace(2) by their requests, those of an LWP by its act or call
 _UNTRACED = {
-    "spawn": 3, "fork": 8, "exit": 4, "kill": 14, "wait4": 16, "sigaction": 9, "block": 6, "raise": 8, "list": 2, "refused": 4,
+    "spawn": 3, "fork": 8, "exit": 4, "kill": 14, "wait4": 16, "sigaction": 9, "block": 6, "raise": 8, "list": 2,
 }  # fmt: skip
 _TRACED = {"PT_TRACE_ME": 4, "PT_ATTACH": 8, "PT_CONTINUE": 14, "PT_DETACH": 4, "PT_KILL": 2, "wait4": 24}
 _CALLS = {"vfork": 2, "exec": 2, "thr_new": 4, "thr_exit": 2, "other": 1}

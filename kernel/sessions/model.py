@@ -8,7 +8,7 @@ from __future__ import annotations
 
 import json
 import random
-from collections.abc import Callable, Iterator, Sequence
+from collections.abc import Callable, Iterable, Iterator, Sequence
 from functools import lru_cache
 from typing import NamedTuple, TypedDict
 
@@ -63,6 +63,10 @@ class Rows(NamedTuple):
 
     processes: dict[int, Process]
     lwps: dict[int, Lwp]
+    starting: frozenset[int] = frozenset()
+    """The processes that have not run since their exec: the start of the image makes calls."""
+    marked: frozenset[int] = frozenset()
+    """The LWPs that were marked to step, and have had no turn since."""
 
     def of(self, pid: int) -> list[Lwp]:
         """The LWPs of a process, the oldest first."""
@@ -72,6 +76,15 @@ class Rows(NamedTuple):
         """The signals that the LWP meets at its next turns."""
         pending = self.processes[lwp["pid"]].get("pending", []) + lwp.get("pending", [])
         return frozenset(pending).difference(lwp.get("blocked", ())) if pending else frozenset()
+
+    def since(self, before: Rows, made: Iterable[Made]) -> Rows:
+        """These rows, at rest, with what is known of those before the step and its turns."""
+        stopped = {pid for pid, row in self.processes.items() if row["state"] != "runs"}
+        images = {lwp["pid"] for lwp in self.lwps.values() if "PL_FLAG_EXEC" in lwp.get("flags", ())}
+        turns = {lwp for one in made if one.reply != "held" for lwp in _turns_of(one.words)}
+        steps = {number for number, lwp in self.lwps.items() if lwp.get("stepping")}
+        marked = steps | (before.marked - turns) & self.lwps.keys()
+        return self._replace(starting=frozenset(stopped & (before.starting | images)), marked=frozenset(marked))
 
 
 NO_ROWS = Rows({}, {})
@@ -100,6 +113,12 @@ def _line_of(words: str) -> str:
 def user_of(words: str) -> int:
     head, colon, _ = words.partition(": ")
     return int(head) if colon else FIRST_USER
+
+
+def _turns_of(words: str) -> list[int]:
+    """The LWP of a turn; none for another step."""
+    parts = words.rpartition(": ")[2].split()
+    return [int(parts[1])] if parts[0] == "turn" else []
 
 
 def by_user(user: int, words: str) -> str:
@@ -262,12 +281,19 @@ def process_line(user: int, row: Process, lwps: Sequence[Lwp], rows: Rows) -> st
     )
     if row["state"] == "trace_stop":
         line += f" stop={int(Signal[row['stop_signal']])} lwp={row['stop_lwp']}"
+        line += f" stop_ignored={_yes(row['stop_signal'] in row.get('ignore', ()))}"
     if row["state"] in ("trace_stop", "job_stop"):
         line += f" told={_yes(row.get('reported'))}"
+    if any(lwp["lwp"] in rows.marked for lwp in lwps):
+        line += " marked=yes"
+    if row["state"] == "zombie":
+        line += f" status={row['status']}"
+    blocks = {name for lwp in lwps for name in lwp.get("blocked", ())}
     waits = any(lwp["mode"] == "waits_for_vfork" for lwp in lwps)
     vforked = any(lwp.get("vfork_child") == row["pid"] for lwp in rows.lwps.values())
     unwaited = "SIGCHLD" in rows.processes.get(row["parent"], {}).get("ignore", ())
-    return f"{line} continued={_yes(row.get('continued'))} waits={_yes(waits)} vforked={_yes(vforked)} unwaited={_yes(unwaited)}"
+    line += f" blocks={_set(sorted(blocks, key=lambda name: Signal[name]))} continued={_yes(row.get('continued'))}"
+    return f"{line} waits={_yes(waits)} vforked={_yes(vforked)} unwaited={_yes(unwaited)}"
 
 
 def lwp_line(row: Lwp) -> str:

@@ -3,6 +3,7 @@
 from __future__ import annotations
 
 import csv
+import os
 import re
 import subprocess
 from collections import Counter
@@ -68,7 +69,7 @@ class Played(NamedTuple):
 def play(player: Player, sessions: Path, results: Path) -> Played:
     """Plays a file of sessions. A player that hangs is ended, and has status NOT_DONE."""
     count = sessions.read_text(encoding="utf-8").count("# ")
-    words = [str(player.program), "--time", str(player.seconds), "--results", str(results)]
+    words = [str(player.program), "--time", str(player.seconds), "--results", str(results), "--parent", str(os.getpid())]
     words += [] if player.differences is None else ["--differences", str(player.differences)]
     results.unlink(missing_ok=True)
     status, said = _run([*words, str(sessions)], _SECONDS_PER_SESSION * (count + 1))

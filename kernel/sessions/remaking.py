@@ -16,14 +16,15 @@ def remade(name: str, kills: bool, steps: Sequence[str]) -> Optional[Text]:
     model, settler = Model(kills), Settler(random.Random(0), any_order)
     lines: list[str] = []
     known: dict[int, dict[str, str]] = {}
+    rows: dict[int, Rows] = {}
     for words in steps:
         user = user_of(words)
         try:
-            lines += [str(made) for made in settler.group(model, words)]
+            group = settler.group(model, words)
         except Unsettled:
             return None
-        rows: Rows = model.rows(user)
-        after = lines_of(user, rows if rows.processes else NO_ROWS)
-        lines += changed_lines(known.get(user, {}), after)
+        rows[user] = model.rows(user).since(rows.get(user, NO_ROWS), group)
+        after = lines_of(user, rows[user])
+        lines += [*map(str, group), *changed_lines(known.get(user, {}), after)]
         known[user] = after
     return Text(name, kills, lines)

@@ -27,8 +27,10 @@ from .playing import DIFFERS, NOT_DONE, SAME, Played, Player, play
 KERNEL = Path(__file__).resolve().parents[1]
 MAKE_SESSIONS = KERNEL / "make-sessions"
 _SESSIONS_OF_A_PART = 250
-# a corpus in which each listed difference has to occur
-WHOLE = 3000
+# a corpus in which each listed difference has to occur if it was possible
+WHOLE = 10_000
+# how often a listed difference may be possible for each time that it occurs; and times that chance may have kept from it
+_MOST_MET, _SPARE = 100, 5
 
 
 class Part(NamedTuple):
@@ -103,8 +105,16 @@ class Total:
         ]
 
     def gone(self) -> list[str]:
-        """The listed differences that didn't occur."""
-        return [name for name in self.met if not self.differed[name]]
+        """The listed differences that didn't occur although they were possible."""
+        return [name for name, met in self.met.items() if met and not self.differed[name]]
+
+    def untried(self) -> list[str]:
+        """The listed differences that weren't possible in these sessions, so nothing is known of them."""
+        return [name for name, met in self.met.items() if not met]
+
+    def wide(self) -> list[str]:
+        """The listed differences that would hide others: they were possible far more often than they occurred."""
+        return [name for name, met in self.met.items() if met > _MOST_MET * (self.differed[name] + _SPARE)]
 
     def lines(self) -> list[str]:
         compared, steps = (sum(getattr(result, field) for result in self.results) for field in ("compared", "steps"))
@@ -139,19 +149,23 @@ def _arguments() -> argparse.ArgumentParser:
     return parser
 
 
-def _report(total: Total, count: int) -> int:
+def report(total: Total, count: int) -> int:
     """Prints what came of the sessions, and returns the status."""
     print("\n".join(total.lines()))
-    unlisted, gone = total.unlisted(), total.gone()
+    unlisted, gone, wide = total.unlisted(), total.gone(), total.wide()
     for line in unlisted:
         print(f"unlisted: {line}")
     if gone:
         print(f"listed, but it didn't occur: {', '.join(gone)}")
+    if total.untried():
+        print(f"listed, but it wasn't possible here: {', '.join(total.untried())}")
+    if wide:
+        print(f"listed for far more than where it occurs: {', '.join(wide)}")
     for fault in total.faults:
         print(f"run: {fault}", file=sys.stderr)
     if total.faults or not total.results:
         return NOT_DONE
-    return DIFFERS if unlisted or (gone and count >= WHOLE) else SAME
+    return DIFFERS if unlisted or wide or (gone and count >= WHOLE) else SAME
 
 
 def _report_faults(options: argparse.Namespace, folder: Path, parts: Sequence[Part]) -> int:
@@ -183,7 +197,7 @@ def _main(words: list[str] | None) -> int:
         folder = options.folder or Path(room)
         folder.mkdir(parents=True, exist_ok=True)
         parts = _parts(options, folder)
-        status = _report(Total(parts), options.count)
+        status = report(Total(parts), options.count)
         if options.goals is not None and status != NOT_DONE:
             _merge_goals(folder, len(parts), options.goals)
         if options.faults and status == SAME:

@@ -14,6 +14,7 @@ from .kinds import KINDS
 FILE = Path(__file__).with_name("starts.txt")
 _ONLY_HERE = "kinds: "
 _SETTING = "kill_on_debugger_exit: "
+_AT_RANDOM = 0.3
 
 
 class Start(NamedTuple):
@@ -47,8 +48,9 @@ class Starts:
         self._goals = [start for start in self._all if start.name in goals]
 
     def choose(self) -> Optional[Start]:
-        """None half the time. Else the one whose goal was reached least often, or any."""
+        """None half the time. Else mostly the one whose goal was reached least often, or any."""
         if not self._all or self._chance.random() < 0.5:
             return None
-        rarest = min(self._goals, key=lambda start: self._counts[start.name])
-        return self._chance.choice((rarest, self._chance.choice(self._all)))
+        if self._chance.random() < _AT_RANDOM:
+            return self._chance.choice(self._all)
+        return min(self._goals, key=lambda start: self._counts[start.name])

@@ -10,12 +10,13 @@ from pathlib import Path
 from typing import Any, NamedTuple, Optional
 
 from tracehost import Action, EventMask, Raise, Request, Waited
+from tracehost.library import CProcess
 from tracehost.replies import NOTHING
 
 from .calls import Kill, Ptrace, SetAction, Turn, Wait
 from .facts import told_status
 from .log import Line
-from .machine import USER, WAITS_FOR_VFORK, Process
+from .machine import USER, WAITS_FOR_VFORK
 from .moves import Moves, Refused
 from .states import Open, State
 
@@ -135,7 +136,7 @@ def _holds(difference: Difference, state: State, open: Open) -> bool:
     return all(_word_holds(word, rows, state, data) for word in difference.condition.split())
 
 
-def _target(state: State, open: Open) -> Optional[Process]:
+def _target(state: State, open: Open) -> Optional[CProcess]:
     part = open.call.decisive
     number = Moves.target(state, part) if isinstance(part, Ptrace) else state.pid(getattr(part, "which", 0))
     if number in state.rows.lwps:
@@ -143,7 +144,7 @@ def _target(state: State, open: Open) -> Optional[Process]:
     return state.rows.processes.get(number)
 
 
-def _word_holds(word: str, rows: dict[str, Optional[Process]], state: State, data: int) -> bool:
+def _word_holds(word: str, rows: dict[str, Optional[CProcess]], state: State, data: int) -> bool:
     """Whether a word `WHO.FIELD=VALUE` or `!=` holds. Words about what a log doesn't show don't."""
     name, equals, wanted = word.partition("=")
     is_other = name.endswith("!")
@@ -154,7 +155,7 @@ def _word_holds(word: str, rows: dict[str, Optional[Process]], state: State, dat
     return fnmatchcase(value, wanted if other is None else other) != is_other
 
 
-def _value(name: str, rows: dict[str, Optional[Process]], state: State, data: int) -> Optional[str]:
+def _value(name: str, rows: dict[str, Optional[CProcess]], state: State, data: int) -> Optional[str]:
     """The value of `WHO`, `WHO.FIELD` or `data`; None if that is none."""
     who, _, field = name.partition(".")
     if name == "data":
@@ -171,12 +172,12 @@ def _signals(bits: int) -> str:
     return ",".join(str(number) for number in range(1, 32) if bits >> (number - 1) & 1) or "-"
 
 
-def _waits(row: Process, state: State) -> str:
+def _waits(row: CProcess, state: State) -> str:
     lwps = [state.rows.lwps[lwp] for lwp in state.rows.lwps_of(row.pid)]
     return "yes" if lwps and all(lwp.mode == WAITS_FOR_VFORK for lwp in lwps) else "no"
 
 
-_FIELDS: dict[str, Callable[[Process, State], str]] = {
+_FIELDS: dict[str, Callable[[CProcess, State], str]] = {
     "": lambda row, state: str(row.pid),
     "user": lambda row, state: str(USER),
     "state": lambda row, state: _STATES[row.state],

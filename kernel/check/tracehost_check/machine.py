@@ -3,11 +3,10 @@
 from __future__ import annotations
 
 import json
-from collections.abc import Iterator, Sequence
-from typing import Any, NamedTuple
+from typing import NamedTuple
 
 from tracehost.blocking import Progress
-from tracehost.library import RawRows, Session, find
+from tracehost.library import CLwp, CProcess, RawRows, Session, find
 from tracehost.typed import TypedCalls
 
 USER = 1001
@@ -17,46 +16,11 @@ USER_MODE, IN_CALL, WAITS_FOR_VFORK = range(3)
 OTHER_CALL = 6
 
 
-class Process(NamedTuple):
-    """The row of a process (`tracehost.library.CProcess`)."""
-
-    pid: int
-    parent: int
-    tracer: int
-    state: int
-    lwp: int
-    signal: int
-    told: int
-    status: int
-    continued: int
-    events: int
-    pending: int
-
-
-class Lwp(NamedTuple):
-    """The row of an LWP (`tracehost.library.CLwp`)."""
-
-    lwp: int
-    pid: int
-    mode: int
-    call: int
-    argument: int
-    vfork_child: int
-    suspended: int
-    stepping: int
-    blocked: int
-    pending: int
-    due: int
-    flags: int
-    child: int
-    code: int
-
-
 class Rows(NamedTuple):
     """All rows of a state, by number."""
 
-    processes: dict[int, Process]
-    lwps: dict[int, Lwp]
+    processes: dict[int, CProcess]
+    lwps: dict[int, CLwp]
 
     def runs(self, lwp: int) -> bool:
         """Whether the LWP can have a turn."""
@@ -71,14 +35,6 @@ class Rows(NamedTuple):
 
     def lwps_of(self, pid: int) -> list[int]:
         return [row.lwp for row in self.lwps.values() if row.pid == pid]
-
-
-def _words(rows: Any, width: int) -> Iterator[Sequence[int]]:
-    if not len(rows):
-        return
-    words = memoryview(rows).cast("B").cast("I").tolist()
-    for at in range(0, len(words), width):
-        yield words[at : at + width]
 
 
 class Machine:
@@ -116,10 +72,10 @@ class Machine:
         return self._tried.rows(USER)
 
     def rows(self) -> Rows:
-        processes, lwps = self.raw_rows()
+        processes, lwps = self.raw_rows()  # which the next call overwrites
         return Rows(
-            {row[0]: Process(*row) for row in _words(processes, len(Process._fields))},
-            {row[0]: Lwp(*row) for row in _words(lwps, len(Lwp._fields))},
+            {row.pid: row for row in type(processes).from_buffer_copy(processes)},
+            {row.lwp: row for row in type(lwps).from_buffer_copy(lwps)},
         )
 
     def dispositions(self, pid: int) -> tuple[frozenset[int], frozenset[int]]:

@@ -7,13 +7,14 @@ from typing import Any, NamedTuple, Optional, Union
 
 from tracehost import Act, Action, Call, Caught, Compute, Ended, Enter, Held, Leave, Raise, Request, Stopped, StopFlag
 from tracehost import Signal, Waited, WaitOption
+from tracehost.library import CProcess
 from tracehost.replies import NOTHING, Answered
 from tracehost.typed import TypedCalls
 
 from .calls import Back, Handler, Kill, Mask, Ptrace, SetAction, Settled, Take, Turn, Wait, signals_of
 from .facts import UNSENT, Facts, Status
 from .log import Caller
-from .machine import IN_CALL, OTHER_CALL, RUNS, TRACE_STOP, USER, USER_MODE, ZOMBIE, Machine, Process
+from .machine import IN_CALL, OTHER_CALL, RUNS, TRACE_STOP, USER, USER_MODE, ZOMBIE, Machine
 from .states import NO_LWP, NO_PROCESS, Open, State
 
 _CALL_EVENTS = 0x6  # PTRACE_SCE and PTRACE_SCX
@@ -275,7 +276,7 @@ class Moves:
                 yield from self._calls(state, row.pid, Enter(Call.FORK))
             yield from self._hidden_calls(state, row.pid)
 
-    def _collected(self, state: State, row: Process, host: Optional[int], place: int) -> Iterator[State]:
+    def _collected(self, state: State, row: CProcess, host: Optional[int], place: int) -> Iterator[State]:
         """A wait that isn't in the log has told the end of a child whose fork isn't there either."""
         if row.state != ZOMBIE or host not in self._facts.unseen or self._facts.next_status(host, place) is not None:
             return
