@@ -7,12 +7,12 @@
 
 `rt ci` proves a static library and builds none. What it left of the crates below has only their statements, and `rt lib`
 would prove these crates anew. So this gives `rattle build` the words that rt itself makes for the crate: that checks the
-whole crate from nothing, as the gate did, and then compiles what it has just proved. tools/unwinding_clang takes the
-place of the kit's clang there, and asks it for unwind tables.
+whole crate from nothing, as the gate did, and then compiles what it has just proved. tools/library_clang takes the place
+of the kit's clang there, and asks it for unwind tables and for Intel's CET.
 
 The words of its codes, and its version, are of library/words.c. Both files contain the kit's functions for memory, which call
-malloc, realloc and free. They define the names tracehost_* and no others. All is done by the kit's own tools, and no time,
-path or build number gets into a file, so that the same sources give the same bits.
+malloc, realloc and free. They define the names tracehost_* and no others. All is done by the kit's own tools, and no time
+or path gets into a file, so that the same sources give the same bits. The build id is a digest of these.
 """
 
 from __future__ import annotations
@@ -38,7 +38,7 @@ NAMES = ("libtracehost.a", "libtracehost.so")
 SONAME = "libtracehost.so.1"  # its number changes with a call or struct of include/tracehost.h that older programs don't fit
 C_FLAGS = (
     "--target=x86_64-unknown-linux-gnu --no-default-config -std=c11 -march=x86-64-v2 -O2 -fPIC -fasynchronous-unwind-tables"
-    " -ffreestanding -nostdinc -Wall -Wextra -Wconversion -Werror"
+    " -fcf-protection=full -ffreestanding -nostdinc -Wall -Wextra -Wconversion -Werror"
 ).split()
 HEADERS = ("-isystem", f"{TOP}/library/freestanding", "-I", f"{TOP}/include")
 
@@ -65,14 +65,14 @@ def over_the_gate(name: str) -> Iterator[Any]:
             os.close(lock)
 
 
-def unwinding(folder: str) -> str:
-    """Makes a toolchain in the folder: the kit's, except that its clang adds unwind tables. Returns the folder."""
+def toolchain(folder: str) -> str:
+    """Makes a toolchain in the folder: the kit's, except that its clang is tools/library_clang. Returns the folder."""
     tools = KIT / "toolchain"
     os.mkdir(f"{folder}/bin")
     os.symlink(f"{tools}/lib", f"{folder}/lib")
     for name in ("ld.lld", "llvm-ar", "kit-clang"):
         os.symlink(f"{tools}/bin/clang", f"{folder}/bin/{name}")
-    os.symlink(f"{TOP}/tools/unwinding_clang", f"{folder}/bin/clang")
+    os.symlink(f"{TOP}/tools/library_clang", f"{folder}/bin/clang")
     return folder
 
 
@@ -83,7 +83,7 @@ def build_archive() -> str:
         OUT.mkdir(exist_ok=True)
         words = [*crate.words(["--jobs", "1"], keeps=False), "--backend", "llvm"]
         with open(f"{OUT}/build.log", "w+", encoding="utf-8") as crate.out:
-            status = crate.prove(["build", *words, "--toolchain", unwinding(room), "-o", archive])
+            status = crate.prove(["build", *words, "--toolchain", toolchain(room), "-o", archive])
             crate.out.seek(0)
             lines = crate.out.read().splitlines()
     if status:
@@ -113,7 +113,7 @@ def link(archive: str, to: Path) -> None:
         run("ld.lld", "-m", "elf_x86_64", "-r", "--threads=1", "-o", "tracehost.o", *members)
         run("llvm-objcopy", "--wildcard", "--keep-global-symbol=tracehost_*", "tracehost.o")
         run("llvm-ar", "rcsD", NAMES[0], "tracehost.o")
-        words = f"-m elf_x86_64 -shared -soname {SONAME} --build-id=none --hash-style=gnu"
+        words = f"-m elf_x86_64 -shared -soname {SONAME} --build-id=sha1 --hash-style=gnu"
         words += " -z relro -z now -z noexecstack -z defs --gc-sections --eh-frame-hdr --strip-all --threads=1"
         exported = ["--version-script", f"{TOP}/library/tracehost.map"]
         run("ld.lld", *words.split(), *exported, "-o", NAMES[1], "tracehost.o", f"{tools}/lib/libc.so.6")

@@ -1,7 +1,8 @@
-"""The crates of crates.txt, lowest first."""
+"""The crates of crates.txt, lowest first; and what commands share."""
 
 from __future__ import annotations
 
+import os
 from pathlib import Path
 from typing import NamedTuple
 
@@ -40,3 +41,14 @@ def below(*names: str) -> dict[str, Crate]:
             found.add(name)
             new += crates[name].uses
     return {name: crate for name, crate in crates.items() if name in found}
+
+
+def write_whole(file: Path, content: bytes) -> None:
+    """Under another name first, so that a full disk leaves no half of it."""
+    file.parent.mkdir(parents=True, exist_ok=True)
+    part = file.with_name(f"{file.name}.{os.getpid()}.part")
+    try:
+        part.write_bytes(content)
+        part.replace(file)
+    finally:
+        part.unlink(missing_ok=True)

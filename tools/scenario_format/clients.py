@@ -50,6 +50,11 @@ def command_version(form: Format) -> str:
     return f'VERSION = "{version()}"\n'
 
 
+def package_version(form: Format) -> str:
+    """The version of the client in Python."""
+    return f'__version__ = "{version()}"\n'
+
+
 # ---- the client in C
 
 
