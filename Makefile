@@ -34,7 +34,7 @@ SONAME = libtracehost.so.1
 
 PAGES = tracehost.1 tracehost-view.1 tracehost-perfetto.1
 DATA = schema/scenario.schema.json viewer/src/* viewer/*.py
-DOCUMENTS = LICENSE README.md CHANGELOG.md SECURITY.md docs/*.* docs/internals/* examples/*
+DOCUMENTS = LICENSE THIRD-PARTY.txt README.md CHANGELOG.md SECURITY.md docs/*.* docs/internals/* examples/*
 # of the library
 HEADERS = include/tracehost.h $(patsubst %,include/tracehost%.hpp,_catch2 _explain _gtest _record _test) include/tracehost.hpp
 # the client in C: tracehost_client.c includes the others

@@ -5,6 +5,7 @@ from __future__ import annotations
 import os
 import platform
 import sys
+import tempfile
 from collections.abc import Iterator
 from pathlib import Path
 from typing import TYPE_CHECKING
@@ -19,7 +20,8 @@ sys.dont_write_bytecode = True
 os.environ["PYTHONDONTWRITEBYTECODE"] = "1"
 
 from checking import Checks  # noqa: E402  # once no bytecode is written
-from posix_kit import Posix, shared_folder  # noqa: E402
+from posix_kit import OtherUser, Posix, shared_folder  # noqa: E402
+from row_files import Located, locator  # noqa: E402
 
 if TYPE_CHECKING:
     from _pytest.terminal import TerminalReporter
@@ -65,12 +67,35 @@ def library() -> Path:
     pytest.skip("there is no library: tools/build_library.py builds it")
 
 
+@pytest.fixture(scope="session")
+def located(tmp_path_factory: pytest.TempPathFactory) -> Located:
+    """Finds the file of a scenario by its name."""
+    return locator(tmp_path_factory.mktemp("long_rows"))
+
+
+@pytest.fixture
+def file(request: pytest.FixtureRequest, located: Located) -> Path:
+    """The file of the scenario that a test is for, absolute or from the top of the repository."""
+    return located(request.param)
+
+
 @pytest.fixture(scope="module")
 def posix(program: Path, tmp_path_factory: pytest.TempPathFactory) -> Iterator[Posix]:
     """C programs on the model. They and tracehost-run find the program to test in TRACEHOST."""
     with pytest.MonkeyPatch.context() as patch:
         patch.setenv("TRACEHOST", str(program))
         yield Posix(shared_folder(tmp_path_factory))
+
+
+@pytest.fixture
+def other_user() -> Iterator[OtherUser]:
+    """Another user than this one, which only root may be."""
+    with tempfile.TemporaryDirectory() as folder:
+        Path(folder).chmod(0o755)
+        user = OtherUser(Path(folder))
+        if not user.is_there():
+            pytest.skip("no other user may run the program here")
+        yield user
 
 
 @pytest.fixture

@@ -1,4 +1,4 @@
-"""Runs of the program that tests compare, the row files, and what a test needs."""
+"""Runs of the program that tests compare, and what a test needs."""
 
 from __future__ import annotations
 
@@ -7,7 +7,6 @@ import importlib.util
 import shutil
 import subprocess
 import sys
-from collections.abc import Sequence
 from pathlib import Path
 from typing import Any, NamedTuple
 
@@ -58,27 +57,6 @@ def needs(*commands: str) -> pytest.MarkDecorator:
     """A mark that skips a test if one of these commands isn't installed."""
     missing = [command for command in commands if shutil.which(command) is None]
     return pytest.mark.skipif(bool(missing), reason=f"not installed: {', '.join(missing)}")
-
-
-def scenario_files() -> list[Path]:
-    """All row files and examples, from the top of the repository."""
-    files = [*sorted(TOP.glob("tests/rows/*/*.json")), *sorted(TOP.glob("examples/*.json"))]
-    return [file.relative_to(TOP) for file in files]
-
-
-def accepted_files() -> list[Path]:
-    """Those that the program doesn't refuse."""
-    return [file for file in scenario_files() if not (TOP / file).with_suffix(".status").exists()]
-
-
-def name_of(file: Path) -> str:
-    """What a row file or an example is called: `rows/explain/key_twice`, `examples/first`."""
-    return str(file.with_suffix("")).removeprefix("tests/")
-
-
-def for_each_scenario(files: Sequence[Path]) -> pytest.MarkDecorator:
-    """A mark that runs a test for each of these files, as its argument `file`."""
-    return pytest.mark.parametrize("file", files, ids=name_of)
 
 
 def first_block(page: Path, language: str) -> str:

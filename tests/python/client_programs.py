@@ -9,7 +9,8 @@ from typing import NamedTuple
 
 import pytest
 from c_programs import HEADERS, RACES, VALGRIND, WARNINGS, compiled, output, sanitized, works
-from checking import TOP, accepted_files
+from checking import TOP
+from row_files import Located, plain_files
 
 CLIENT = TOP / "clients/c"
 SOURCE = CLIENT / "tracehost_client.c"
@@ -35,8 +36,7 @@ WAYS = {
     ),
     "in process": Way([*FLAGS, *sanitized(), *IN_PROCESS], [], {"test": ["1"], "threads": ["100"], "explain": []}, in_process=True),
 }
-# the scenarios without options and without a fault
-FILES = [file for file in accepted_files() if not any((TOP / file).with_suffix(end).exists() for end in (".err", ".args"))]
+FILES = plain_files()
 # the examples of the client; others use the library
 EXAMPLES = sorted(path.stem for path in (CLIENT / "examples").glob("*.c") if "tracehost_client.h" in path.read_text())
 # each program of each way
@@ -75,8 +75,8 @@ def programs(library: Path, tmp_path_factory: pytest.TempPathFactory) -> Program
 
 
 @pytest.fixture(scope="session")
-def words(tmp_path_factory: pytest.TempPathFactory) -> Path:
+def words(located: Located, tmp_path_factory: pytest.TempPathFactory) -> Path:
     """A folder with the steps of all scenarios as clients/c/tests/replay.c reads them."""
     folder = tmp_path_factory.mktemp("words")
-    output(sys.executable, TOP / "clients/c/tests/words.py", folder, *FILES)
+    output(sys.executable, TOP / "clients/c/tests/words.py", folder, *map(located, FILES))
     return folder

@@ -17,10 +17,13 @@ import subprocess
 import sys
 import tempfile
 
-import v8_coverage
-from test_posix_programs import variants
-
 TOP = pathlib.Path(__file__).resolve().parents[2]
+sys.path.insert(0, str(TOP / "clients/python"))
+
+import v8_coverage  # noqa: E402  # once the client is found
+from row_files import locator, plain_files  # noqa: E402
+from test_posix_programs import variants  # noqa: E402
+
 BOUNDS = {"python": 95.0, "c": 95.0, "viewer": 90.0, "runtime": 85.0}
 NEEDED = {"python": (), "c": ("gcovr", "cc"), "viewer": ("node", "chromium"), "runtime": ("gcovr", "cc", "c++", "make")}
 SCHEDULES = 2  # of each case, beside the plain one
@@ -80,9 +83,7 @@ def of_c(room: pathlib.Path, program: str, library: str) -> tuple[float, int]:
     client, archive = TOP / "clients/c", pathlib.Path(library).parent / "libtracehost.a"
     flags = ["-std=c11", "--coverage", "-O0", "-g", "-pthread"]
     fake = client / "tests/fake.sh"
-    scenarios = [file for folder in ("tests/rows/*", "examples") for file in TOP.glob(f"{folder}/*.json")
-                 if not (file.with_suffix(".err").exists() or file.with_suffix(".args").exists())]  # fmt: skip
-    names = sorted(str(file.relative_to(TOP)) for file in scenarios)
+    names = [str(file) for file in map(locator(room), plain_files())]
     run(sys.executable, client / "tests/words.py", room, *names)
     for inside in (False, True):
         folder = room / ("inside" if inside else "pipe")

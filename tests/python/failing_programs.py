@@ -34,6 +34,9 @@ class Failing:
         self.name, self._command, self.stem = name, command, stem
         self.environment: Mapping[str, str] = {}
 
+    def command(self, case: str) -> list[str]:
+        return self._command(case, None)
+
     def __call__(
         self, case: str, folder: Path | None, named: str | None = None, room: int = 0, environment: Mapping[str, str] = NONE
     ) -> Ran:
@@ -51,15 +54,15 @@ class Failing:
         return Ran(ran.returncode, ran.stdout.decode(errors="replace"), left)
 
 
-def in_c(room: Path, library: Path, program: Path, way: str) -> Failing:
-    flags: list[Word] = ["-std=c11", *WARNINGS, "-Wconversion", "-g", "-pthread", *sanitized(), "-I", CLIENT]
+def in_c(room: Path, library: Path, program: Path, way: str, *more_flags: str) -> Failing:
+    flags: list[Word] = ["-std=c11", *WARNINGS, "-Wconversion", "-g", "-pthread", *sanitized(), "-I", CLIENT, *more_flags]
     more: list[Word] = [*IN_PROCESS, SOURCE, library / "libtracehost.a"] if way == "in process" else [SOURCE]
     made = compiled(room / f"c-{way.replace(' ', '-')}", *flags, CLIENT / "tests/failing.c", *more)
     return Failing(f"c {way}", lambda case, named: [str(made), str(program), case, *([named] if named else [])], lambda case: case)
 
 
-def in_cpp(room: Path, library: Path) -> Failing:
-    flags: list[Word] = ["-std=c++17", *STRICT, "-g", "-pthread", *sanitized(), *HEADERS]
+def in_cpp(room: Path, library: Path, *more_flags: str) -> Failing:
+    flags: list[Word] = ["-std=c++17", *STRICT, "-g", "-pthread", *sanitized(), *HEADERS, *more_flags]
     made = compiled(room / "cpp", *flags, CPP / "failing.cpp", library / "libtracehost.a", compiler="c++")
     return Failing("cpp", lambda case, named: [str(made), case, *([named] if named else [])], lambda case: case)
 

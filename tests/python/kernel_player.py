@@ -2,14 +2,18 @@
 
 from __future__ import annotations
 
+import ctypes
 import os
 import re
 import shutil
 import subprocess
 from collections.abc import Iterator, Sequence
+from contextlib import contextmanager
 from pathlib import Path
 
+import pytest
 from checking import TOP
+from posix_kit import once, shared_folder
 
 from kernel.sessions.playing import Result
 
@@ -38,6 +42,37 @@ def built(folder: Path, *words: str) -> Path:
     return folder / "tracehost-play"
 
 
+def shared_player(factory: pytest.TempPathFactory) -> Path:
+    """The player that the workers of one run of pytest share."""
+    folder = shared_folder(factory).parent / "player"
+    return once(folder / "tracehost-play", lambda: built(folder))
+
+
+def shared_refusals(factory: pytest.TempPathFactory) -> Path:
+    """Runs a program under a kernel that refuses something."""
+    made = shared_folder(factory).parent / "player" / "refusals"
+    words = ["cc", *STRICT.split(), "-o", str(made), str(Path(__file__).with_name("kernel_refusals.c"))]
+    return once(made, lambda: subprocess.run(words, check=True))
+
+
+STRANGER = 64999
+"""A user of the system without processes."""
+
+
+def as_stranger() -> None:
+    os.setgroups([])
+    os.setresgid(STRANGER, STRANGER, STRANGER)
+    os.setresuid(STRANGER, STRANGER, STRANGER)
+
+
+def opened(program: Path) -> Path:
+    """The program, after it and the folders above it were opened to all users."""
+    for path in [program, *program.parents]:
+        if path.owner() == "root" and path.stat().st_mode & 0o005 != 0o005 and path != Path("/"):
+            path.chmod(path.stat().st_mode | 0o005)
+    return program
+
+
 def results_of(path: Path) -> list[Result]:
     heading, *lines = path.read_text().splitlines()
     assert tuple(heading.split("\t")) == COLUMNS
@@ -63,12 +98,42 @@ def steps_in(text: str) -> int:
     return sum(" -> " in line for line in text.splitlines())
 
 
-def processes_of(program: Path) -> Iterator[int]:
-    """The processes that run this very file, puppets included."""
-    for entry in Path("/proc").iterdir():
-        if entry.name.isdecimal():
-            try:
-                if os.readlink(entry / "exe").startswith(str(program)):
-                    yield int(entry.name)
-            except OSError:
-                pass  # it has ended, or is the kernel's
+@contextmanager
+def orphans() -> Iterator[None]:
+    """Processes whose parent ends become children of this one."""
+    subreaper, prctl = 36, ctypes.CDLL(None).prctl
+    assert prctl(subreaper, 1, 0, 0, 0) == 0
+    try:
+        yield
+    finally:
+        prctl(subreaper, 0, 0, 0, 0)
+
+
+def descendants(pid: int, deep: bool = True) -> Iterator[int]:
+    """The children of a process, and theirs, without zombies. Own zombies are collected."""
+    try:
+        tasks = os.listdir(f"/proc/{pid}/task")
+    except OSError:  # it has ended meanwhile
+        return
+    for task in tasks:
+        for child in map(int, _text(Path(f"/proc/{pid}/task/{task}/children")).split()):
+            if state_of(child) == "Z":
+                if pid == os.getpid():
+                    os.waitpid(child, 0)
+                continue
+            yield child
+            if deep:
+                yield from descendants(child)
+
+
+def state_of(pid: int) -> str:
+    """As ps(1) has it; "" of none."""
+    return _text(Path(f"/proc/{pid}/stat")).rpartition(") ")[2][:1]
+
+
+def _text(file: Path) -> str:
+    """What is in it; "" of a process that has ended."""
+    try:
+        return file.read_text()
+    except OSError:
+        return ""

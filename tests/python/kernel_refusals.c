@@ -1,4 +1,5 @@
-/* Runs a program under a kernel that refuses something: ptrace, private numbers of processes, or ever to answer getppid. */
+/* Runs a program under a kernel that refuses something: ptrace, private numbers of processes, new images of open files, or ever to
+ * answer getppid. */
 #include <errno.h>
 #include <linux/filter.h>
 #include <linux/sched.h>
@@ -20,23 +21,23 @@ static struct sock_filter no_trace[] = {NUMBER, UNLESS(SYS_ptrace, 1), GIVE(SECC
 static struct sock_filter kills_trace[] = {NUMBER, UNLESS(SYS_ptrace, 1), GIVE(SECCOMP_RET_KILL_PROCESS), GIVE(SECCOMP_RET_ALLOW)};
 static struct sock_filter no_numbers[] = {NUMBER, UNLESS(SYS_clone, 3), FLAGS,
     BPF_JUMP(BPF_JMP | BPF_JSET | BPF_K, CLONE_NEWPID, 0, 1), GIVE(SECCOMP_RET_ERRNO | EPERM), GIVE(SECCOMP_RET_ALLOW)};
+static struct sock_filter no_image[] = {NUMBER, UNLESS(SYS_execveat, 1), GIVE(SECCOMP_RET_ERRNO | EAGAIN), GIVE(SECCOMP_RET_ALLOW)};
 static struct sock_filter silent[] = {NUMBER, UNLESS(SYS_getppid, 1), GIVE(SECCOMP_RET_USER_NOTIF), GIVE(SECCOMP_RET_ALLOW)};
 
 static const struct {
     const char *name;
     struct sock_fprog program;
     unsigned flags;
-} kinds[] = {{"no_trace", {4, no_trace}, 0},
-    {"kills_trace", {4, kills_trace}, 0},
-    {"no_numbers", {6, no_numbers}, 0},
-    {"silent", {4, silent}, SECCOMP_FILTER_FLAG_NEW_LISTENER}};
+} kinds[] = {{"no_trace", {4, no_trace}, 0}, {"kills_trace", {4, kills_trace}, 0}, {"no_numbers", {6, no_numbers}, 0},
+    {"no_image", {4, no_image}, 0}, {"silent", {4, silent}, SECCOMP_FILTER_FLAG_NEW_LISTENER}};
 
 int main(int count, char **words)
 {
+    enum { KINDS = sizeof kinds / sizeof *kinds };
     size_t kind = 0;
-    while (kind < 4 && (count < 3 || strcmp(words[1], kinds[kind].name) != 0))
+    while (kind < KINDS && (count < 3 || strcmp(words[1], kinds[kind].name) != 0))
         kind++;
-    if (kind == 4 || prctl(PR_SET_NO_NEW_PRIVS, 1, 0, 0, 0) != 0)
+    if (kind == KINDS || prctl(PR_SET_NO_NEW_PRIVS, 1, 0, 0, 0) != 0)
         return 99;
     long listener = syscall(SYS_seccomp, SECCOMP_SET_MODE_FILTER, kinds[kind].flags, &kinds[kind].program);
     if (listener < 0) {

@@ -7,14 +7,16 @@ compared with their lines, a million if it isn't set.
 from __future__ import annotations
 
 import os
+import platform
 from pathlib import Path
 from typing import NamedTuple
 
 import pytest
-from c_programs import HEADERS, SANITIZERS, VALGRIND, WARNINGS, compiled, works
+from c_programs import HEADERS, SANITIZERS, VALGRIND, WARNINGS, compiled, output, works
 from checking import TOP, run
 
 SOURCES = TOP / "tests/in_process"
+RELEASE = TOP / "release" / f"{platform.machine()}-linux"
 OWN = [*HEADERS, "-I", str(SOURCES)]
 TESTS = ["agree", "by_hand", "codes", "copies", "handles", "lines", "refusals", "rooms", "sessions", "threads", "views"]
 WRAPPED = {"refusals": "-Wl,--wrap=malloc,--wrap=realloc,--wrap=free", "unwind": "-Wl,--wrap=malloc,--wrap=realloc"}
@@ -47,6 +49,22 @@ def is_present(library: Path) -> bool:
     """Whether the library isn't older than its header. A release's is if the header's calls have changed since."""
     data = (library / "libtracehost.so").read_bytes()
     return run(TOP / "tools/version").out.strip().encode() in data and b"tracehost_version" in data
+
+
+def is_without_notes(library: Path) -> bool:
+    """Whether it is the release's of 0.20.0, whose library has no build id and isn't ready for CET."""
+    manifest = library / "MANIFEST"
+    return manifest.exists() and '"version": "0.20.0"' in manifest.read_text(encoding="utf-8")
+
+
+def have_build_ids(*folders: Path) -> dict[str, bool]:
+    """The programs and shared objects in these folders: whether they have one, the library unless it is that of 0.20.0."""
+    files = [path for folder in folders for path in folder.rglob("*") if path.is_file() and not path.is_symlink()]
+    programs = [path for path in files if path.read_bytes().startswith(b"\x7fELF")]
+    old = RELEASE / "libtracehost.so"
+    content = old.read_bytes() if is_without_notes(RELEASE) else b""
+    has = {path.name: "Build ID: " in output("readelf", "-n", path) for path in programs}
+    return has | {path.name: not has[path.name] for path in programs if path.read_bytes() == content}
 
 
 @pytest.fixture(scope="session")

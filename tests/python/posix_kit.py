@@ -6,6 +6,7 @@ import fcntl
 import hashlib
 import os
 import re
+import shutil
 import subprocess
 import sys
 from collections.abc import Callable
@@ -51,6 +52,25 @@ def cases() -> list[str]:
     return [
         f"{source.stem}.{case}" for source in sources for case in re.findall(r"ATF_TP_ADD_TC\(tp, (\w+)\);", source.read_text())
     ]
+
+
+class OtherUser:
+    """A user with no other processes, and a folder that it may read."""
+
+    def __init__(self, room: Path) -> None:
+        self.room = room
+        self._words = ["setpriv", "--reuid=54321", "--regid=54321", "--clear-groups"]
+
+    def is_there(self) -> bool:
+        """Whether this user may be it, and it may run tracehost-run."""
+        if shutil.which("setpriv") is None:
+            return False
+        test = 'test -r "$0" && test -r "${TRACEHOST-$0}" && exec "$1" -c pass'
+        return self.run("sh", "-c", test, RUN, sys.executable).returncode == 0
+
+    def run(self, *words: object) -> Done:
+        """A command with these words."""
+        return Posix.execute(*self._words, *words)
 
 
 class Posix:

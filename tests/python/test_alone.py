@@ -6,7 +6,8 @@ from __future__ import annotations
 import json
 from pathlib import Path
 
-from checking import TOP, Checks, accepted_files, for_each_scenario, run
+from checking import TOP, Checks, run
+from row_files import accepted_files, for_each_scenario
 
 
 def lines_of(program: Path, scenario: object, *options: str) -> str:

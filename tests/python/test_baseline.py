@@ -3,6 +3,7 @@
 from __future__ import annotations
 
 import itertools
+import json
 import os
 import random
 import shutil
@@ -10,14 +11,31 @@ import subprocess
 from pathlib import Path
 
 import cases
+import instructions
 import pytest
 import scenarios
 
 from checking import TOP, Checks
 from fuzz import Fuzz, text_of
+from row_files import Located, scenario_files
 
 SCALE = int(os.environ.get("TRACEHOST_TEST_SCALE", "1"))
-FILES = [*sorted((TOP / "tests/rows").rglob("*.json")), *sorted((TOP / "examples").glob("*.json"))]
+# a step with a value that is none of its key's, whose key comes again; and whether the text is JSON
+REPLACED = {
+    "null": True,
+    '{"a":[1,{}],"b":"\\ud83d\\ude00\\n"}': True,
+    "[" * 124 + "]" * 124: True,
+    "-0.5e-7": True,
+    "99999999999999999999": True,
+    '"a name that is far longer than any other name"': True,
+    "[" * 125 + "]" * 125: False,
+    "1e400": False,
+    "01": False,
+    "[1,]": False,
+    '"\\ud83d"': False,
+    '"\\x"': False,
+    "tru": False,
+}
 
 
 @pytest.fixture(scope="module")
@@ -38,9 +56,9 @@ def agrees(program: Path, baseline: Path, file: Path) -> bool:
     return (got.returncode, got.stdout) == (wanted.returncode, wanted.stdout)
 
 
-def test_row_files_and_examples(program: Path, baseline: Path, checks: Checks) -> None:
-    for file in FILES:
-        checks.check(agrees(program, baseline, file), str(file))
+def test_row_files_and_examples(program: Path, baseline: Path, located: Located, checks: Checks) -> None:
+    for file in scenario_files():
+        checks.check(agrees(program, baseline, TOP / located(file)), str(file))
 
 
 def test_cases(program: Path, baseline: Path, checks: Checks, tmp_path: Path) -> None:
@@ -51,6 +69,47 @@ def test_cases(program: Path, baseline: Path, checks: Checks, tmp_path: Path) ->
             prepared, rounds = make(size)
             scenarios.write([*prepared, *itertools.islice(rounds, 50)], str(file))
             checks.check(agrees(program, baseline, file), f"{name}, {size}")
+
+
+def test_loads(program: Path, baseline: Path, checks: Checks, tmp_path: Path) -> None:
+    """Those of bench/instructions.py; the longest preparation has some 16,000 steps."""
+    file = tmp_path / "scenario.json"
+    for name, load in instructions.LOADS.items():
+        scenarios.write(load(17000), str(file), instructions.SPELLINGS.get(name, scenarios.plain))
+        ended = subprocess.run([baseline, file], capture_output=True)
+        checks.check(ended.returncode == 0 and agrees(program, baseline, file), name)
+
+
+def respelled(value: object) -> object:
+    """The same value with the keys of each object in the opposite order."""
+    if isinstance(value, dict):
+        return {key: respelled(value[key]) for key in reversed(value)}
+    return [respelled(one) for one in value] if isinstance(value, list) else value
+
+
+def test_other_spellings(program: Path, baseline: Path, checks: Checks, tmp_path: Path) -> None:
+    """Examples in which spaces, escapes or the order of keys are not as programs write them: the lines are the same."""
+    file = tmp_path / "scenario.json"
+    for example in sorted((TOP / "examples").glob("*.json")):
+        wanted = subprocess.run([program, example], capture_output=True)
+        value = json.loads(example.read_text())
+        plain = json.dumps(value, separators=(",", ":"))
+        for text in (plain, json.dumps(respelled(value), indent="\t"), scenarios.escaped(0, plain)):
+            file.write_text(text)
+            got = subprocess.run([baseline, file], capture_output=True)
+            same = (got.returncode, got.stdout) == (wanted.returncode, wanted.stdout)
+            checks.check(same, f"{example}: {text[:80]}")
+
+
+@pytest.mark.parametrize(("value", "is_json"), REPLACED.items())
+def test_a_wrong_value(program: Path, baseline: Path, tmp_path: Path, value: str, is_json: bool) -> None:
+    """It counts for nothing, since its key comes again."""
+    file = tmp_path / "scenario.json"
+    file.write_text(f'{{"steps":[{{"op":{value},"user":1001,"op":"spawn"}}]}}')
+    ended = subprocess.run([baseline, file], capture_output=True, text=True)
+    wanted = (0, "1001 1 new 1000 100000\n", "") if is_json else (1, "", "baseline: refused\n")
+    assert (ended.returncode, ended.stdout, ended.stderr) == wanted
+    assert agrees(program, baseline, file)
 
 
 def test_random_scenarios(program: Path, baseline: Path, checks: Checks, tmp_path: Path) -> None:
@@ -72,5 +131,5 @@ def test_what_cannot_be_read(baseline: Path, tmp_path: Path, name: str) -> None:
 
 def test_a_full_device(baseline: Path) -> None:
     with open("/dev/full", "wb") as full:
-        ended = subprocess.run([baseline, FILES[-1]], stdout=full, stderr=subprocess.PIPE, text=True)
+        ended = subprocess.run([baseline, TOP / "examples/first.json"], stdout=full, stderr=subprocess.PIPE, text=True)
     assert (ended.returncode, ended.stderr) == (3, "baseline: cannot write\n")

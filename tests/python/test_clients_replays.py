@@ -10,8 +10,9 @@ from typing import Any, Literal
 
 import pytest
 from c_programs import output
-from checking import TOP, for_each_scenario, needs
+from checking import TOP, needs
 from client_programs import FILES, Programs, programs, words
+from row_files import for_each_scenario
 
 sys.path[:0] = [str(TOP / "clients/python"), str(TOP / "clients/python/tests")]
 

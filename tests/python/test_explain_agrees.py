@@ -15,7 +15,8 @@ from pathlib import Path
 from typing import Any
 
 from changed_steps import changes, shape
-from checking import TOP, Checks, run, scenario_files
+from checking import TOP, Checks, run
+from row_files import Located, scenario_files
 
 # what is said of a mistake of each kind
 KINDS = {
@@ -57,11 +58,11 @@ def trouble_with_first(err: str, told: str) -> str:
     return "" if re.search(KINDS[found[1]], told) else f"{found[1]}, and it tells {told}"
 
 
-def scenarios() -> Iterator[tuple[dict[str, Any], list[Any]]]:
+def scenarios(located: Located) -> Iterator[tuple[dict[str, Any], list[Any]]]:
     """Those that are well formed, each with its steps, without the rows about explanations."""
     for file in scenario_files():
         try:
-            scenario = json.loads((TOP / file).read_bytes())
+            scenario = json.loads((TOP / located(file)).read_bytes())
             steps = list(scenario["steps"])
         except (ValueError, KeyError, TypeError, RecursionError):
             continue
@@ -69,11 +70,11 @@ def scenarios() -> Iterator[tuple[dict[str, Any], list[Any]]]:
             yield scenario, steps
 
 
-def texts() -> list[str]:
+def texts(located: Located) -> list[str]:
     random.seed(1)
     shapes: dict[str, Any] = {}
     made = []
-    for scenario, steps in scenarios():
+    for scenario, steps in scenarios(located):
         for step in steps:
             shapes.setdefault(shape(step), step)
         if len(steps) < 1000:
@@ -93,8 +94,8 @@ def texts() -> list[str]:
     return made
 
 
-def test_texts_with_and_without_the_option(program: Path, checks: Checks) -> None:
-    made = texts()
+def test_texts_with_and_without_the_option(program: Path, located: Located, checks: Checks) -> None:
+    made = texts(located)
     with concurrent.futures.ThreadPoolExecutor(4) as pool:
         for text, told in zip(made, pool.map(lambda text: trouble(program, text), made)):
             checks.check(not told, f"{text[:300]}: {told}")

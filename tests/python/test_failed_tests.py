@@ -6,6 +6,7 @@ A full disk, odd names, two tests of a name, threads, forks, aborts and a missin
 from __future__ import annotations
 
 import os
+import subprocess
 from collections.abc import Callable
 from concurrent.futures import ThreadPoolExecutor
 from pathlib import Path
@@ -73,11 +74,11 @@ def check_record(folder: Path, stem: str, program: Path, steps: int = STEPS) -> 
     assert len((folder / f"{stem}.out").read_text().splitlines()) == steps
 
 
-def check_page(folder: Path, stem: str, test: str, said: str, step: int = STEPS) -> None:
-    """The page shows the test, what was said, and the step."""
+def check_page(folder: Path, stem: str, test: str, said: str, step: int | None = STEPS) -> None:
+    """The page shows the test, what was said, and the step; if that is None, any."""
     failure = page_of(folder / f"{stem}.html")["failure"]
     assert isinstance(failure, dict)
-    assert (failure["test"], failure["step"]) == (test, step)
+    assert failure["test"] == test and step in (failure["step"], None)
     assert said in failure["message"]
 
 
@@ -239,12 +240,38 @@ def test_a_viewer_that_fails(failing: Failing, tmp_path: Path, program: Path) ->
     assert ran.status != 0 and len(ran.left) == 2 and "page:     none" in ran.said
 
 
+@pytest.mark.parametrize("language", ["c", "c that aborts", "cpp"])
+def test_a_viewer_that_hangs(language: str, library: Path, program: Path, tmp_path: Path) -> None:
+    """It is killed after a while, here of a second, and the program goes on."""
+    if language == "cpp":
+        failing = in_cpp(tmp_path, library, "-DTRACEHOST_SECONDS_FOR_A_PAGE=1")
+    else:
+        failing = in_c(tmp_path, library, program, "in process", "-DTH_SECONDS_FOR_A_PAGE=1")
+    viewer = tmp_path / "viewer"
+    viewer.write_text(f"#!/bin/sh\necho $$ > {tmp_path}/number\nexec sleep 1000\n")
+    viewer.chmod(0o700)
+    case = "aborts" if "aborts" in language else "fails"
+    ran = failing(case, tmp_path / "left", environment={"TRACEHOST": str(program), "TRACEHOST_VIEW": str(viewer)})
+    assert ran.status == (-6 if case == "aborts" else 1) and ran.left == files(case)[1:] and "page:     none" in ran.said
+    number = (tmp_path / "number").read_text().strip()
+    shown = run("ps", "-o", "stat=", "-p", number).out  # a zombie if nobody collects orphans here
+    assert not shown or shown.startswith("Z")
+
+
 @languages("c", "cpp")
 def test_a_forked_child_leaves_nothing(failing: Failing, tmp_path: Path) -> None:
     """It fails, and its parent passes."""
     ran = failing("forks", tmp_path)
     assert (ran.status, ran.left) == (0, []), ran.said
     assert "page:" not in ran.said
+
+
+@languages("c", "c over a pipe", "cpp")
+def test_files_that_a_test_closes(failing: Failing, tmp_path: Path) -> None:
+    """Those that it opens then get their numbers, and nothing is written into them; it passes, and the loss is told."""
+    ran = failing("closes_files", tmp_path)
+    assert (ran.status, ran.left) == (0, []), ran.said
+    assert "not recorded from step 1 on: " in ran.said and "Bad file descriptor" in ran.said
 
 
 @languages("c", "cpp", "rust")
@@ -314,11 +341,21 @@ def test_a_check_that_goes_on(failing: Failing, tmp_path: Path, program: Path) -
     check_page(tmp_path, stem, case, "signal_after_step(test)", STEPS)
 
 
+@languages("cpp")
+def test_a_stream_that_throws(failing: Failing, tmp_path: Path, program: Path) -> None:
+    """Standard error is full. The program goes on."""
+    ran = failing("loses_standard_error", tmp_path)
+    assert (ran.status, ran.left) == (0, files("loses_standard_error"))
+    check_record(tmp_path, "loses_standard_error", program)
+
+
 @languages("gtest")
 def test_googletest(failing: Failing, tmp_path: Path) -> None:
     assert failing("debugger.asserts", tmp_path / "1").left == files("debugger.asserts")
     assert failing("debugger.failed_before", tmp_path / "2").left == files("debugger.failed_before")
     assert failing("fixture.*", tmp_path / "3").left == files("fixture.fails")
+    failing("debugger.fails_in_a_thread", tmp_path / "6")
+    check_page(tmp_path / "6", "debugger.fails_in_a_thread", "debugger.fails_in_a_thread", "Expected equality", None)
     dies = failing("debugger.dies", tmp_path / "4")
     assert dies.left == files("debugger.dies"), dies.said
     stems = {file.rsplit(".", 1)[0] for file in failing("all/numbered.*", tmp_path / "5").left}
@@ -349,3 +386,14 @@ def test_a_test_that_returns_an_error(failing: Failing, tmp_path: Path, program:
 def test_a_panic_that_was_there_before(failing: Failing, tmp_path: Path) -> None:
     ran = failing("begins_in_a_panic", tmp_path)
     assert (ran.status, ran.left) == (0, []), ran.said
+
+
+@languages("rust")
+def test_a_full_standard_error(failing: Failing, tmp_path: Path, program: Path) -> None:
+    """What can't be printed doesn't abort the program."""
+    with open("/dev/full", "wb") as full:
+        environment = {**os.environ, **failing.environment, "TRACEHOST_ARTIFACTS": str(tmp_path)}
+        words = [*failing.command("fails"), "--nocapture"]
+        ran = subprocess.run(words, env=environment, stdout=subprocess.PIPE, stderr=full, text=True, timeout=300, check=False)
+    assert ran.returncode == 101 and "test result: FAILED. 0 passed; 1 failed" in ran.stdout
+    check_record(tmp_path, "fails", program)

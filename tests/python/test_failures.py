@@ -328,6 +328,29 @@ class Answered:
         )
 
 
+class Explained:
+    """The ends of a session in which memory was refused and each line is explained: nothing is said of a step, the
+    right reason of another line, or that there is no memory for it."""
+
+    def __init__(self, session: Session, reasons: list[bytes]) -> None:
+        self.answered = Answered(session)
+        self.reasons = reasons
+
+    def __eq__(self, end: object) -> bool:
+        if not isinstance(end, End):
+            return NotImplemented
+        is_cut = end.err.endswith(MEMORY.err)
+        told = end.err.removesuffix(MEMORY.err).splitlines(keepends=True)
+        places = range(1, len(self.reasons) + 1)
+        possible = [(reason, b"  line %d: no memory to explain it\n" % n) for n, reason in zip(places, self.reasons)]
+        # each is said at most once, in the order of the lines
+        left = iter(possible)
+        is_told = all(any(line in pair for pair in left) for line in told)
+        said = [n for n, pair in enumerate(possible) if set(pair) & {*told}]
+        all_said = is_cut or all(n in said or not reason for n, reason in enumerate(self.reasons))
+        return is_told and all_said and self.answered == End(end.status, end.out, MEMORY.err if is_cut else b"")
+
+
 def reply_of(answer: bytes) -> bytes:
     """An answer without the user and the number."""
     return answer if answer.startswith(b"refused") else answer.split(b" ", 2)[2]
@@ -456,6 +479,15 @@ def test_failing_writes(shim: Shim, program: Path, checks: Checks) -> None:
 
 def test_refused_allocations_of_an_explanation(shim: Shim, program: Path, checks: Checks) -> None:
     check_all(checks, shim, refused_explanations(shim, str(program)))
+
+
+def test_refused_allocations_of_explained_lines(shim: Shim, program: Path, checks: Checks) -> None:
+    lines = (b'{"user":1001,"op":"spawn"}\n', b'{"user":1001,"op":"span"}\n', b'{"user":1001,"op":"list","caller":1000}\n')
+    answers = (b"1001 1 new 1000 100000\n", b"refused BadName\n", b"1001 2 pids 1000\n")
+    reasons = [b"", b'  line 2, op: "span" is no op; did you mean "spawn"?\n', b""]
+    session = Session((str(program), "--lines", "--explain"), lines, answers)
+    ends = (Explained(session, reasons),)
+    check_all(checks, shim, refused_allocations(shim, session.command, session.given, ends, CHANCES, 5))
 
 
 def test_refused_allocations_of_a_diff(shim: Shim, program: Path, checks: Checks, tmp_path: Path) -> None:

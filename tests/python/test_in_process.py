@@ -13,7 +13,7 @@ from pathlib import Path
 import pytest
 from c_programs import WARNINGS, compiled, output, reads
 from checking import TOP, needs
-from library_programs import OWN, SOURCES, TESTS, WAYS, Programs, present, programs
+from library_programs import OWN, SOURCES, TESTS, WAYS, Programs, is_without_notes, present, programs
 
 __all__ = ["present", "programs"]  # fixtures
 HEADER = '#include "tracehost.h"\ntracehost h = TRACEHOST_CLOSED;\n'
@@ -65,6 +65,14 @@ def test_the_names_that_it_needs(present: Path, name: str, words: list[str]) -> 
 @needs("objdump")
 def test_its_soname(library: Path) -> None:
     assert re.search("SONAME *libtracehost.so.1$", output("objdump", "-p", library / "libtracehost.so"), re.MULTILINE)
+
+
+@needs("readelf")
+def test_its_notes(library: Path) -> None:
+    """A debugger finds files for it by its build id, and a program linked with it may be ready for CET."""
+    shared, archive = (output("readelf", "-n", library / f"libtracehost.{ending}") for ending in ("so", "a"))
+    has = [bool(re.search("Build ID: [0-9a-f]{40}$", shared, re.MULTILINE)), "IBT, SHSTK" in shared, "IBT, SHSTK" in archive]
+    assert has == [not is_without_notes(library)] * len(has)
 
 
 @pytest.mark.parametrize("name", ["libtracehost.so", "libtracehost.a"])

@@ -19,6 +19,7 @@ import pytest
 from by_chance import scenario
 from checking import TOP
 from library_programs import WAYS, Programs, programs
+from row_files import Located, scenario_files
 
 sys.path[:0] = [str(TOP / "clients/python"), str(TOP / "clients/python/tests")]
 
@@ -48,11 +49,11 @@ def line_of(step: dict[str, Any]) -> bytes:
     return json.dumps(step).encode() + b"\n"
 
 
-def rows() -> Iterator[Session]:
+def rows(located: Located) -> Iterator[Session]:
     """The row files and examples that have steps, as they are: steps that are refused too."""
-    for file in sorted((TOP / "tests/rows").glob("*/*.json")) + sorted((TOP / "examples").glob("*.json")):
+    for file in scenario_files():
         try:
-            made = json.loads(file.read_bytes())
+            made = json.loads((TOP / located(file)).read_bytes())
         except ValueError:
             continue
         if isinstance(made, dict) and isinstance(made.get("steps"), list):
@@ -134,16 +135,16 @@ def named(library: Path, program: Path, monkeypatch: pytest.MonkeyPatch) -> None
     monkeypatch.setenv("TRACEHOST", str(program))
 
 
-def test_the_row_files(lines: Lines) -> None:
-    sessions = list(rows())
+def test_the_row_files(lines: Lines, located: Located) -> None:
+    sessions = list(rows(located))
     assert len(sessions) > 100
     lines.compare(sessions)
 
 
 @pytest.mark.parametrize("way", WAYS)
-def test_the_row_files_by_each_way(programs: Programs, program: Path, way: str) -> None:
+def test_the_row_files_by_each_way(programs: Programs, program: Path, located: Located, way: str) -> None:
     """With the compiler's sanitizers and in valgrind too."""
-    how, sessions = WAYS[way], list(rows())
+    how, sessions = WAYS[way], list(rows(located))
     if how.before and shutil.which(how.before[0]) is None:
         pytest.skip(f"not installed: {how.before[0]}")
     made = answers([*how.before, str(programs("lines", *how.flags))], for_library(sessions))

@@ -226,6 +226,23 @@ def test_python(installed: Installed) -> None:
     assert "2 passed" in place.shell(f"{python} -m pytest -q -p no:cacheprovider test_attach.py", installed.room)
 
 
+@needs("python3", "unshare", "cc", "make")
+def test_python_without_a_network(clone: pathlib.Path, tmp_path: pathlib.Path) -> None:
+    """The same commands, and the runtime's package, on a machine that has only itself."""
+    if subprocess.run(["unshare", "-rn", "true"], stderr=subprocess.DEVNULL).returncode:
+        pytest.skip("this user can't make a network namespace")
+    if subprocess.run(["/usr/bin/python3", "-c", BUILDS], stderr=subprocess.DEVNULL).returncode:
+        pytest.skip("/usr/bin/python3 has no venv, setuptools 61 and wheel")
+    commands = INSTALL.partition("Without a network:\n\n")[2].partition("\n\n")[0]
+    made, installs = (line.strip() for line in commands.splitlines())
+    run(["unshare", "-rn", "sh", "-c", f"{made} && {installs} ./clients/posix"], clone)
+    bin = clone / "env/bin"
+    said = run([bin / "python", "-c", "import tracehost; print(tracehost.Host().transport, tracehost.__version__)"], tmp_path)
+    assert said == f"library {run([clone / 'tools/version'], tmp_path)}"
+    assert run([bin / "tracehost-run", "--version"], tmp_path).startswith("tracehost-run ")
+    shutil.rmtree(clone / "env")
+
+
 @needs("cc", "python3", "pkg-config")
 def test_c_for_freebsd(installed: Installed) -> None:
     """tracehost-cc, tracehost-run, and pkg-config's flags of docs/POSIX.md."""
@@ -324,6 +341,32 @@ executable('client', 'client.c', dependencies: dependency('tracehost-client', al
     assert run(["out/inside"], tmp_path) == "1001 stopped: word 4479\n"
     program = run([clone / "tools/program"], tmp_path).strip()
     assert "1001 stopped: SIGSTOP\n" in run(["out/client", program], tmp_path)
+
+
+@needs("meson", "ninja", "cc", "pkg-config")
+def test_meson_beside_an_installed_library(clone: pathlib.Path, tmp_path: pathlib.Path) -> None:
+    """pkg-config finds the library, and the wrap has the client."""
+    folder = run([clone / "tools/library"], tmp_path).strip()
+    (tmp_path / "tracehost.pc").write_text(
+        f"Name: tracehost\nDescription: installed\nVersion: 7.7\nCflags: -I${{pcfiledir}}\nLibs: -L${{pcfiledir}} -ltracehost\n"
+    )
+    for path in (pathlib.Path(folder, "libtracehost.a"), clone / "include/tracehost.h"):
+        shutil.copy(path, tmp_path)
+    (tmp_path / "subprojects").mkdir()
+    (tmp_path / "subprojects/tracehost").symlink_to(clone)
+    (tmp_path / "subprojects/tracehost.wrap").write_text(block("INSTALL.md", "ini"))
+    (tmp_path / "meson.build").write_text(
+        """project('prog', 'c')
+inside = dependency('tracehost')
+assert(inside.version() == '7.7')
+executable('inside', 'inside.c', dependencies: inside)
+executable('client', 'client.c', dependencies: dependency('tracehost-client'))
+"""
+    )
+    (tmp_path / "inside.c").write_text(block("CLIENTS.md", "c", 1))
+    (tmp_path / "client.c").write_text(block("CLIENTS.md", "c"))
+    run(["sh", "-c", "meson setup out && ninja -C out"], tmp_path, {"PKG_CONFIG_PATH": str(tmp_path)})
+    assert run(["out/inside"], tmp_path) == "1001 stopped: word 4479\n"
 
 
 def test_a_clone_that_cannot_be_written(clone: pathlib.Path, tmp_path: pathlib.Path) -> None:

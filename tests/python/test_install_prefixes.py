@@ -9,13 +9,18 @@ import os
 import re
 import shutil
 import subprocess
+import sys
 from collections.abc import Iterator
 from pathlib import Path
 
 import pytest
 from c_programs import output
 from checking import TOP, needs, run
+from library_programs import have_build_ids
 from stranger import block, copy_with_builds
+
+sys.path.insert(0, str(TOP / "tools"))
+from third_party import parts  # noqa: E402
 
 MACHINE = os.uname().machine
 FIRST = (TOP / "examples/first.out").read_text()
@@ -123,6 +128,20 @@ def test_the_program(installed: Installed) -> None:
     assert installed.run("tracehost", EXAMPLE) == FIRST
 
 
+def test_licenses_go_along(installed: Installed) -> None:
+    """That of others at least in full; Debian's is in the package's file `copyright`."""
+    folder = installed.prefix / "share/doc/tracehost"
+    assert (folder / "THIRD-PARTY.txt").read_bytes() == (TOP / "THIRD-PARTY.txt").read_bytes()
+    is_package = (folder / "copyright").exists()
+    assert is_package or (folder / "LICENSE").read_bytes() == (TOP / "LICENSE").read_bytes()
+
+
+@needs("readelf")
+def test_each_program_has_a_build_id(installed: Installed) -> None:
+    """The broker too, which is compiled here."""
+    assert have_build_ids(installed.prefix) == dict.fromkeys(["tracehost", "tracehost-broker", "libtracehost.so.1"], True)
+
+
 @needs("bash")
 def test_bash_completes(installed: Installed) -> None:
     folder = installed.prefix / "share/bash-completion/completions"
@@ -226,12 +245,64 @@ def test_groff_renders(page: str) -> None:
     output("groff", "-mdoc", "-ww", "-Tutf8", f"man/{page}.1")
 
 
+# ---- CMake, without the library
+
+
+@pytest.fixture(scope="module")
+def without_library(sources: Path, tmp_path_factory: pytest.TempPathFactory) -> Path:
+    room = tmp_path_factory.mktemp("without library")
+    output("make", "install", f"PREFIX={room}", "CC=no-such-compiler", cwd=sources)
+    for library in room.glob("lib/libtracehost.*"):
+        library.unlink()
+    return room
+
+
+@needs("cmake", "cc")
+@pytest.mark.parametrize("words, said", [
+    ("REQUIRED", "there is no {0}/lib/libtracehost.so; COMPONENTS client"),
+    ("", "there is no {0}/lib/libtracehost.so; COMPONENTS client"),
+    ("REQUIRED COMPONENTS library client", "there is no {0}/lib/libtracehost.so; COMPONENTS client"),
+    ("REQUIRED COMPONENTS client other", "no component is called other; there are library and client"),
+    ("REQUIRED COMPONENTS client", "found: 1 TRUE"),
+    ("REQUIRED COMPONENTS client OPTIONAL_COMPONENTS library", "found: 1 TRUE"),
+])  # fmt: skip
+def test_cmake_says_why(without_library: Path, tmp_path: Path, words: str, said: str) -> None:
+    (tmp_path / "CMakeLists.txt").write_text(
+        f"cmake_minimum_required(VERSION 3.12)\nproject(prog C)\nfind_package(tracehost {words})\n"
+        'if(TARGET tracehost::client)\nset(has TRUE)\nendif()\nmessage(STATUS "found: ${tracehost_FOUND} ${has}")\n'
+    )
+    command = ["cmake", f"-S{tmp_path}", f"-B{tmp_path}/out", f"-DCMAKE_PREFIX_PATH={without_library}"]
+    ran = subprocess.run(command, capture_output=True, text=True, check=False)
+    printed = re.sub(r"\s+", " ", ran.stdout + ran.stderr)  # CMake wraps messages
+    assert said.format(without_library) in printed, printed
+    assert (ran.returncode == 0) == ("found: " in printed) and (words == "") == ("found: 0 TRUE" in printed)
+
+
 # ---- the Debian package
 
 
 @needs("lintian")
 def test_lintian(package: Path) -> None:
     output("lintian", "--fail-on", "error", package)
+
+
+def test_the_copyright_of_the_package(debian: DebianRoot) -> None:
+    """Each file that contains the model is also under the terms of others, which are there."""
+    text = (debian.folder / "usr/share/doc/tracehost/copyright").read_text(encoding="utf-8")
+    head, *rest = (dict(re.findall(r"^(\S+): (.*)$", part, re.MULTILINE)) for part in text.split("\n\n"))
+    assert head["Format"] == "https://www.debian.org/doc/packaging-manuals/copyright-format/1.0/"
+    every, ours = (part for part in rest if "Files" in part)
+    assert (every["Files"], every["License"]) == ("*", "BSD-2-Clause")
+    assert ours["License"].split(" and ") == [part["License"] for part in rest if "Files" not in part]
+    folder = f"usr/lib/{MACHINE}-linux-gnu"
+    libraries = {f"{folder}/libtracehost.{ending}" for ending in ("a", "so", "so.1")}
+    contain_it = {"usr/bin/tracehost", *libraries, f"{folder}/tracehost-posix/build/tracehost-broker"}
+    assert set(ours["Files"].split()) == contain_it and all((debian.folder / name).exists() for name in contain_it)
+    for part in parts():
+        assert re.search(rf"^ (.*, )?{part.name}(,|$)", text, re.MULTILINE)
+        assert all(f"\n {line}\n" in text for line in part.copyright)
+    granted = "Permission is hereby granted, free of charge"
+    assert text.count(granted) == (TOP / "THIRD-PARTY.txt").read_text(encoding="utf-8").count(granted) > 5
 
 
 @needs("objdump")

@@ -16,8 +16,9 @@ from typing import Any
 import pytest
 
 from by_chance import scenario
-from checking import TOP, Ended, Word, accepted_files, for_each_scenario, run, scenario_files
+from checking import TOP, Ended, Word, run
 from json_of_lines import MEMBERS, as_json
+from row_files import Located, accepted_files, for_each_scenario, scenario_files
 
 SEEDS = range(60)
 
@@ -97,9 +98,9 @@ def test_the_example_of_the_document(program: Path) -> None:
     assert run(program, "--lines", "--json", given=page[at].split("'")[1]) == Ended(0, page[at + 1].strip() + "\n", "")
 
 
-def test_every_kind_of_reply_is_compared(program: Path) -> None:
+def test_every_kind_of_reply_is_compared(program: Path, located: Located) -> None:
     """Each status and each decision comes in these tests."""
-    texts = [(TOP / file).read_bytes() for file in accepted_files()]
+    texts = [(TOP / located(file)).read_bytes() for file in accepted_files()]
     texts += [json.dumps(scenario(random.Random(seed))).encode() for seed in SEEDS]
     seen: collections.Counter[tuple[str, str]] = collections.Counter()
     for data in texts:

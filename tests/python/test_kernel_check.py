@@ -1,15 +1,11 @@
 """`kernel/check`: the library that logs a program's calls, and `tracehost-check`, which explains such a log by the model.
 
-Logs of recorded runs have an explanation: the record's own turns. Small random logs, and their mutants, are judged by a plain
-search on the second model, `small_logs.py`: verdict and line have to be the same. Programs are logged on this host's kernel.
+Logs of recorded runs have an explanation: the record's own turns. Programs are logged on this host's kernel.
 """
 
 from __future__ import annotations
 
-import contextlib
-import io
 import os
-import random
 import re
 import resource
 import shutil
@@ -18,53 +14,15 @@ import subprocess
 import sys
 from collections.abc import Callable, Sequence
 from pathlib import Path
-from typing import NamedTuple, Optional
+from typing import Optional
 
 import pytest
 
 from checking import TOP, needs
+from log_checker import CHECK, ROOT, Checker, Verdict, recorded
 from posix_kit import RACES, SCALE, Posix, once, shared_folder
-from recorded_logs import log_of, read_record, signal_name
-from small_logs import SENT, Event, small_log, unexplained
-from tracehost_check.command import main
 
-CHECK = TOP / "kernel/check"
 TABLE = "name\tstep\tcondition\tmodel\tkernel\tthen\twhy\twhere\n"
-ROOT = "1/1 0 begins log=1 system=model parent=0 blocked=- ignored=- program=a\n"
-MUTANTS = 300 * SCALE
-
-
-class Verdict(NamedTuple):
-    status: int
-    line: Optional[int]
-    text: str
-
-
-class Checker:
-    """tracehost-check with the library that is tested."""
-
-    def __init__(self, library: Path, folder: Path) -> None:
-        self.environment = {**os.environ, "TRACEHOST_LIBRARY": str(library / "libtracehost.so")}
-        self._file = folder / "log"
-
-    def run(self, *words: object) -> subprocess.CompletedProcess[str]:
-        command = [sys.executable, str(CHECK / "tracehost-check"), *map(str, words)]
-        return subprocess.run(command, env=self.environment, capture_output=True, text=True, timeout=600, check=False)
-
-    def of(self, log: Path, *words: object) -> Verdict:
-        """As `run`, in this process."""
-        with pytest.MonkeyPatch.context() as patch, io.StringIO() as printed:
-            patch.setenv("TRACEHOST_LIBRARY", self.environment["TRACEHOST_LIBRARY"])
-            with contextlib.redirect_stdout(printed), contextlib.redirect_stderr(printed):
-                status = main([*map(str, words), str(log)])
-            text = printed.getvalue()
-        assert "Traceback" not in text, text
-        place = re.search(rf"{re.escape(str(log))}:(\d+): ", text)
-        return Verdict(status, int(place[1]) if place else None, text)
-
-    def of_text(self, text: str | bytes, *words: object) -> Verdict:
-        self._file.write_bytes(text if isinstance(text, bytes) else text.encode())
-        return self.of(self._file, *words)
 
 
 @pytest.fixture
@@ -110,14 +68,6 @@ def logged(
 # ---- logs of recorded runs
 
 
-def recorded(posix: Posix, folder: Path, source: str, *words: str, flags: Sequence[str] = (), seed: int = 0) -> list[str]:
-    program, record = posix.compiled(source, *flags), folder / "run.json"
-    seeds = ["--seed", str(seed)] if seed else []
-    done = posix.run("--record", record, *seeds, program, *words)
-    assert done.returncode in (0, 1), done.stderr
-    return log_of(read_record(record), seed)
-
-
 @needs("cc")
 @pytest.mark.parametrize("race", RACES)
 def test_logs_of_races(posix: Posix, checker: Checker, tmp_path: Path, race: str) -> None:
@@ -140,77 +90,6 @@ def test_log_of_a_truss(posix: Posix, checker: Checker, tmp_path: Path) -> None:
     wrong = [line.replace("flags=PL_FLAG_EXITED", "flags=PL_FLAG_BORN") for line in lines]
     verdict = checker.of_text("\n".join([*wrong, ""]))
     assert (verdict.status, verdict.line) == (1, 1 + next(at for at, line in enumerate(lines) if line != wrong[at]))
-
-
-# ---- small logs and mutants, judged by the second model
-
-
-def text_of(events: Sequence[Event]) -> str:
-    return "".join(f"{event.line()}\n" for event in events)
-
-
-def first_gap(events: Sequence[Event]) -> Optional[int]:
-    """The first line whose number isn't the one that is due."""
-    last: dict[int, int] = {}
-    asking: dict[int, bool] = {}
-    for place, event in enumerate(events, 1):
-        if event.kind == "begins":
-            last[event.pid], asking[event.pid] = 0, False
-            continue
-        is_due = event.pid in last and event.number == last[event.pid] + (event.kind == "asks")
-        if not is_due or asking[event.pid] != (event.kind == "told"):
-            return place
-        last[event.pid], asking[event.pid] = event.number, event.kind == "asks"
-    return None
-
-
-def mutant(events: Sequence[Event], draw: random.Random) -> Optional[list[Event]]:
-    """The log with another errno or status, or without a line, or with a line at another place."""
-    made = list(events)
-    told = [at for at, event in enumerate(made) if event.kind == "told" and event.call[0] != "fork"]
-    statuses = [at for at in told if "status=" in made[at].answer]
-    kind = draw.choice(["errno", "errno", "status", "status", "remove", "move", "move"])
-    if kind == "errno" and told:
-        at = draw.choice(told)
-        answers = ["0", *(f"-1 errno={name}" for name in ("EPERM", "ESRCH", "EBUSY", "EINVAL", "ECHILD"))]
-        made[at] = made[at]._replace(answer=draw.choice([answer for answer in answers if answer != made[at].answer]))
-        return made
-    if kind == "status" and statuses:
-        at = draw.choice(statuses)
-        pid, _, status = made[at].answer.partition(" status=")
-        signals = [signal_name(number) for number in SENT]
-        others = [f"exited:{code}" for code in range(4)] + [f"{how}:{name}" for how in ("stopped", "signaled") for name in signals]
-        made[at] = made[at]._replace(answer=f"{pid} status={draw.choice([o for o in others if o != status])}")
-        return made
-    at = draw.randrange(1, len(made))
-    moved = made.pop(at)
-    if kind == "move":
-        made.insert(max(1, at + draw.choice([-4, -2, -1, 1, 2, 4])), moved)
-    return made if kind in ("move", "remove") else None
-
-
-def wanted(events: Sequence[Event]) -> tuple[int, Optional[int]]:
-    gap = first_gap(events)
-    if gap is not None:
-        return 2, gap
-    place = unexplained(events)
-    return (0, None) if place is None else (1, place)
-
-
-@pytest.mark.parametrize("part", range(10))
-def test_mutants(checker: Checker, part: int) -> None:
-    """The verdict, and the line, are those of a plain search on the second model."""
-    found = {0: 0, 1: 0, 2: 0}
-    for seed in range(part * MUTANTS // 10, (part + 1) * MUTANTS // 10):
-        draw = random.Random(seed)
-        events = small_log(seed, 8)
-        if seed % 5 == 0:
-            assert wanted(events) == (0, None) and checker.of_text(text_of(events)).status == 0, text_of(events)
-        changed = next(made for made in iter(lambda: mutant(events, draw), 0) if made is not None)
-        verdict, right = checker.of_text(text_of(changed)), wanted(changed)
-        assert (verdict.status, verdict.line) == right, f"{right}\n{text_of(changed)}\n{verdict.text}"
-        found[verdict.status] += 1
-    assert all(found.values()), found
 
 
 # ---- what is said
@@ -569,18 +448,6 @@ def test_a_killed_program(logger: Path, tracer: Path, checker: Checker, tmp_path
         assert verdict.status == 0 and (
             "doesn't tell the end of" in verdict.text or " exit code=0" in log.read_text()
         ), verdict.text
-
-
-def test_long_log(checker: Checker) -> None:
-    """The time grows with the lines, and not faster."""
-    one = "".join(
-        f"1/1 {{{n}}} asks {call}\n1/1 {{{n}}} told {answer}\n"
-        for n, (call, answer) in enumerate([("kill pid=1 signal=0", "0"), ("sigaction signal=SIGUSR1 action=catch", "0")])
-    )
-    count = 2500 * SCALE
-    text = ROOT + "".join(one.format(2 * n + 1, 2 * n + 2) for n in range(count))
-    verdict = checker.of_text(text)
-    assert verdict.text.startswith(f"explained, 0 hidden turns, {2 * count} answers"), verdict.text
 
 
 def test_make(tmp_path: Path) -> None:

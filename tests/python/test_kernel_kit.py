@@ -193,8 +193,10 @@ def session_with(room: Room, line: str) -> tuple[Path, str]:
 
 def test_a_difference_is_cut_down(room: Room) -> None:
     """A false answer of the model is found, and its shortest form plays to the same difference."""
-    file, text = session_with(room, r"^kill (\d+) \1 0 -> ok$|^list \d+ -> pids")
-    found = list(re.finditer(r"^(kill (\d+) \2 0 -> ok|list \d+ -> pids.*)$", text, re.MULTILINE))[-1]
+    # before the first request of ptrace(2), so that no listed difference ends the session earlier
+    answered = r"^(kill (\d+) \2 0 -> ok|list \d+ -> pids.*)$"
+    file, text = session_with(room, rf"(?s:\A(?:(?!ptrace ).)*?){answered}")
+    found = list(re.finditer(answered, text.partition("ptrace ")[0], re.MULTILINE))[-1]
     step = found[1].split(" -> ")[0]
     file.write_text(text[: found.start()] + f"{step} -> error ENOMEM 12" + text[found.end() :] + "\n\n")
     room.keep(f"sessions/{file.name}", "sessions/*.txt")

@@ -14,27 +14,36 @@ from pathlib import Path
 
 import pytest
 from checking import TOP, needs
-from kernel_player import EXAMPLE, HEADING, KERNEL, STRICT, Done, built, counts_of, results_of, sessions_in, steps_in, text_of
-from posix_kit import once, shared_folder
+from kernel_player import (
+    EXAMPLE,
+    HEADING,
+    KERNEL,
+    STRICT,
+    Done,
+    as_stranger,
+    built,
+    counts_of,
+    opened,
+    results_of,
+    sessions_in,
+    shared_player,
+    shared_refusals,
+    steps_in,
+    text_of,
+)
 from sessions import sessions_of
 
 SESSIONS = sessions_in(EXAMPLE.read_text())
-STRANGER = 64999
-"""A user of the system without processes."""
 
 
-@pytest.fixture(scope="session")
+@pytest.fixture
 def player(tmp_path_factory: pytest.TempPathFactory) -> Path:
-    folder = shared_folder(tmp_path_factory).parent / "player"
-    return once(folder / "tracehost-play", lambda: built(folder))
+    return shared_player(tmp_path_factory)
 
 
-@pytest.fixture(scope="session")
+@pytest.fixture
 def refusals(tmp_path_factory: pytest.TempPathFactory) -> Path:
-    """Runs a program under a kernel that refuses something."""
-    made = shared_folder(tmp_path_factory).parent / "player" / "refusals"
-    words = ["cc", *STRICT.split(), "-o", made, TOP / "tests/python/kernel_refusals.c"]
-    return once(made, lambda: subprocess.run([str(word) for word in words], check=True))
+    return shared_refusals(tmp_path_factory)
 
 
 def run(*words: object, text: str | None = None, before: Callable[[], None] | None = None) -> Done:
@@ -229,6 +238,26 @@ def test_a_handler_that_the_model_has_not_is_found(player: Path) -> None:
     assert "turn 100000 compute: kernel caught 20, model ok" in done.stdout
 
 
+def test_a_handler_is_listed_by_the_step_that_let_it_run(player: Path, tmp_path: Path) -> None:
+    text = """# A signal that a debugger passes on
+spawn -> new 1000 100000
+spawn -> new 1001 100001
+sigaction 1001 15 catch -> ok
+ptrace 1000 PT_ATTACH 1001 -> ok
+wait4 1000 1001 -> status 1001 4479
+kill 1000 1001 15 -> ok
+ptrace 1000 PT_CONTINUE 1001 -> ok
+turn 100001 compute -> stopped 100001 15 flags=none
+wait4 1000 1001 -> status 1001 3967
+ptrace 1000 PT_CONTINUE 1001 15 -> ok
+"""
+    found = "turn 100001 compute: kernel caught 15, model ok"
+    for step, status in (("ptrace * PT_CONTINUE * 15", 0), ("ptrace * PT_CONTINUE 1001", 1)):
+        known = listed(tmp_path, f"passed\t{step}\t\tok\tcaught 15\tend")
+        done = run(player, "--differences", known, text=text)
+        assert (done.returncode, found in done.stdout) == (status, status == 1), done.stdout
+
+
 def test_a_number_that_doesn_t_rise_by_one_is_found(player: Path) -> None:
     done = run(player, text="# s\nspawn -> new 1000 100000\nspawn -> new 1002 100001\n")
     assert "kernel new 1001 100001, model new 1002 100001" in done.stdout and done.returncode == 1
@@ -265,6 +294,8 @@ def test_a_known_difference_is_followed_or_ends_the_session(player: Path, tmp_pa
         ("target.state=none caller!=target", True),
         ("target=1999 data=0", True),
         ("caller=target", False),
+        ("users=1 tracer.state=none", True),
+        ("users!=1", False),
         ("kill_on_debugger_exit=1", True),
         ("nonsense", False),
     ],
@@ -380,16 +411,6 @@ def test_a_step_that_can_t_be_made_is_no_pass(steps: list[str], why: str, player
     assert row.verdict == "not tried" and row.compared < row.steps and row.kernel.startswith(why)
 
 
-def test_a_full_disk_is_told(player: Path) -> None:
-    for words in (
-        f'"{player}" "{EXAMPLE}" >/dev/full',
-        f'"{player}" --results /dev/full "{EXAMPLE}"',
-        f'"{player}" "{EXAMPLE}" >&-',
-    ):
-        done = run("sh", "-c", words)
-        assert done.returncode == 3 and "cannot write" in done.stderr, words
-
-
 @pytest.mark.parametrize("kind, why", [("no_trace", "error EPERM 1"), ("kills_trace", "the caller's end")])
 def test_a_kernel_that_refuses_ptrace_is_told(kind: str, why: str, refusals: Path, player: Path) -> None:
     done = run(refusals, kind, player, EXAMPLE)
@@ -414,24 +435,9 @@ def test_without_private_numbers(refusals: Path, player: Path) -> None:
 # ---- another user, and what is inherited
 
 
-def as_stranger() -> None:
-    os.setgroups([])
-    os.setresgid(STRANGER, STRANGER, STRANGER)
-    os.setresuid(STRANGER, STRANGER, STRANGER)
-
-
-def as_stranger_with_few_processes() -> None:
-    resource.setrlimit(resource.RLIMIT_NPROC, (2, 2))
-    as_stranger()
-
-
 @pytest.fixture
 def open_player(player: Path) -> Path:
-    """The player, and the folders above it, open to all users."""
-    for path in [player, *player.parents]:
-        if path.owner() == "root" and path.stat().st_mode & 0o005 != 0o005 and path != Path("/"):
-            path.chmod(path.stat().st_mode | 0o005)
-    return player
+    return opened(player)
 
 
 @pytest.mark.skipif(os.geteuid() != 0, reason="only the super-user can become another user")
@@ -441,12 +447,6 @@ def test_another_user_plays_one_user(open_player: Path, refusals: Path) -> None:
     assert agrees(run(refusals, "no_numbers", open_player, text=text, before=as_stranger))
     done = run(open_player, text="# s\nspawn -> new 1000 100000\nkill 1000 1 0 -> error ESRCH 3\n", before=as_stranger)
     assert done.returncode == 3 and "not tried, process 1 is the player, of the same user: 1" in done.stdout
-
-
-@pytest.mark.skipif(os.geteuid() != 0, reason="only the super-user can become another user")
-def test_too_few_processes_are_told(open_player: Path) -> None:
-    done = run(open_player, text=EXAMPLE.read_text(), before=as_stranger_with_few_processes)
-    assert done.returncode == 3 and "the host refuses a new process" in done.stderr
 
 
 def ignore_all() -> None:

@@ -13,7 +13,8 @@ from pathlib import Path
 
 import pytest
 from by_chance import scenario
-from checking import TOP, accepted_files, for_each_scenario, run
+from checking import TOP, run
+from row_files import accepted_files, for_each_scenario
 from session_ways import Tools, line_answer, opened
 from steps_of_scenario import Object, asked
 from tracehost.blocking import Progress

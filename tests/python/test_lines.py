@@ -16,7 +16,8 @@ from typing import IO, Any
 
 import pytest
 
-from checking import TOP, Word, accepted_files, for_each_scenario, needs
+from checking import TOP, Word, needs
+from row_files import accepted_files, for_each_scenario
 
 SPAWN = b'{"user":1001,"op":"spawn"}'
 MOST_BYTES = 65536

@@ -20,8 +20,9 @@ import pytest
 
 import damage
 from by_chance import scenario
-from checking import TOP, accepted_files, for_each_scenario, load_script
+from checking import TOP, load_script
 from perfetto_tables import Tables
+from row_files import accepted_files, for_each_scenario
 
 jsonschema = pytest.importorskip("jsonschema")
 Event = dict[str, Any]

@@ -15,7 +15,11 @@ from pathlib import Path
 
 import pytest
 from checking import TOP, first_block
+from library_programs import have_build_ids
 from stranger import NONE, PATH, copy_with_builds, needs, run
+
+sys.path.insert(0, str(TOP / "tools"))
+from third_party import license_of_all  # noqa: E402
 
 VERSION = subprocess.run([TOP / "tools/version"], stdout=subprocess.PIPE, text=True, check=True).stdout.strip()
 OFFLINE = "--no-build-isolation --no-index"
@@ -66,9 +70,18 @@ def test_the_package_has_the_license() -> None:
     assert (TOP / "LICENSE").read_bytes() == (TOP / "clients/python/LICENSE").read_bytes()
 
 
+def test_what_is_installed_has_both_licenses(installed: Environment) -> None:
+    (folder,) = installed.package.parent.glob("tracehost-*.dist-info")
+    for name in ("LICENSE", "THIRD-PARTY.txt"):
+        (found,) = folder.rglob(name)
+        assert found.read_bytes() == (TOP / name).read_bytes()
+    assert f"\nLicense: {license_of_all()}\n" in (folder / "METADATA").read_text(encoding="utf-8")
+
+
 def test_the_version(installed: Environment) -> None:
     listed = run([installed.bin / "pip", "list"], installed.room)
     assert re.search(rf"^tracehost +{re.escape(VERSION)}$", listed, re.MULTILINE)
+    assert installed.python("-c", "import tracehost; print(tracehost.__version__)") == f"{VERSION}\n"
 
 
 def test_the_command(installed: Environment) -> None:
@@ -200,6 +213,20 @@ def test_a_race_by_the_runtime_of_a_wheel(with_runtime: Environment, tmp_path: P
     assert Path(f"{record}.html").read_text(encoding="utf-8").rstrip().endswith("</html>")
     assert run([commands / "tracehost", "--expect", f"{record}.lines", record], tmp_path) == ""
     assert "goes as recorded" in run([commands / "tracehost-run", "--replay", record, made], tmp_path, status=1)
+
+
+def test_the_runtime_has_both_licenses(with_runtime: Environment) -> None:
+    """Its broker contains the library."""
+    for name in ("LICENSE", "THIRD-PARTY.txt"):
+        assert (with_runtime.package.parent / "tracehost_runtime" / name).read_bytes() == (TOP / name).read_bytes()
+    (metadata,) = with_runtime.package.parent.glob("tracehost_posix-*.dist-info/METADATA")
+    assert f"\nLicense: {license_of_all()}\n" in metadata.read_text(encoding="utf-8")
+
+
+@needs("cc", "make", "readelf")
+def test_each_program_of_a_wheel_has_a_build_id(with_runtime: Environment) -> None:
+    packages = with_runtime.package, with_runtime.package.parent / "tracehost_runtime"
+    assert have_build_ids(*packages) == dict.fromkeys(["tracehost", "tracehost-broker", "libtracehost.so"], True)
 
 
 @needs("cc", "make")

@@ -2,11 +2,13 @@
 
 from __future__ import annotations
 
+import re
 import sys
 from pathlib import Path
 
 import pytest
 from checking import TOP, needs
+from library_programs import is_without_notes
 from posix_kit import POSIX, RACES, Posix
 
 SOURCES = [
@@ -19,6 +21,37 @@ def test_the_runtime_and_the_broker_have_no_warning(posix: Posix, tmp_path: Path
     done = posix.execute("make", "-s", "-C", POSIX, f"build={tmp_path}", "WERROR=-Werror")
     assert (done.returncode, done.stderr) == (0, "")
     assert (tmp_path / "libtracehost-posix.a").exists() and (tmp_path / "tracehost-broker").exists()
+
+
+@needs("readelf", "nm")
+def test_what_is_built_is_hardened(posix: Posix, tmp_path: Path) -> None:
+    """Canaries and checked functions are in both parts; the broker's tables can't be written, and each object is ready for CET."""
+    assert posix.execute("make", "-s", "-C", POSIX, f"build={tmp_path}").returncode == 0
+    broker = tmp_path / "tracehost-broker"
+    dynamic = posix.execute("readelf", "-Wdl", broker).stdout
+    assert "BIND_NOW" in dynamic and " PIE" in dynamic and "GNU_RELRO" in dynamic
+    assert "RWE" not in dynamic
+    assert re.search("Build ID: [0-9a-f]{40}$", posix.execute("readelf", "-n", broker).stdout, re.MULTILINE)
+    for file in (broker, tmp_path / "libtracehost-posix.a"):
+        undefined = posix.execute("nm", "-u", file).stdout
+        assert "__stack_chk_fail" in undefined and "__snprintf_chk" in undefined, file
+    objects = [path for path in sorted(tmp_path.glob("*.o")) if path.stem not in ("entry", "by_name")]  # these are assembly
+    assert len(objects) > 25
+    for path in objects:
+        assert "IBT, SHSTK" in posix.execute("readelf", "-n", path).stdout, path
+
+
+@needs("readelf")
+def test_all_of_the_broker_is_ready_for_cet(posix: Posix, library: Path, tmp_path: Path) -> None:
+    """The linker reports what isn't. It may be the C library's start, as Debian's is not; then the broker isn't marked either."""
+    archive = library / "libtracehost.a"
+    words = [f"build={tmp_path}", f"LIBTRACEHOST={archive}", "CFLAGS=-O2 -Wl,-z,cet-report=warning"]
+    done = posix.execute("make", "-s", "-C", POSIX, *words, str(tmp_path / "tracehost-broker"))
+    assert done.returncode == 0
+    found = set(re.findall(r"(\S+): warning: missing", done.stderr))
+    of_c = {file for file in found if re.fullmatch(r"S?crt[1in]\.o|libc_nonshared\.a", Path(file.partition("(")[0]).name)}
+    assert found - of_c == ({f"{archive}(tracehost.o)"} if is_without_notes(library) else set())
+    assert ("IBT, SHSTK" in posix.execute("readelf", "-n", tmp_path / "tracehost-broker").stdout) == (not found)
 
 
 @pytest.mark.parametrize("staged", [False, True])

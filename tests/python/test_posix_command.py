@@ -374,7 +374,7 @@ def test_a_signal_has_its_name_and_place(folder: pathlib.Path) -> None:
 
 def test_a_loop_has_its_place(folder: pathlib.Path) -> None:
     done = run(RUN, "--limit", 2000, folder / "odd", "loops")
-    assert done.returncode == 1 and "no end after 2000 questions" in done.stderr
+    assert done.returncode == 1 and "no end after 2000 questions (--limit)" in done.stderr
     assert re.search(rf"1000/100000 in getppid at .*:{line_of('getppid();', ODD)}; 200 of the last 200", done.stderr), done.stderr
 
 

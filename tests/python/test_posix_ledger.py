@@ -7,13 +7,15 @@ from __future__ import annotations
 
 import json
 import os
+import random
+import re
 import resource
 import signal
 import subprocess
 import sys
 import time
 from collections import Counter
-from collections.abc import Iterator, Sequence
+from collections.abc import Callable, Iterator, Sequence
 from pathlib import Path
 
 import pytest
@@ -23,9 +25,11 @@ sys.path[:0] = [str(POSIX), str(POSIX.parent / "python")]
 
 from tracehost_posix import pool, tally  # noqa: E402
 from tracehost_posix.broker import Broker, find  # noqa: E402
+from tracehost_posix.ledger import block_of  # noqa: E402
 from tracehost_posix.outcome import Result  # noqa: E402
 from tracehost_posix.setting import ALL_POINTS, Died, Setting, Task  # noqa: E402
 
+SCALE = int(os.environ.get("TRACEHOST_TEST_SCALE", "1"))
 SEEDS = 700
 """Two whole blocks and two parts."""
 SEARCH = ["--seeds", f"100..{99 + SEEDS}", "--keep-going", "--json"]
@@ -127,7 +131,7 @@ def test_killed_again_and_again_it_comes_to_the_same(posix: Posix, whole: Whole,
     whole.check(posix.run(*whole.words(ledger)), ledger)
 
 
-CUTS = ["nothing", "half the head", "the head without its end", "the head", "half a block", "a block", "half the last", "damaged"]
+CUTS = ["nothing", "half the head", "the head without its end", "the head", "half a block", "a block", "half the last"]
 
 
 @pytest.mark.parametrize("cut", CUTS)
@@ -135,9 +139,57 @@ def test_what_was_cut_is_made_again(posix: Posix, whole: Whole, tmp_path: Path, 
     head, first, *_, last = whole.lines
     ledger = tmp_path / "ledger"
     texts = [b"", head[:50], head[:-1], head, head + first[:99], head + first, whole.text[: -len(last) // 2]]
-    texts.append(head + first.replace(b'"new": "1', b'"new": "x') + b"".join(whole.lines[2:]))
     ledger.write_bytes(texts[CUTS.index(cut)])
     whole.check(posix.run(*whole.words(ledger)), ledger)
+
+
+def checked(line: bytes, old: str, new: str) -> bytes:
+    """The line with another text in it, which is there once, or with another value of a member."""
+    text, count = re.subn(old, new, line.decode())
+    assert count == 1
+    return text.encode()
+
+
+DAMAGES: dict[str, tuple[int, Callable[[bytes], bytes]]] = {
+    "a figure that is none": (1, lambda line: checked(line, '"new": "1', '"new": "x')),
+    "no failures": (1, lambda line: checked(line, r'"failures": \{.*?\}', '"failures": {}')),
+    "a run that isn't new": (2, lambda line: checked(line, '"new": "1', '"new": "0')),
+    "one question more": (2, lambda line: checked(line, r'("sums": \[\d+, )', r"\g<1>1")),
+    "another digest": (3, lambda line: checked(line, r'("digest": )"..', r'\g<1>"zz')),
+    "another checksum": (3, lambda line: checked(line, r'("check": )"..', r'\g<1>"zz')),
+    "no checksum": (3, lambda line: checked(line, ', "check": ".*"', "")),
+    "white space": (1, lambda line: line.replace(b"{", b"{ ", 1)),
+    "a line that is gone": (2, lambda line: b""),
+    "a line twice": (3, lambda line: line + line),
+    "no line feed": (1, lambda line: line[:-1] + b" "),
+    "bytes that are no text": (4, lambda line: b"\xff" + line[1:]),
+}
+
+
+@pytest.mark.parametrize("damage", DAMAGES)
+def test_a_damaged_line_is_run_again_and_said(posix: Posix, whole: Whole, tmp_path: Path, damage: str) -> None:
+    at, change = DAMAGES[damage]
+    ledger, lines = tmp_path / "ledger", list(whole.lines)
+    lines[at] = change(lines[at])
+    ledger.write_bytes(b"".join(lines))
+    done = posix.run(*whole.words(ledger))
+    wrong = at + 1 + (damage == "a line twice")
+    first = [100, 256, 512, 768, 800][wrong - 2]
+    said = f"tracehost-run: --ledger: {ledger}: line {wrong} is damaged: seeds are run again from {first} on\n"
+    assert done.stderr.startswith(said), done.stderr
+    done.stderr = done.stderr.removeprefix(said)
+    whole.check(done, ledger)
+
+
+def test_no_changed_byte_of_a_line_is_believed(whole: Whole) -> None:
+    line = whole.lines[3].decode().rstrip("\n")
+    dice = random.Random(65)
+    assert block_of(line, 512).line() == line
+    for at in range(0, len(line), max(1, len(line) // (400 * SCALE))):
+        for changed in (line[:at] + line[at + 1 :], line[:at] + dice.choice('01"{}[],: ae') + line[at + 1 :]):
+            if changed != line:
+                with pytest.raises(ValueError):
+                    block_of(changed, 512)
 
 
 def test_a_full_disk_ends_it_with_status_3(posix: Posix, whole: Whole, tmp_path: Path) -> None:

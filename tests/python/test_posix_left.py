@@ -1,10 +1,11 @@
 """Nothing is left of a run, whatever ends it: no process, and no file.
 
-TRACEHOST_TEST_SCALE multiplies how often tracehost-run is ended by a signal; 20 are 220 times.
+TRACEHOST_TEST_SCALE multiplies how often a run is ended by a signal; 20 are 400 times.
 """
 
 from __future__ import annotations
 
+import os
 import random
 import re
 import shutil
@@ -12,6 +13,7 @@ import signal
 import subprocess
 import sys
 import time
+from contextlib import suppress
 from pathlib import Path
 
 import pytest
@@ -37,12 +39,17 @@ class Odd:
         )
         return [*found.stdout.splitlines(), *map(str, self.temporary.iterdir())]
 
-    def left_in_time(self) -> list[str]:
-        """What is left of it after five seconds."""
-        end = time.monotonic() + 5
+    def left_in_time(self, seconds: float = 5) -> list[str]:
+        """What is left of it after so many seconds."""
+        end = time.monotonic() + seconds
         while (left := self.left()) and time.monotonic() < end:
             time.sleep(0.1)
         return left
+
+    def processes(self) -> list[int]:
+        """Of a run: the broker, then the server, and then its children."""
+        found = subprocess.run(["pgrep", "-f", re.escape(str(self.program))], stdout=subprocess.PIPE, text=True, check=False)
+        return sorted(map(int, found.stdout.split()))
 
 
 @pytest.fixture
@@ -73,6 +80,9 @@ ENDS = [
     ("TERM", "closes", "--jobs 3 --schedules 100000 --strategy pct"),
     ("INT", "spins", "--jobs 3 --preemptions 2"),
     ("INT", "hangs", "--jobs 2 --schedules 100000 --verify"),
+    ("KILL", "asks", "--jobs 1"),
+    ("KILL", "asks", "--jobs 2 --schedules 100000"),
+    ("INT", "asks", "--jobs 1"),
 ]
 
 
@@ -98,3 +108,52 @@ def test_a_signal_ends_all(odd: Odd, name: str, word: str, options: str) -> None
             runner.wait(15)
         assert runner.returncode != 0
         assert not odd.left_in_time()
+
+
+WAYS: list[list[str]] = [
+    [],
+    ["--schedules", "50"],
+    ["--jobs", "2", "--schedules", "50"],
+    ["--jobs", "2", "--schedules", "50", "--verify"],
+    ["--strategy", "pct", "--schedules", "20"],
+    ["--preemptions", "1", "--schedules", "30"],
+]
+
+
+def test_what_sleeps_in_the_host_ends_if_broker_and_server_are_killed_together(odd: Odd) -> None:
+    """One of its processes waits for a lock that another one has, and looks at nothing else."""
+    words = [sys.executable, str(RUN), "--patience", "1000", str(odd.program), "hangs"]
+    with subprocess.Popen(words, stdin=subprocess.DEVNULL, stdout=subprocess.DEVNULL, stderr=subprocess.DEVNULL) as runner:
+        end = time.monotonic() + 60
+        while len(odd.processes()) < 8 and time.monotonic() < end:  # five of the program, its server, the broker, the command
+            time.sleep(0.05)
+        _, broker, server = odd.processes()[:3]
+        os.kill(broker, signal.SIGSTOP)  # neither sees the other's end
+        os.kill(server, signal.SIGKILL)
+        os.kill(broker, signal.SIGKILL)
+        runner.wait(60)
+    assert not odd.left_in_time(30)
+
+
+@pytest.mark.parametrize("number", range(6 * SCALE))
+def test_nothing_is_left_of_a_kill_at_any_moment(posix: Posix, odd: Odd, number: int) -> None:
+    """Of tracehost-run, of any of its processes, or of all. If tracehost-run goes on it ends by a signal then."""
+    chance = random.Random(number)
+    word = chance.choice(["asks", "spins", "closes", "forks", "hangs", "deadlock", "prints"])
+    words = [sys.executable, str(RUN), "--limit", "1000000", *chance.choice(WAYS), str(odd.program), word]
+    with subprocess.Popen(
+        words, stdin=subprocess.DEVNULL, stdout=subprocess.DEVNULL, stderr=subprocess.DEVNULL, start_new_session=True
+    ) as runner:
+        time.sleep(chance.uniform(0, 1))
+        whom = chance.choice(["runner", "any", "group"])
+        if whom == "group":
+            os.killpg(runner.pid, signal.SIGKILL)
+        else:
+            victims = [runner.pid] if whom == "runner" else [*odd.processes(), runner.pid]
+            with suppress(ProcessLookupError):
+                os.kill(chance.choice(victims), signal.SIGKILL)
+        if whom == "any":
+            time.sleep(chance.uniform(0, 0.3))
+            runner.terminate()
+        runner.wait(60)
+    assert not odd.left_in_time(30), (word, whom, words)

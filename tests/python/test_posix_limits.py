@@ -27,3 +27,16 @@ def test_too_many_handlers_within_handlers_are_told(tmp_path: pathlib.Path) -> N
     done = run(POSIX / "tests" / "programs" / "nested_handlers.c", ["-DLEVELS=30000"], ["--limit", "1000000"], tmp_path)
     assert (done.stdout, done.returncode) == ("", 3)
     assert "so many handlers run within handlers that the runtime's stack for them is used up" in done.stderr
+
+
+@pytest.mark.parametrize("options", [[], ["--calls"], ["--seed", "7"]], ids=" ".join)
+def test_a_timer_that_rings_for_nobody_ends_the_run(options: list[str], tmp_path: pathlib.Path) -> None:
+    """All wait, and no ring of it wakes anybody: natively the program goes on for ever too."""
+    (tmp_path / "rings.c").write_text(
+        "#include <signal.h>\n#include <sys/time.h>\n#include <unistd.h>\n"
+        "int main(void) { struct itimerval often = {{0, 1}, {0, 1}}; signal(SIGALRM, SIG_IGN);\n"
+        "setitimer(ITIMER_REAL, &often, 0); pause(); return 0; }\n"
+    )
+    done = run(tmp_path / "rings.c", [], ["--limit", "3000", *options], tmp_path)
+    assert (done.stdout, done.returncode) == ("", 1)
+    assert "no end: a timer of process 1000 rings, and 3000 rings have ended nothing" in done.stderr

@@ -170,7 +170,10 @@ def test_machines_that_die_are_slow_or_are_others(posix: Posix, machines: Machin
         remote.await_lines(search, kept + 1)
         killed.kill()
         out, errors = search.communicate()
-        assert (search.returncode, out, errors) == (1, here.stdout, here.stderr)
+        first, _, rest = errors.partition("\n")
+        assert (search.returncode, out, rest) == (1, here.stdout, here.stderr)
+        warning = "whoever reaches this scheduler can run anything on its workers; tls:// asks for a certificate"
+        assert first == f"tracehost-run: --workers: {remote.cluster.address}: {warning}"
         assert remote.ledger.read_bytes() == (tmp_path / "here").read_bytes()
         for name in ("quick", "slow"):
             assert times_of(tmp_path, name)

@@ -13,6 +13,7 @@ import re
 import shutil
 import subprocess
 import sys
+from collections.abc import Iterator
 
 import pytest
 from posix_kit import POSIX, RUN, Posix
@@ -38,6 +39,16 @@ ALL = [pytest.param(program, flags, id=" ".join([program.stem, *flags])) for pro
 def compilers(program: pathlib.Path) -> list[str]:
     names = ["cc", "clang"] if program.suffix == ".c" else ["g++", "clang++"]
     return [name for name in names if shutil.which(name)]
+
+
+@pytest.fixture(autouse=True)
+def temporary(tmp_path: pathlib.Path, monkeypatch: pytest.MonkeyPatch) -> Iterator[None]:
+    """A program leaves no file."""
+    folder = tmp_path / "temporary"
+    folder.mkdir()
+    monkeypatch.setenv("TMPDIR", str(folder))
+    yield
+    assert not list(folder.iterdir())
 
 
 def run(words: list[object]) -> subprocess.CompletedProcess[str]:

@@ -5,6 +5,7 @@ A worker that is killed, and one with another model.
 
 from __future__ import annotations
 
+import json
 import os
 import shutil
 import signal
@@ -21,6 +22,9 @@ from posix_kit import POSIX, RUN, Posix
 sys.path[:0] = [str(POSIX), str(POSIX.parent / "python")]
 
 from tracehost_posix import farm  # noqa: E402
+from tracehost_posix.ledger import Block  # noqa: E402
+from tracehost_posix.outcome import Result  # noqa: E402
+from tracehost_posix.setting import Broken, Refused  # noqa: E402
 
 __all__ = ["cluster"]  # a fixture
 pytestmark = needs_dask
@@ -82,6 +86,71 @@ def test_400_cores_have_work_and_few_shares_wait_for_the_first() -> None:
     assert next(answers) == (0, None) and client.most == farm.FIRST
     del answers  # ends it
     assert client.out == 0
+
+
+@pytest.mark.parametrize("address, is_open", [
+    ("tcp://10.0.0.1:8786", True),
+    ("10.0.0.1:8786", True),
+    ("node7:8786", True),
+    ("ws://node7:8786", True),
+    ("tcp://[fd00::2]:8786", True),
+    ("tcp://127.0.0.1.example:1", True),
+    ("tcp://127.0.0.1:8786", False),
+    ("127.0.1.1:8786", False),
+    ("tcp://[::1]:8786", False),
+    ("tcp://localhost:8786", False),
+    ("tls://10.0.0.1:8786", False),
+    ("wss://node7:8786", False),
+])  # fmt: skip
+def test_which_schedulers_are_open_to_others(address: str, is_open: bool) -> None:
+    """test_posix_machines has a search that says so."""
+    assert farm.open_to_others(address) == is_open
+
+
+def share_of(first: int, count: int) -> tuple[range, str]:
+    """Seeds, and the line of a ledger that tells them."""
+    block = Block(first)
+    for seed in range(first, first + count):
+        block.add(seed, Result(None, 2, 2, 2, "", "", 0, 0, 0), seed == first)
+    return range(first, first + count), block.line()
+
+
+IDENTITY = {"program": "1", "seeds": [1, 9]}
+
+
+def answer_of(text: str, seeds: range) -> list[Block]:
+    order = farm.Order("program", [], [], dict(IDENTITY), True)
+    return list(farm._answer(order, seeds, farm.Said("node7", 0, "", text)))
+
+
+def test_a_worker_s_answer() -> None:
+    seeds, line = share_of(256, 256)
+    (block,) = answer_of(f"{json.dumps(IDENTITY)}\n{line}\n", seeds)
+    assert block.line() == line
+
+
+def test_a_worker_s_damaged_answer_is_told() -> None:
+    """As what has failed, with the worker's name."""
+    seeds, line = share_of(256, 256)
+    head = json.dumps(IDENTITY)
+    changed = line.replace("[256, 512, 512, ", "[256, 512, 513, ")
+    assert changed != line
+    texts = [
+        "[]",
+        "null",
+        "x",
+        "\n\n",
+        "[" * 100000,
+        f"{head}\n{changed}\n",
+        f"{head}\nnull\n",
+        f"{head}\n\n",
+        f"{head}\n{line[:-9]}\n",
+    ]
+    for text in texts:
+        with pytest.raises(Broken, match="^--workers: node7: its ledger is damaged$"):
+            answer_of(text, seeds)
+    with pytest.raises(Refused, match="node7: another program: null there"):
+        answer_of("{}\n", seeds)
 
 
 def test_dask_logs_nothing(cluster: Cluster, monkeypatch: pytest.MonkeyPatch) -> None:

@@ -14,21 +14,27 @@ from pathlib import Path
 
 import pytest
 
-from checking import TOP, scenario_files
+from checking import TOP
 from fuzz_texts import hostile
 from mistakes import read_mistakes
+from row_files import Located, scenario_files
 
 READINGS = TOP / "crates/test_scenarios/out/test_scenarios"
-ROWS = [TOP / file for file in scenario_files()]
 HOSTILE = 5_000
 pytestmark = pytest.mark.skipif(
     not os.access(READINGS, os.X_OK), reason="the program test_scenarios is not built: the gate builds it"
 )
 
 
-def texts_of_tests() -> Iterator[bytes]:
+@pytest.fixture(scope="module")
+def rows(located: Located) -> list[Path]:
+    """The row files and examples."""
+    return [TOP / located(file) for file in scenario_files()]
+
+
+def texts_of_tests(rows: list[Path]) -> Iterator[bytes]:
     """Each row file and each of its lines, and the inputs of the mistakes."""
-    for path in ROWS:
+    for path in rows:
         text = path.read_bytes()
         yield text
         yield from text.splitlines()
@@ -45,9 +51,9 @@ def value_of(path: Path) -> object:
     return value
 
 
-def hostile_texts(chance: random.Random) -> Iterator[bytes]:
+def hostile_texts(rows: list[Path], chance: random.Random) -> Iterator[bytes]:
     """Faulty texts, made of the smaller scenarios of the row files."""
-    scenarios = [value for path in ROWS if path.stat().st_size < 4000 and isinstance(value := value_of(path), dict)]
+    scenarios = [value for path in rows if path.stat().st_size < 4000 and isinstance(value := value_of(path), dict)]
     for _ in range(HOSTILE):
         yield hostile(chance, chance.choice(scenarios))
 
@@ -64,14 +70,14 @@ def check_alike(texts: list[bytes]) -> None:
     assert done.returncode == 0
 
 
-def test_the_texts_of_tests() -> None:
-    texts = list(texts_of_tests())
+def test_the_texts_of_tests(rows: list[Path]) -> None:
+    texts = list(texts_of_tests(rows))
     assert len(texts) > 1000
     check_alike(texts)
 
 
-def test_hostile_texts() -> None:
-    check_alike(list(hostile_texts(random.Random(44))))
+def test_hostile_texts(rows: list[Path]) -> None:
+    check_alike(list(hostile_texts(rows, random.Random(44))))
 
 
 def test_an_input_that_is_cut_off_is_no_success() -> None:

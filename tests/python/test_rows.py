@@ -1,4 +1,4 @@
-"""Each row file, tests/rows/*/NAME.json and examples/NAME.json: the program prints NAME.out.
+"""Each row file, tests/rows/*/NAME.json and examples/NAME.json: the program prints NAME.out. long_rows.py makes some of them.
 
 If they exist, NAME.err is standard error, else it is empty. NAME.args contains the words before the file, a word a line,
 and NAME.status the exit status, else it is 0.
@@ -8,7 +8,8 @@ from __future__ import annotations
 
 from pathlib import Path
 
-from checking import TOP, answers, for_each_scenario, scenario_files
+from checking import TOP, answers
+from row_files import for_each_scenario, scenario_files
 
 
 def text_beside(file: Path, ending: str) -> str:

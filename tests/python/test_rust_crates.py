@@ -33,8 +33,11 @@ def test_the_version(cargo: Cargo) -> None:
         assert set(re.findall(r'^version = "(.*)"', (cargo.crate / file).read_text(), re.MULTILINE)) == {version}
 
 
-def test_it_has_the_license(cargo: Cargo) -> None:
-    assert (cargo.crate / "LICENSE").read_bytes() == (TOP / "LICENSE").read_bytes()
+@pytest.mark.parametrize("name", ["LICENSE", "THIRD-PARTY.txt"])
+def test_its_package_has_the_licenses(cargo: Cargo, name: str) -> None:
+    """What is built with it contains the library."""
+    assert (cargo.crate / name).read_bytes() == (TOP / name).read_bytes()
+    assert name in cargo("package", "--list", "--allow-dirty").splitlines()
 
 
 def test_it_compiles(cargo: Cargo) -> None:

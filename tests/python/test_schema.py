@@ -12,7 +12,8 @@ from typing import Any
 import pytest
 
 from changed_steps import changes, shape
-from checking import TOP, Checks, run, scenario_files
+from checking import TOP, Checks, run
+from row_files import Located, scenario_files
 
 jsonschema = pytest.importorskip("jsonschema")
 SCHEMA = json.loads((TOP / "schema/scenario.schema.json").read_text())
@@ -31,12 +32,12 @@ def in_short(scenario: Any) -> Any:
     return {**scenario, "steps": kept}
 
 
-def texts() -> dict[bytes, str]:
+def texts(located: Located) -> dict[bytes, str]:
     """The texts, with what they are named by. A text that is no JSON is none: a schema has nothing to say of it."""
     found: dict[bytes, str] = {}
     shapes: dict[str, Any] = {}
     for file in scenario_files():
-        data = (TOP / file).read_bytes()
+        data = (TOP / located(file)).read_bytes()
         try:
             scenario = json.loads(data)
         except (ValueError, RecursionError):
@@ -54,9 +55,9 @@ def test_the_schema_is_one() -> None:
     jsonschema.Draft202012Validator.check_schema(SCHEMA)
 
 
-def test_what_the_program_accepts(program: Path, checks: Checks) -> None:
+def test_what_the_program_accepts(program: Path, located: Located, checks: Checks) -> None:
     validator = jsonschema.Draft202012Validator(SCHEMA)
-    cases = texts()
+    cases = texts(located)
     with concurrent.futures.ThreadPoolExecutor(8) as pool:
         accepted = list(pool.map(lambda text: run(program, given=text).status == 0, cases))
     for (data, name), is_accepted in zip(cases.items(), accepted):

@@ -1,4 +1,4 @@
-"""The layout of Python by black, and of the C of clients by clang-format."""
+"""The layout of Python by black, and of the C of clients by clang-format; and that no file is a link."""
 
 from __future__ import annotations
 
@@ -49,3 +49,8 @@ def test_c(part: str) -> None:
     words = ["clang-format", "--dry-run", "-Werror", *map(str, files)]
     ran = subprocess.run(words, stdout=subprocess.PIPE, stderr=subprocess.STDOUT, text=True, check=False)
     assert (ran.returncode, ran.stdout) == (0, "")
+
+
+def test_no_symbolic_link() -> None:
+    """The gate refuses a repository that has one."""
+    assert [name for name in listed() if (TOP / name).is_symlink()] == []

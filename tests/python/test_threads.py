@@ -5,7 +5,8 @@ from __future__ import annotations
 
 from pathlib import Path
 
-from checking import TOP, Checks, for_each_scenario, run, scenario_files
+from checking import TOP, Checks, run
+from row_files import for_each_scenario, scenario_files
 
 
 def grouped(text: str) -> str:

@@ -16,7 +16,8 @@ from typing import Any
 import pytest
 
 from by_chance import scenario
-from checking import TOP, Ended, accepted_files, for_each_scenario, run
+from checking import TOP, Ended, run
+from row_files import Located, accepted_files, for_each_scenario
 from steps_of_scenario import KEYS, Object, asked
 
 MODES: list[list[str]] = [[], ["--threads"], ["--user", "USER"], ["--threads", "--user", "USER"]]
@@ -191,9 +192,9 @@ def test_the_example_of_the_document(program: Path) -> None:
     assert run(program, "--json=trace", TOP / page[at].split()[-1]).out.splitlines() == shown
 
 
-def test_every_name_comes_in_a_trace() -> None:
+def test_every_name_comes_in_a_trace(located: Located) -> None:
     """Every op, and every name of the schema, is in a step of the row files and the scenarios by chance."""
-    texts = [(TOP / file).read_bytes() for file in accepted_files()] + [by_chance(seed) for seed in SEEDS]
+    texts = [(TOP / located(file)).read_bytes() for file in accepted_files()] + [by_chance(seed) for seed in SEEDS]
     seen: collections.Counter[str] = collections.Counter()
     for text in texts:
         for step in map(asked, json.loads(text)["steps"]):

@@ -15,7 +15,8 @@ from typing import Any, NamedTuple
 
 import pytest
 from by_chance import scenario
-from checking import TOP, Ended, accepted_files, for_each_scenario, run
+from checking import TOP, Ended, run
+from row_files import accepted_files, for_each_scenario
 from session_ways import Tools, opened
 from tracehost.rows import LwpRow, ProcessRow, ProcessState, lwp_row, process_row
 

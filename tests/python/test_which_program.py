@@ -19,6 +19,7 @@ import pytest
 from checking import TOP, needs
 
 sys.path.insert(0, str(TOP / "tools"))
+import manifest  # noqa: E402
 from crates import below  # noqa: E402
 
 RELEASE = f"release/{platform.machine()}-linux"
@@ -87,12 +88,17 @@ class Copy:
         program.chmod(0o755)
         return program
 
-    def manifest(self, text: str) -> None:
-        (self.top / RELEASE / "MANIFEST").write_text(text)
+    def manifest(self, **sources: str) -> None:
+        """Of the files that are there, and of these sources."""
+        facts = {"version": "1.0", "kit": "a kit", "needs": "nothing", "library-needs": "nothing", "library-sources": "0" * 64}
+        facts |= {"sources": "0" * 64, **{name.replace("_", "-"): digest for name, digest in sources.items()}}
+        paths = {name: self.top / RELEASE / name for name in manifest.NEEDS}
+        digests = {name: digest_of(path) if path.exists() else "0" * 64 for name, path in paths.items()}
+        (self.top / RELEASE / "MANIFEST").write_text(f"{manifest.text_of(manifest.statement(facts, digests))}\n")
 
     def release(self, word: str = "released") -> None:
-        program = self.make(RELEASE, word)
-        self.manifest(f"sources {self.digest()}\nprogram {digest_of(program)}\nneeds nothing\n")
+        self.make(RELEASE, word)
+        self.manifest(sources=self.digest())
 
     def make_library(self, folder: str, word: str) -> None:
         (self.top / folder).mkdir(parents=True, exist_ok=True)
@@ -101,8 +107,7 @@ class Copy:
 
     def release_library(self) -> None:
         self.make_library(RELEASE, "released")
-        archive, shared = (digest_of(self.top / RELEASE / f"libtracehost.{ending}") for ending in ("a", "so"))
-        self.manifest(f"library-sources {self.digest('tracehost_c')}\narchive {archive}\nshared {shared}\n")
+        self.manifest(library_sources=self.digest("tracehost_c"))
 
     def append(self, path: str, text: str = "// changed\n") -> None:
         (self.top / path).parent.mkdir(parents=True, exist_ok=True)
@@ -164,15 +169,23 @@ def test_a_changed_source_with_an_old_time(released: Copy) -> None:
     released.prints(RELEASED)
 
 
-@pytest.mark.parametrize("path", [f"{CRATE}/specs/More.antt", f"{CRATE}/proofs/more/More.antt", "crates.txt"])
+@pytest.mark.parametrize("path", [f"{CRATE}/specs/More.antt", f"{CRATE}/proofs/more/More.antt"])
 def test_more_sources(released: Copy, path: str) -> None:
-    text = (released.top / path).read_text() if (released.top / path).exists() else None
     released.append(path, "# more\n")
     released.prints(f"{NOT_BUILT}*other sources*")
-    if text is None:
-        (released.top / path).unlink()
-    else:
-        (released.top / path).write_text(text)
+    (released.top / path).unlink()
+    released.prints(RELEASED)
+
+
+def test_the_line_of_a_crate(released: Copy) -> None:
+    """Lines of crates that the program doesn't use, and comments, are no sources of it."""
+    lines = released.top / "crates.txt"
+    text = lines.read_text()
+    released.append("crates.txt", "# more\nunused: tracehost\n")
+    released.prints(RELEASED)
+    lines.write_text(text.replace("\ntracehost: ", "\ntracehost: more "))
+    released.prints(f"{NOT_BUILT}*other sources*")
+    lines.write_text(text)
     released.prints(RELEASED)
 
 
@@ -236,7 +249,7 @@ def test_a_damaged_release(released: Copy) -> None:
 def test_a_release_for_another_machine(copy: Copy) -> None:
     program = copy.make(RELEASE, "released")
     program.write_text("#!/bin/sh\nexit 1\n")
-    copy.manifest(f"sources {copy.digest()}\nprogram {digest_of(program)}\nneeds nothing\n")
+    copy.manifest(sources=copy.digest())
     copy.prints(f"{NOT_BUILT}*does not run here (it needs nothing)*")
 
 
@@ -256,7 +269,8 @@ def test_no_library(copy: Copy) -> None:
 def test_a_released_library(copy: Copy) -> None:
     copy.release_library()
     copy.prints(f"{copy.top}/{RELEASE}\n", "tools/library")
-    copy.append("crates.txt", "unused: tracehost\n")
+    lines = copy.top / "crates.txt"
+    lines.write_text(lines.read_text().replace("\ntracehost_c staticlib: ", "\ntracehost_c staticlib: more "))
     copy.prints(NO_LIBRARY, "tools/library")
 
 

@@ -1,0 +1,176 @@
+"""A hostile program forges messages on the runtime's sockets: the run ends in time, in a status and in words of ours, and
+nothing is left of it. No sanitizer finds anything in the broker or the runtime meanwhile.
+
+A number draws each script (forging.py). Each runs in a namespace of processes of its own, so that a broker that is misled
+can't signal anybody else. TRACEHOST_TEST_SCALE multiplies the scripts.
+"""
+
+from __future__ import annotations
+
+import json
+import os
+import re
+import subprocess
+import sys
+from pathlib import Path
+
+import pytest
+from c_programs import SANITIZERS, sanitized
+from checking import Checks, needs
+from forging import SECONDS, Ended, options, script
+from posix_kit import CC, POSIX, RUN, SCALE, Posix, once, shared_folder
+
+pytestmark = needs("unshare")
+
+AS_ROOT = [] if os.geteuid() == 0 else ["--user", "--map-root-user"]
+ALONE = ["unshare", "--pid", "--fork", "--kill-child", "--mount-proc", *AS_ROOT]
+FORGING = Path(__file__).with_name("forging.py")
+SOURCE = POSIX / "tests" / "forged.c"
+EACH = 20
+"""Scripts of a test."""
+NOISE = re.compile(
+    r"^==\d+==WARNING: ASan (doesn't fully support makecontext|is ignoring requested __asan_handle_no_return).*\n"
+    r"|^False positive error reports may follow\n|^For details see https://github.com/google/sanitizers/issues/189\n",
+    re.MULTILINE,
+)
+"""A sanitizer says so of coroutines, and clears what it knows of a stack when one goes on there."""
+FAULTS = (
+    r"process \d+ has written .* on the runtime's socket",
+    r"process \d+ begins with .*",
+    r"process \d+ doesn't read what it is answered on the runtime's socket",
+    r"process \d+ remarks on more than it asks",
+    r"process \d+: .*",  # a forged fault of the runtime's
+    r"\d+/\d+ doesn't answer .*",
+    r"LWP \d+ has ended unseen",  # of questions in an order that the runtime hasn't: a call that is entered and never left
+    r"another one than the runtime has written on the socket of the program's server",
+    r"the program's server has (ended|said nothing for \S+ s)",
+)
+FAILURES = (
+    r"deadlock: .*",
+    r"hang: .*",
+    r"no end.*",
+    r"the first process (exited with status|was ended by|was killed).*",
+    r"process \d+ has ended, or closed its socket, outside of the model.*",
+    r"process \d+ has exited with status \d+, but was then ended .*",
+    r"\d+/\d+ (calls .*|.*, which has no runtime, was ended by the host's SIGSYS: .*)",
+)
+JUDGED = "tracehost-run: the fault is not the program's, which isn't judged: "
+
+
+@pytest.fixture(scope="module")
+def plain(posix: Posix) -> tuple[Path, Path]:
+    """tracehost-run, and the hostile program."""
+    return RUN, posix.compiled("tests/forged.c")
+
+
+@pytest.fixture(scope="module")
+def checked(posix: Posix, tmp_path_factory: pytest.TempPathFactory) -> tuple[Path, Path]:
+    """The same with broker, runtime and program compiled with the sanitizers."""
+    if not sanitized():
+        pytest.skip("cc has no sanitizers here")
+    room = shared_folder(tmp_path_factory) / "sanitized"
+
+    def make() -> None:
+        flags = f"CFLAGS=-O0 -g -fno-omit-frame-pointer {' '.join(SANITIZERS)}"
+        places = [f"build={room / 'build'}", f"PREFIX={room / 'prefix'}", f"PYTHON={sys.executable}"]
+        done = posix.execute("make", "-s", "-C", POSIX, "install", *places, flags, "HARDENING=", seconds=1800)
+        assert done.returncode == 0, done.stderr
+        words = ["-g", "-w", *SANITIZERS, "-o", room / "forged", SOURCE]
+        done = posix.execute(room / "prefix/bin" / CC.name, *words)
+        assert done.returncode == 0, done.stderr
+
+    return room / "prefix/bin" / RUN.name, once(room / "forged", make).parent / "forged"
+
+
+def runs(build: tuple[Path, Path], scripts: list[tuple[list[str], str]]) -> list[Ended]:
+    """What comes of the scripts, with options of tracehost-run."""
+    done = subprocess.run(
+        [*ALONE, sys.executable, FORGING, *build],
+        input=json.dumps(scripts),
+        env={**os.environ, "ASAN_OPTIONS": "detect_leaks=0", "UBSAN_OPTIONS": "print_stacktrace=1"},
+        capture_output=True,
+        text=True,
+        timeout=(SECONDS + 30) * len(scripts),
+        check=False,
+    )
+    if "unshare" in done.stderr:
+        pytest.skip(f"no namespace of processes: {done.stderr.strip()}")
+    assert done.returncode == 0, done.stderr
+    ends = [Ended(*json.loads(line)) for line in done.stdout.splitlines()]
+    assert len(ends) == len(scripts)
+    return ends
+
+
+def fault(ended: Ended) -> str:
+    """What is wrong with this end; nothing if all is well."""
+    said = NOISE.sub("", ended.said)
+    if ended.status is None:
+        return f"hangs: {said}"
+    if ended.left:
+        return f"left: {ended.left}"
+    odd = [line for line in said.splitlines() if not re.match("tracehost-run: |tracehost: |  ", line)]
+    if odd or re.search(r"Traceback|[^\n\t\x20-\x7e\x80-\U0010ffff]", said):
+        return f"says: {said}"
+    told = [line for line in said.splitlines() if line.startswith("tracehost-run: ")]
+    if ended.status == 3:
+        why = re.sub(r"^(the plain schedule|--seed \d+|--switches \S+): ", "", told[-1].removeprefix(JUDGED)) if told else ""
+        well = bool(told) and told[-1].startswith(JUDGED) and any(re.fullmatch(words, why) for words in FAULTS)
+    else:
+        whys = [line.removeprefix("tracehost-run: ") for line in told]
+        well = ended.status == 0 or any(re.fullmatch(words, why) for words in FAILURES for why in whys)
+    return "" if well and ended.status in (0, 1, 3) else f"status {ended.status}: {said}"
+
+
+@pytest.mark.parametrize("chunk", range(5 * SCALE))
+@pytest.mark.parametrize("kind", ["plain", "checked"])
+def test_forged_messages(request: pytest.FixtureRequest, checks: Checks, kind: str, chunk: int) -> None:
+    first = (2 * chunk + (kind == "checked")) * EACH
+    seeds = range(first, first + EACH)
+    for seed, ended in zip(seeds, runs(request.getfixturevalue(kind), [(options(seed), script(seed)) for seed in seeds])):
+        checks.check(not fault(ended), f"script {seed}, {ended.seconds:.1f} s: {fault(ended)}")
+
+
+def hexed(*lines: tuple[str, str | bytes]) -> str:
+    """A script: of each line the word, and the message, or a number."""
+    texts = ((word, message.encode() if isinstance(message, str) else message) for word, message in lines)
+    return "".join(f"{word} {message.hex()}\n" for word, message in texts)
+
+
+ALL = str(2**32 - 1)
+"""As a number of a process -1, which is everybody's."""
+WROTE, BEGINS, OTHER = "has written", "begins with", "another one than the runtime has written"
+CASES = {  # what is said, the status, and what the run says
+    "nothing": (hexed(("send", "")), 3, WROTE),
+    "too_long": (hexed(("send", "0 call " + "20".zfill(5000))), 3, WROTE),
+    "a_fault_of_the_runtime": (hexed(("send", "0 broken by \x1b[31m force")), 3, r"process 1000: by \x1b[31m force"),
+    "a_remark": (hexed(("send", "0 remark \x1b[31m red"), ("ask", "0 getppid")), 0, r"\x1b[31m red"),
+    "a_refused_call": (hexed(("send", "0 refused  \t ")), 1, "calls "),
+    "remarks_without_end": (hexed(("flood 100000", "0 remark a")), 3, "remarks on more than it asks"),
+    "ends_without_end": (hexed(("flood 100000", "0 ended 1 0")), 3, "remarks on more than it asks"),
+    "unread_answers": (hexed(("flood 2500", "0 getppid")) + "rest 100000\n", 3, "doesn't read what it is answered"),
+    "a_status": (hexed(("ask", "0 exit 478")), 3, WROTE),
+    "a_disposition": (hexed(("ask", "0 action 2 3 0 0 0")), 3, WROTE),
+    "a_process_descriptor": (hexed(("ask", "0 undescribed 1000")), 3, WROTE),
+    "a_timer_back_in_time": (hexed(("ask", "0 timer 0 0 1 -1"), ("ask", "0 pause")), 3, WROTE),
+    "a_signal_of_a_timer": (hexed(("ask", "0 timer 1 99 1 1")), 3, WROTE),
+    "no_event": (hexed(("ask", "0 news"), ("ask", "0 news")), 0, ""),
+    "everybody_is_killed": (hexed(("ask", "0 exec"), ("ask", f"0 hello {ALL} {ALL} 0 0"), ("ask", "0 exec"), ("ask", "0 foreign"),
+        ("ask", "0 kill 1000 9")), 1, "the first process was killed"),
+    "a_number_of_nobody": (hexed(("ask", "0 exec"), ("ask", "0 hello 0 0 0 0"), ("ask", "0 getppid")), 0, ""),
+    "no_hello": (hexed(("ask", "0 exec"), ("ask", "0 getppid")), 3, BEGINS),
+    "to_the_server": (hexed(("control", "x")), 3, OTHER),
+    "nothing_to_the_server": (hexed(("control", "")), 3, OTHER),
+    "more_to_the_server": (hexed(("control_later 100000", "swept more")), 3, OTHER),
+    "an_answer_of_the_server": (hexed(("control_later 1", "swept 1:0 more")), 3, OTHER),
+    "a_closed_socket": ("close\ncall 0\n", 1, "has ended, or closed its socket"),
+}  # fmt: skip
+
+
+@pytest.mark.parametrize("name", CASES)
+def test_a_forged_message(plain: tuple[Path, Path], name: str) -> None:
+    """The broker goes on as if the runtime had said it, or says whose the fault is."""
+    said, status, words = CASES[name]
+    (ended,) = runs(plain, [([], said)])
+    assert not fault(ended), fault(ended)
+    assert status in (None, ended.status) and words in ended.said, ended
+    assert ended.seconds < SECONDS / 2
