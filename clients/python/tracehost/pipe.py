@@ -5,6 +5,7 @@ from __future__ import annotations
 import io
 import os
 import select
+import signal
 import subprocess
 import tempfile
 import weakref
@@ -152,8 +153,7 @@ def _end(process: subprocess.Popen[bytes], errors: IO[bytes] | None, owner: int,
         process.wait(timeout=max(0.0, deadline - monotonic()))
     except subprocess.TimeoutExpired:
         process.kill()
-        process.wait()
-        return True
+        return process.wait() == -signal.SIGKILL  # it may just have ended by itself
     return False
 
 
