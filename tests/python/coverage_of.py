@@ -27,7 +27,7 @@ from test_posix_programs import variants  # noqa: E402
 BOUNDS = {"python": 95.0, "c": 95.0, "viewer": 90.0, "runtime": 85.0}
 NEEDED = {"python": (), "c": ("gcovr", "cc"), "viewer": ("node", "chromium"), "runtime": ("gcovr", "cc", "c++", "make")}
 SCHEDULES = 2  # of each case, beside the plain one
-UNITTESTS = ("tracehost", "programs", "recording", "blocking", "shell", "library")
+UNITTESTS = ("tracehost", "programs", "recording", "blocking", "debug", "library")
 SUITES = ("arguments", "checkouts", "handlers", "lifetimes", "recording_faults", "refusals", "pytest_plugin", "artifacts")
 
 

@@ -13,7 +13,7 @@ from collections.abc import Iterable, Iterator, Sequence
 from pathlib import Path
 from typing import Any, NamedTuple
 
-from tracehost.shell_words import Unclear, step_of
+from tracehost.step_words import Unclear, step_of
 
 TOP = Path(__file__).resolve().parents[2]
 FOLDER = TOP / "tests/sessions"

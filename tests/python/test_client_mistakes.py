@@ -1,6 +1,6 @@
 """Each mistake of tests/client_mistakes.tsv is told by the client that it is made with: where it is, or what to write.
 
-The columns of the table are the client; the mistake; code of Python or C, words of the shell or a command; and what has to
+The columns of the table are the client; the mistake; code of Python or C, words of the prompt or a command; and what has to
 be in the message, between ` && `, or - if the message doesn't help. The mistakes of tests/mistakes.tsv in scenarios are also
 made with the viewer, which asks the program.
 """
@@ -18,7 +18,8 @@ from typing import NamedTuple
 
 import pytest
 import tracehost
-from tracehost.shell import Shell
+from tracehost.prompt import Prompt
+from tracehost.saving import Session
 
 import mistakes
 from checking import TOP, needs
@@ -105,16 +106,16 @@ def test_in_python(mistake: Mistake, library: Path, monkeypatch: pytest.MonkeyPa
     assert by_python(mistake, "pipe") == said
 
 
-@told_by("shell")
-def test_in_the_shell(mistake: Mistake) -> None:
-    """What the shell prints after two steps."""
+@told_by("prompt")
+def test_at_the_prompt(mistake: Mistake) -> None:
+    """What it prints after two steps."""
     printed = io.StringIO()
-    shell = Shell(stdin=io.StringIO(), stdout=printed)
+    prompt = Prompt(Session("session", (), None), stdin=io.StringIO(), stdout=printed)
     try:
         for line in ("spawn", "spawn", mistake.what):
-            shell.onecmd(line)
+            prompt.onecmd(line)
     finally:
-        shell.close()
+        prompt.close()
     said = printed.getvalue().split("\n", 2)[2]
     assert all(words in said for words in mistake.wanted), said
 
@@ -196,4 +197,4 @@ def test_most_mistakes_are_told() -> None:
     print(f"told so that one can mend them: {told} of {count} mistakes")
     assert count >= MOST_OF_ALL
     assert told * MOST_OF_ALL >= LEAST_TOLD * count
-    assert {mistake.client for mistake in ALL if mistake.is_told} == {"python", "shell", "viewer", "runner", "library"}
+    assert {mistake.client for mistake in ALL if mistake.is_told} == {"python", "prompt", "viewer", "runner", "library"}

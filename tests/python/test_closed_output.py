@@ -23,8 +23,9 @@ COMMANDS = {
     "viewer/perfetto TRACE": ("viewer/perfetto", 'viewer/perfetto "$TRACE"'),
     "tools/sbom --help": ("tools/sbom", "tools/sbom --help"),
     "tools/sbom": ("tools/sbom", "tools/sbom"),
-    "tracehost.shell --help": ("tracehost.shell", "python3 -m tracehost.shell --help"),
-    "tracehost.shell": ("tracehost.shell", "echo spawn | python3 -m tracehost.shell"),
+    "tracehost-debug --help": ("tracehost-debug", "python3 -m tracehost.debug --help"),
+    "tracehost-debug": ("tracehost-debug", "echo spawn | python3 -m tracehost.debug"),
+    "tracehost-debug FILE": ("tracehost-debug", "python3 -m tracehost.debug --batch list examples/first.json"),
 }
 WAYS = {">&-": "Bad file descriptor", ">/dev/full": "No space left on device"}
 
@@ -56,9 +57,9 @@ def test_both_outputs_closed(trace: pathlib.Path, name: str) -> None:
     assert status == 1
 
 
-@pytest.mark.parametrize("code", ["viewer/make -", "viewer/perfetto -", "python3 -m tracehost.shell"])
+@pytest.mark.parametrize("code", ["viewer/make -", "viewer/perfetto -", "python3 -m tracehost.debug", "python3 -m tracehost.debug -"])
 def test_a_closed_input(trace: pathlib.Path, code: str) -> None:
-    own_name = code.split()[-1] if "shell" in code else code.split()[0]
+    own_name = "tracehost-debug" if "debug" in code else code.split()[0]
     assert run(f"{code} <&- >/dev/null", trace) == (1, f"{own_name}: standard input: Bad file descriptor\n")
 
 

@@ -28,7 +28,7 @@ the calls of the manual pages. A call returns what the manual page says, or rais
 ``block=True`` lets `wait4`, `handle` and `turn` sleep until another thread's step has brought news; `Host.run` runs
 functions by turns, so the steps are the same in every run. `User.view` shows a user's rows. The module
 `tracehost.pytest_plugin` has a fixture for pytest, `tracehost.strategies` and `tracehost.stateful` are for Hypothesis.
-``python -m tracehost.shell`` is a prompt.
+``tracehost-debug`` is a prompt, which goes through a session in time.
 
 Signals and the codes of system calls have FreeBSD's numbers, whatever the machine. Names are those of <sys/ptrace.h>,
 <sys/signal.h> and <sys/wait.h>. docs/FORMAT.md describes the meaning of each call, and the protocol.

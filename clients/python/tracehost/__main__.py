@@ -1,7 +1,7 @@
 """The command ``tracehost``, and ``python -m tracehost``: runs the program that was installed with this package. The commands
 ``tracehost-view`` and ``tracehost-perfetto`` are those of its viewer.
 
-``python -m tracehost`` without words on a terminal is the prompt of ``python -m tracehost.shell``.
+``python -m tracehost`` without words on a terminal is the prompt of ``tracehost-debug``.
 """
 
 from __future__ import annotations
@@ -37,6 +37,12 @@ def perfetto() -> None:
     _of_viewer("perfetto")
 
 
+def debug() -> None:
+    from .debug import main as prompt
+
+    sys.exit(prompt())
+
+
 def _of_viewer(name: str) -> None:
     """Runs a script of the viewer by the name that it was called by, in the package or its checkout."""
     sys.dont_write_bytecode = True
@@ -53,7 +59,7 @@ def _of_viewer(name: str) -> None:
 
 if __name__ == "__main__":
     if len(sys.argv) == 1 and sys.stdin.isatty() and sys.stdout.isatty():
-        from .shell import main as prompt
+        from .debug import main as prompt
 
         sys.exit(prompt())
     main()

@@ -2,38 +2,21 @@
 
 from __future__ import annotations
 
-from collections.abc import Iterable, Sequence
+from collections.abc import Sequence
 
 from .manual import topics
 from .names import CALLER_OPS, OPTIONS, STOP_FLAGS, Action, Call, Decision, Request, Signal
-from .shell_words import ACTS, MASKS, OPS
+from .step_words import ACTS, MASKS, OPS
 
 _SIGNALS = list(Signal.__members__)
+_FIRST_LWP = 100_000
 
 
-def complete_words(before: Sequence[str], text: str, answers: Iterable[str]) -> list[str]:
-    """The words that begin with `text` and can follow these."""
-    pids, lwps = numbers_in_sight(answers)
+def complete_words(before: Sequence[str], text: str, numbers: Sequence[int]) -> list[str]:
+    """The words that begin with `text` and can follow these. The numbers are those of processes and LWPs in sight."""
+    pids = [str(number) for number in numbers if number < _FIRST_LWP]
+    lwps = [str(number) for number in numbers if number >= _FIRST_LWP]
     return sorted({word for word in _next(list(before), pids, lwps) if word.startswith(text)})
-
-
-def numbers_in_sight(answers: Iterable[str]) -> tuple[list[str], list[str]]:
-    """The processes and the LWPs that the lines of the answers name."""
-    pids: set[str] = set()
-    lwps: set[str] = set()
-    for answer in answers:
-        words = answer.split()[2:]
-        if words[0] == "new":
-            pids.add(words[1])
-            lwps.add(words[2])
-        elif words[0] == "pids":
-            pids.update(words[1:])
-        elif words[0] == "lwps":
-            lwps.update(words[1:])
-        elif words[0] in ("stopped", "info"):
-            lwps.add(words[1])
-        pids.update(word[6:] for word in words if word.startswith("child=") and word != "child=0")
-    return sorted(pids), sorted(lwps)
 
 
 def _next(before: list[str], pids: list[str], lwps: list[str]) -> list[str]:

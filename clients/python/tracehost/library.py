@@ -251,6 +251,10 @@ class Session:
         no line is: a mask with bits that no event has."""
         return self._text("last_step", self.handle)
 
+    def last_answer(self) -> str:
+        """The last answer as a JSON object; "" before any."""
+        return (self._text("last_line", self.handle, True) or "").rstrip("\n")
+
     def explain(self, line: str, number: int = 1) -> Optional[str]:
         """Why the line isn't a step, as ``tracehost --lines --explain`` prints it; empty if it is one."""
         text = line.encode("utf-8", "surrogateescape")

@@ -22,8 +22,10 @@ Steps (PID, LWP: a number; SIGNAL: a name or a number; [..]: may be left out):
 {_STEPS}
   a step of docs/FORMAT.md as JSON
 The first PID is the process that makes the call. `1002: spawn` is a step of user 1002.
-The session: user UID, list, undo [N], save FILE, view [PAGE], quit.
-help NAME: an op, a request, an act, a call, a signal or an errno. Tab completes names and numbers."""
+In time: next [N], back [N], goto N, continue [WHAT], reverse [WHAT] (to a stop, error, held, a row's change, a text).
+What is there: list, state [UID], why NUMBER [FIELD]. A step in the past: branches, branch N, compare [N], undo [N].
+The session: user UID, save FILE, view [PAGE], quit.
+help NAME: a command, an op, a request, an act, a call, a signal or an errno. Tab completes names and numbers."""
 
 _PASS = "DATA is a signal to pass on, or 0. It ends the target if that is its default action; others have no effect."
 # tools/format help

@@ -19,8 +19,9 @@ sys.path.insert(0, str(CLIENT))
 from tracehost.completion import complete_words
 from tracehost.manual import explain, topics
 from tracehost.names import CALLER_OPS, Call, Request, Signal
-from tracehost.shell import Shell
-from tracehost.shell_words import ACTS, Unclear, step_of
+from tracehost.prompt import Prompt
+from tracehost.saving import Session
+from tracehost.step_words import ACTS, Unclear, step_of
 
 
 class Words(unittest.TestCase):
@@ -90,18 +91,18 @@ class Words(unittest.TestCase):
                 step_of(words.split(), 1001)
 
     def test_completion(self) -> None:
-        answers = ["1001 1 new 1000 100000", "1001 2 new 1001 100001", "1001 3 pids 1000 1001 1002"]
-        self.assertEqual(complete_words(["list"], "10", answers), ["1000", "1001", "1002"])
-        self.assertEqual(complete_words(["ptrace", "1000"], "PT_CO", answers), ["PT_CONTINUE"])
-        self.assertEqual(complete_words(["wait4", "1000"], "W", answers), ["WCONTINUED", "WNOHANG", "WUNTRACED"])
-        self.assertEqual(complete_words(["ptrace", "1000", "PT_ATTACH"], "100", answers)[-1], "1002")
+        numbers = [1000, 1001, 1002, 100000, 100001]
+        self.assertEqual(complete_words(["list"], "10", numbers), ["1000", "1001", "1002"])
+        self.assertEqual(complete_words(["ptrace", "1000"], "PT_CO", numbers), ["PT_CONTINUE"])
+        self.assertEqual(complete_words(["wait4", "1000"], "W", numbers), ["WCONTINUED", "WNOHANG", "WUNTRACED"])
+        self.assertEqual(complete_words(["ptrace", "1000", "PT_ATTACH"], "100", numbers)[-1], "1002")
         self.assertEqual(
-            complete_words(["1002:", "ptrace", "1000", "PT_CONTINUE", "1001"], "SIGUS", answers), ["SIGUSR1", "SIGUSR2"]
+            complete_words(["1002:", "ptrace", "1000", "PT_CONTINUE", "1001"], "SIGUS", numbers), ["SIGUSR1", "SIGUSR2"]
         )
-        self.assertEqual(complete_words(["turn"], "", answers), ["100000", "100001"])
-        self.assertEqual(complete_words(["turn", "100001"], "e", answers), ["enter"])
-        self.assertEqual(complete_words(["turn", "100001", "enter"], "v", answers), ["vfork"])
-        self.assertEqual(complete_words(["help"], "PT_D", answers), ["PT_DETACH"])
+        self.assertEqual(complete_words(["turn"], "", numbers), ["100000", "100001"])
+        self.assertEqual(complete_words(["turn", "100001"], "e", numbers), ["enter"])
+        self.assertEqual(complete_words(["turn", "100001", "enter"], "v", numbers), ["vfork"])
+        self.assertEqual(complete_words(["help"], "PT_D", numbers), ["PT_DETACH"])
 
     def test_help_for_every_name(self) -> None:
         calls = {call.value for call in Call}
@@ -120,10 +121,10 @@ class Sessions(unittest.TestCase):
     def output(self, *lines: str) -> str:
         """What the prompt prints for these lines."""
         text = io.StringIO()
-        shell = Shell(stdout=text)
-        self.addCleanup(shell.close)
+        prompt = Prompt(Session("session", (), None), stdout=text)
+        self.addCleanup(prompt.close)
         for line in lines:
-            shell.onecmd(line)
+            prompt.onecmd(line)
         return text.getvalue()
 
     def test_undo_runs_the_session_again(self) -> None:
@@ -140,7 +141,7 @@ class Sessions(unittest.TestCase):
         self.assertEqual([step["user"] for step in json.loads(scenario.read_text())["steps"]], [1001, 1002, 1001])
         self.assertIn(page.as_uri(), text)
         self.assertIn('"pid":2000,"lwp":104000', page.read_text())
-        self.assertIn('   2 {"user":1002,"op":"spawn"}\n     1002 1 new 2000 104000\n', text)
+        self.assertIn("     2 1002: spawn -> new process 2000, LWP 104000\n", text)
         self.assertIn("/nowhere/s: No such file or directory", text)
 
     def test_what_is_no_step(self) -> None:
@@ -175,14 +176,14 @@ class Sessions(unittest.TestCase):
     def test_a_closed_standard_output(self) -> None:
         """One line at most on standard error, and a status."""
         environment = {**os.environ, "PYTHONPATH": str(CLIENT)}
-        for output, said in (("| true", ""), (">/dev/full", "tracehost.shell: standard output: No space left on device\n")):
-            code = f"(sleep 0.2; yes spawn | head -n 100) | '{sys.executable}' -u -m tracehost.shell {output}"
+        for output, said in (("| true", ""), (">/dev/full", "tracehost-debug: standard output: No space left on device\n")):
+            code = f"(sleep 0.2; yes spawn | head -n 100) | '{sys.executable}' -u -m tracehost.debug {output}"
             done = subprocess.run(["bash", "-c", f"{code}; exit ${{PIPESTATUS[1]}}"], stderr=subprocess.PIPE, text=True,
                                   env=environment)  # fmt: skip
             self.assertEqual((done.stderr, done.returncode), (said, 1))
 
     def test_lines_on_a_pipe(self) -> None:
-        command = [sys.executable, "-m", "tracehost.shell"]
+        command = [sys.executable, "-m", "tracehost.debug"]
         environment = {**os.environ, "PYTHONPATH": str(CLIENT)}
         done = subprocess.run(command, input="spawn\nlist 1000\n", stdout=subprocess.PIPE, text=True, env=environment)
         self.assertEqual((done.stdout, done.returncode), ("1001 1 new 1000 100000\n1001 2 pids 1000\n\n", 0))

@@ -6,9 +6,10 @@
 from __future__ import annotations
 
 import difflib
-from collections.abc import Sequence
+from collections.abc import Mapping, Sequence
 from typing import Any
 
+from .conditions import SIGNAL_REQUESTS
 from .names import CALLER_OPS, EVENTS, OPTIONS, STOP_FLAGS, Action, Call, Decision, Request, Signal
 
 Step = dict[str, Any]
@@ -16,15 +17,14 @@ OPS = ("spawn", *CALLER_OPS, "turn")
 ACTS = ("compute", "raise", "block", "enter", "leave")
 MASKS = (*EVENTS, "PTRACE_SYSCALL")
 DECISIONS = tuple(decision.value for decision in Decision)
-COMMANDS = ("user", "list", "undo", "save", "view", "help", "quit")
 
 
 class Unclear(Exception):
     """The words aren't a step."""
 
 
-def step_of(words: Sequence[str], uid: int) -> Step:
-    """The step of this user, or of the one that the words begin with. Raises Unclear."""
+def step_of(words: Sequence[str], uid: int, commands: Sequence[str] = ()) -> Step:
+    """The step of this user, or of the one that the words begin with. Raises Unclear, which may name one of the commands."""
     if words and words[0].endswith(":") and words[0][:-1].isdecimal():
         uid, words = int(words[0][:-1]), words[1:]
     op, rest = (words[0], words[1:]) if words else ("", ())
@@ -34,18 +34,18 @@ def step_of(words: Sequence[str], uid: int) -> Step:
         _count(rest, 1, 99, "turn LWP ACT")
         return {"user": uid, "op": op, "lwp": _number(rest[0]), **_act(rest[1:])}
     if op not in CALLER_OPS:
-        raise Unclear(_no_step(words))
+        raise Unclear(_no_step(words, commands))
     _count(rest, 1, 999, f"{op} {_USAGES.get(op, 'CALLER')}")
     return {"user": uid, "op": op, "caller": _number(rest[0]), **_READERS.get(op, _nothing)(rest[1:])}
 
 
-def _no_step(words: Sequence[str]) -> str:
+def _no_step(words: Sequence[str], commands: Sequence[str]) -> str:
     """Why these words aren't a step."""
     if len(words) > 1 and words[0].isdecimal() and words[1] in (*CALLER_OPS, *ACTS, *Request.__members__):
         kind = "turn" if words[1] in ACTS else "ptrace" if words[1] not in CALLER_OPS else words[1]
         rest = words[2:] if kind == words[1] else words[1:]
         return f"the op comes first: {' '.join((kind, words[0], *rest))}"
-    near = _near(words[0] if words else "", (*OPS, *COMMANDS))
+    near = _near(words[0] if words else "", (*OPS, *commands))
     return f"no step: {' '.join(words)}{near}"
 
 
@@ -176,3 +176,60 @@ def _one_of(word: str, names: Sequence[str], kind: str) -> str:
     if word not in names:
         raise Unclear(f"{word}: none of the {kind} {', '.join(names)}{_near(word, names)}")
     return word
+
+
+# ---- the words of a step
+
+
+def words_of(step: Mapping[str, Any]) -> str:
+    """The words that `step_of` reads as this step, without its user."""
+    op = step["op"]
+    if op == "turn":
+        return " ".join([op, str(step["lwp"]), step["act"], *_WORDS_OF_ACTS.get(step["act"], _no_words)(step)])
+    caller = [str(step["caller"])] if "caller" in step else []
+    return " ".join([op, *caller, *_WORDS.get(op, _no_words)(step)])
+
+
+def _name_of(signal: int) -> str:
+    return Signal(signal).name if signal in Signal.__members__.values() else str(signal)
+
+
+def _no_words(step: Mapping[str, Any]) -> list[str]:
+    return []
+
+
+def _words_of_ptrace(step: Mapping[str, Any]) -> list[str]:
+    name = step["request"]
+    if name == "PT_TRACE_ME":
+        return [name]
+    if name == "PT_SET_EVENT_MASK":
+        return [name, str(step["target"]), *step["mask"]]
+    data = step.get("data", 0)
+    written = _name_of(data) if Request[name] in SIGNAL_REQUESTS else str(data)
+    return [name, str(step["target"]), *([written] if data else [])]
+
+
+def _words_of_wait4(step: Mapping[str, Any]) -> list[str]:
+    which = [] if step["which"] == -1 else [str(step["which"])]
+    return [*which, *step.get("options", ())]
+
+
+def _words_of_rule(rule: Mapping[str, Any]) -> str:
+    signal = [_name_of(rule["signal"])] if "signal" in rule else []
+    passed = [_name_of(rule["pass"])] if rule.get("pass") else []
+    return " ".join([*signal, *rule.get("flags", ()), rule["decision"], *passed])
+
+
+# an op or an act that is missing here has no further words
+_WORDS = {
+    "ptrace": _words_of_ptrace,
+    "wait4": _words_of_wait4,
+    "kill": lambda step: [str(step["which"]), _name_of(step["signal"])],
+    "sigaction": lambda step: [_name_of(step["signal"]), step["action"]],
+    "install": lambda step: [", ".join(map(_words_of_rule, step["rules"]))],
+}
+_WORDS_OF_ACTS = {
+    "raise": lambda step: [_name_of(step["signal"])],
+    "block": lambda step: [_name_of(signal) for signal in step["set"]],
+    "enter": lambda step: [step["call"], *([str(step["code"])] if "code" in step else [])],
+}

@@ -1,0 +1,183 @@
+"""``tracehost-debug [FILE]``: a prompt over a session, forwards and backwards in time.
+
+FILE is a scenario, such as a failed test leaves, or a trace; without it the session is new. A line is a command or a step,
+an op of docs/FORMAT.md with the values of its keys in their order:
+
+    tracehost> spawn
+    tracehost> ptrace 1000 PT_ATTACH 1001
+    tracehost> wait4 1000
+    tracehost> back
+    tracehost> why 1001 state
+
+or a step as JSON. A step in the middle begins a branch, and the session stays as it is. `help` lists all.
+"""
+
+from __future__ import annotations
+
+import argparse
+import errno
+import os
+import sys
+from collections.abc import Sequence
+from typing import IO, Optional
+
+from .errors import ProgramEnded
+from .prompt import Prompt
+from .saving import Session, read_session
+from .shrinking import Keep, shrink, shrink_refused
+from .timeline import Refused
+
+__all__ = ["main"]
+
+_HISTORY = "~/.tracehost_history"
+_NAME = "tracehost-debug"
+
+
+def _use_history() -> None:
+    """Keeps the lines of earlier sessions in a file, if Python has readline."""
+    try:
+        import atexit
+        import readline
+    except ImportError:
+        return
+    path = os.path.expanduser(os.environ.get("TRACEHOST_HISTORY", _HISTORY))
+    readline.set_completer_delims(" \t\n")
+    try:
+        readline.read_history_file(path)
+    except OSError:
+        pass
+    readline.set_history_length(1000)
+
+    def write() -> None:
+        try:
+            readline.write_history_file(path)
+        except OSError:
+            pass
+
+    atexit.register(write)
+
+
+class _Parser(argparse.ArgumentParser):
+    """A parser that raises OSError if the text of --help can't be written."""
+
+    def print_help(self, file: Optional[IO[str]] = None) -> None:
+        stream = sys.stdout if file is None else file
+        stream.write(self.format_help())
+        stream.flush()
+
+
+def _options() -> argparse.ArgumentParser:
+    parser = _Parser(prog=_NAME, description="A prompt over a session, forwards and backwards in time.")
+    parser.add_argument("file", metavar="FILE", nargs="?", help="a scenario or a trace, - for standard input; a new session without it")
+    parser.add_argument("--at", type=int, metavar="N", help="begin after step N, from 1; else after the last one")
+    parser.add_argument("--batch", metavar="COMMANDS", help="do these commands, with ; between two, and leave; status 1 if one fails")
+    parser.add_argument("--shrink", metavar="OUT", help="write a scenario with fewer steps that keeps what --keep says")
+    parser.add_argument(
+        "--keep",
+        default="last",
+        metavar="WHAT",
+        help="last: the last step and its reply (the default); reply=TEXT: a reply with these words; fault: the fault of a "
+        "refused scenario; status=COMMAND: the status of a shell's command, in which {} is the scenario",
+    )
+    parser.add_argument("--program", help="the program; what Host chooses if it isn't given")
+    parser.add_argument("--kill-on-debugger-exit", choices=("0", "1"), help="of a new session, as for tracehost --lines")
+    return parser
+
+
+def _session_of(given: argparse.Namespace, parser: argparse.ArgumentParser) -> Session:
+    if given.file is None:
+        if given.shrink is not None or given.at is not None:
+            parser.error("--at and --shrink need a FILE")
+        setting = None if given.kill_on_debugger_exit is None else given.kill_on_debugger_exit == "1"
+        return Session("session", (), setting)
+    if given.kill_on_debugger_exit is not None:
+        parser.error("--kill-on-debugger-exit is FILE's own")
+    return read_session(given.file, given.program, may_be_refused=given.shrink is not None and given.keep == "fault")
+
+
+def _shrink(given: argparse.Namespace, session: Session, parser: argparse.ArgumentParser) -> int:
+    try:
+        keep = Keep.of(given.keep)
+    except ValueError as error:
+        parser.error(str(error))
+    shorter = shrink_refused(session, given.program) if keep.kind == "fault" else shrink(session, keep, given.program)
+    with open(given.shrink, "w", encoding="utf-8") as out:
+        out.write(shorter.session.text())
+    print(f"{len(shorter.session.steps)} of {len(session.steps)} steps keep {shorter.kept} ({shorter.runs} runs): {given.shrink}")
+    return 0
+
+
+def _run(words: Optional[Sequence[str]]) -> int:
+    parser = _options()
+    given = parser.parse_args(words)
+    session = _session_of(given, parser)
+    if given.shrink is not None:
+        return _shrink(given, session, parser)
+    if given.at is not None and not 0 <= given.at <= len(session.steps):
+        parser.error(f"--at {given.at}: there are {len(session.steps)} steps")
+    try:
+        prompt = Prompt(session, given.at, given.program)
+    except OSError as error:
+        if given.program is None:
+            raise
+        parser.error(f"{error.filename or given.program}: {error.strerror}")
+    try:
+        if given.batch is not None:
+            return prompt.batch(given.batch)
+        return _converse(prompt, given.file == "-")
+    except ProgramEnded as error:
+        print(error, file=sys.stderr)
+        return 1
+    finally:
+        prompt.close()
+
+
+def _converse(prompt: Prompt, is_input_used: bool) -> int:
+    """Reads commands until the end of the input. If the session was read from it, from the terminal."""
+    if is_input_used:
+        sys.stdin = open("/dev/tty", encoding="utf-8")
+    if sys.stdin is None:
+        raise _closed("standard input")
+    terminal = sys.stdin.isatty()
+    if terminal:
+        _use_history()
+    else:
+        prompt.be_quiet()
+    while True:
+        try:
+            prompt.cmdloop()
+            return 0
+        except KeyboardInterrupt:
+            print()
+            prompt.intro = ""
+
+
+def _closed(name: str) -> OSError:
+    """The error of a standard stream that the caller has closed: Python then has none."""
+    return OSError(errno.EBADF, os.strerror(errno.EBADF), name)
+
+
+def _said(error: OSError) -> str:
+    """The file and why; of an error without an errno, such as that there is no program, its text."""
+    return f"{error.filename or 'standard output'}: {error.strerror}" if error.errno else str(error)
+
+
+def main(words: Optional[Sequence[str]] = None) -> int:
+    """Runs the prompt until the end of its input."""
+    try:
+        if sys.stdout is None:
+            raise _closed("standard output")
+        return _run(words)
+    except Refused as error:
+        print(f"{_NAME}: {error}", file=sys.stderr)
+        return 1
+    except OSError as error:  # a file or an output that can't be read or written
+        if sys.stdout is not None:  # so that Python doesn't write the rest when it ends
+            os.dup2(os.open(os.devnull, os.O_WRONLY), sys.stdout.fileno())
+        if not isinstance(error, BrokenPipeError):  # as `tracehost | head` ends
+            print(f"{_NAME}: {_said(error)}", file=sys.stderr)
+        return 1
+
+
+if __name__ == "__main__":
+    sys.exit(main())
