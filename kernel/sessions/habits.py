@@ -2,7 +2,7 @@
 
 from __future__ import annotations
 
-from tracehost.shell_words import Step
+from tracehost.step_words import Step
 
 from .model import Process, Rows
 

@@ -6,7 +6,7 @@ from collections.abc import Callable, Mapping, Sequence
 from typing import NamedTuple
 
 from tracehost.names import Signal
-from tracehost.shell_words import Step
+from tracehost.step_words import Step
 
 from . import asking, habits
 from .model import Lwp, Rows

@@ -14,7 +14,7 @@ from typing import NamedTuple, TypedDict
 
 from tracehost.library import Session, find
 from tracehost.names import Signal
-from tracehost.shell_words import Step, step_of
+from tracehost.step_words import Step, step_of
 
 FIRST_USER = 1001
 _MOST_TURNS = 1000

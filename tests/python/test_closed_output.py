@@ -57,7 +57,9 @@ def test_both_outputs_closed(trace: pathlib.Path, name: str) -> None:
     assert status == 1
 
 
-@pytest.mark.parametrize("code", ["viewer/make -", "viewer/perfetto -", "python3 -m tracehost.debug", "python3 -m tracehost.debug -"])
+@pytest.mark.parametrize(
+    "code", ["viewer/make -", "viewer/perfetto -", "python3 -m tracehost.debug", "python3 -m tracehost.debug -"]
+)
 def test_a_closed_input(trace: pathlib.Path, code: str) -> None:
     own_name = "tracehost-debug" if "debug" in code else code.split()[0]
     assert run(f"{code} <&- >/dev/null", trace) == (1, f"{own_name}: standard input: Bad file descriptor\n")

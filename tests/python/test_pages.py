@@ -68,7 +68,7 @@ class Reader:
         """A command with what it is given on its standard input: in the text these are the steps, or follow a prompt."""
         given = {"./tracehost --lines": r"^(\{.*\n)", SHELL: r"^tracehost> (.*\n)"}.get(command, r"(?!)")
         lines = "".join(re.findall(given, text, re.MULTILINE))
-        printed = self.types("python3 -m tracehost.shell" if command == SHELL else command, lines)
+        printed = self.types("python3 -m tracehost.debug" if command == SHELL else command, lines)
         wanted = re.sub(given, "", text, flags=re.MULTILINE).rstrip("\n")
         pattern = ".*".join(map(re.escape, wanted.split("..")))
         assert re.fullmatch(pattern, printed.text.rstrip("\n"), re.DOTALL), f"{command}\n{printed.text}"

@@ -14,7 +14,7 @@ from checking import answers, run
 from session_ways import Tools, call, line_answer, opened, seen
 from sessions import FIRST_USER, FOLDER, TOP, read_sessions, slug
 from tracehost.blocking import Progress
-from tracehost.shell_words import step_of
+from tracehost.step_words import step_of
 from tracehost.typed import TypedCalls
 
 FOLDER_OF_TEXTS = TOP / "tests/texts"

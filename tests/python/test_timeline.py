@@ -81,7 +81,20 @@ def test_each_reply_has_words() -> None:
                 seen.setdefault(step.reply["reply"], answer_text(step.reply))
     plain = {kind for kind, text in seen.items() if text == kind}
     assert plain == {"ok", "nothing", "held"}
-    assert set(seen) == plain | {"new", "number", "status", "info", "lwps", "pids", "mask", "handled", "stopped", "caught", "ended", "error"}
+    assert set(seen) == plain | {
+        "new",
+        "number",
+        "status",
+        "info",
+        "lwps",
+        "pids",
+        "mask",
+        "handled",
+        "stopped",
+        "caught",
+        "ended",
+        "error",
+    }
 
 
 def _setting(scenario: dict[str, Any]) -> bool | None:
@@ -157,18 +170,47 @@ def test_forwards_and_back() -> None:
     session = read_session(str(VFORK))
     places = re.findall(
         r"^> +(\d+)",
-        said(session, "goto 3", "next", "n 2", "back", "p", "b 2", "continue held", "reverse stop", "c 1002 state", "rc PT_ATTACH", "c error"),
+        said(
+            session,
+            "goto 3",
+            "next",
+            "n 2",
+            "back",
+            "p",
+            "b 2",
+            "continue held",
+            "reverse stop",
+            "c 1002 state",
+            "rc PT_ATTACH",
+            "c error",
+        ),
         re.MULTILINE,
     )
     assert places == ["3", "4", "6", "5", "4", "2", "13", "8", "12", "3"]
-    for words, wanted in (("goto 21", "the last step is 20"), ("goto x", "goto N"), ("c error", "no step after this one has error"), ("back 21", "beginning")):
+    for words, wanted in (
+        ("goto 21", "the last step is 20"),
+        ("goto x", "goto N"),
+        ("c error", "no step after this one has error"),
+        ("back 21", "beginning"),
+    ):
         assert wanted in said(session, words)
 
 
 def test_a_step_in_the_past_is_a_branch() -> None:
     """It is answered as a session that has only the steps before, and the session stays as it is."""
     session = read_session(str(VFORK))
-    text = said(session, "goto 12", "turn 100001 compute", "turn 100002 enter exit 3", "turn 100002 leave", "branches", "compare", "branch 0", "compare 1", "undo")
+    text = said(
+        session,
+        "goto 12",
+        "turn 100001 compute",
+        "turn 100002 enter exit 3",
+        "turn 100002 leave",
+        "branches",
+        "compare",
+        "branch 0",
+        "compare 1",
+        "undo",
+    )
     with Host(transport="library") as host:
         lines = [host.line(json.dumps(step)) for step in session.steps[:12]]
         lines = [host.line(json.dumps({"user": 1001, **step})) for step in (
@@ -187,7 +229,10 @@ def test_why_a_step_is_refused_in_the_past() -> None:
     assert text.count("ESRCH") == 2 and text.count("(user 1001 has no process 77)") == 2
 
 
-@pytest.mark.parametrize("commands, status", [("state; list; why 1001", 0), ("back; fly; state", 1), ("kill 1000 1001 SIGFOO", 1), ("goto 99", 1), ("quit; fly", 0)])
+@pytest.mark.parametrize(
+    "commands, status",
+    [("state; list; why 1001", 0), ("back; fly; state", 1), ("kill 1000 1001 SIGFOO", 1), ("goto 99", 1), ("quit; fly", 0)],
+)
 def test_a_batch_has_a_status(commands: str, status: int) -> None:
     done = command(VFORK, "--batch", commands)
     assert (done.returncode, done.stderr) == (status, "")
@@ -239,7 +284,13 @@ def test_saved_as_a_test_in_python(tmp_path: Path, fails: bool) -> None:
     file = saved(tmp_path, "test_saved.py")
     file.write_text(file.read_text().replace("1001 10 ", "1001 11 ") if fails else file.read_text())
     environment = {**os.environ, "PYTHONPATH": str(TOP / "clients/python")}
-    done = subprocess.run([sys.executable, "-m", "pytest", "-q", "-p", "no:cacheprovider", file], env=environment, stdout=subprocess.PIPE, text=True, check=False)
+    done = subprocess.run(
+        [sys.executable, "-m", "pytest", "-q", "-p", "no:cacheprovider", file],
+        env=environment,
+        stdout=subprocess.PIPE,
+        text=True,
+        check=False,
+    )
     assert done.returncode == int(fails) and ("1 failed" if fails else "1 passed") in done.stdout
 
 
@@ -256,7 +307,9 @@ def test_saved_as_a_test_in_c(tmp_path: Path, library: Path, fails: bool) -> Non
 def test_saved_as_a_test_in_rust(tmp_path: Path, library: Path) -> None:
     (tmp_path / "src").mkdir()
     crate = TOP / "clients/rust"
-    (tmp_path / "Cargo.toml").write_text(f'[package]\nname = "saved"\nedition = "2021"\n[dependencies]\ntracehost = {{ path = "{crate}" }}\n')
+    (tmp_path / "Cargo.toml").write_text(
+        f'[package]\nname = "saved"\nedition = "2021"\n[dependencies]\ntracehost = {{ path = "{crate}" }}\n'
+    )
     saved(tmp_path / "src", "lib.rs")
     assert "test death_of_a_debugger_leaves ... ok" in Cargo(tmp_path, library, tmp_path / "target")("test")
 

@@ -291,7 +291,9 @@ def test_a_long_session_is_fast(tabs: list[Tab], pages: Pages, some: Run, count:
     frame = min(frame_milliseconds(open_tab(tabs, run.page)) for _ in range(2))
     tab = tabs[-1]
     assert tab.value("page.picture.plan.columns") == count
-    print(f"{count} steps: opened with {opening:.2f} s of the processor, the yardstick with {least:.2f} s; a frame takes {frame:.1f} ms of it, of 300 steps {short_frame:.1f} ms")
+    print(
+        f"{count} steps: opened with {opening:.2f} s of the processor, the yardstick with {least:.2f} s; a frame takes {frame:.1f} ms of it, of 300 steps {short_frame:.1f} ms"
+    )
     assert opening < MOST_TIMES_TO_OPEN * least
     assert frame < MOST_TIMES_A_FRAME * short_frame
     tab.value(f"page.goToStep({count // 2})")

@@ -68,9 +68,13 @@ class _Parser(argparse.ArgumentParser):
 
 def _options() -> argparse.ArgumentParser:
     parser = _Parser(prog=_NAME, description="A prompt over a session, forwards and backwards in time.")
-    parser.add_argument("file", metavar="FILE", nargs="?", help="a scenario or a trace, - for standard input; a new session without it")
+    parser.add_argument(
+        "file", metavar="FILE", nargs="?", help="a scenario or a trace, - for standard input; a new session without it"
+    )
     parser.add_argument("--at", type=int, metavar="N", help="begin after step N, from 1; else after the last one")
-    parser.add_argument("--batch", metavar="COMMANDS", help="do these commands, with ; between two, and leave; status 1 if one fails")
+    parser.add_argument(
+        "--batch", metavar="COMMANDS", help="do these commands, with ; between two, and leave; status 1 if one fails"
+    )
     parser.add_argument("--shrink", metavar="OUT", help="write a scenario with fewer steps that keeps what --keep says")
     parser.add_argument(
         "--keep",

@@ -22,7 +22,18 @@ from .step_words import Unclear, step_of, words_of
 from .timeline import Refused, Step, Timeline, change_text, tree_of
 from .viewing import view
 
-_SHORT = {"n": "next", "p": "back", "b": "back", "g": "goto", "c": "continue", "rc": "reverse", "s": "state", "l": "list", "w": "why", "q": "quit"}
+_SHORT = {
+    "n": "next",
+    "p": "back",
+    "b": "back",
+    "g": "goto",
+    "c": "continue",
+    "rc": "reverse",
+    "s": "state",
+    "l": "list",
+    "w": "why",
+    "q": "quit",
+}
 _SHOWN = 10  # steps before and after the one at the cursor
 
 
@@ -212,7 +223,10 @@ class Prompt(cmd.Cmd):
             self._complain(f"compare [N]: N is 0 to {len(self._branches) - 1}")
             return
         left, right = self._timeline_of(int(words or 0)), self._timeline()
-        same = next((at for at, (one, other) in enumerate(zip(left.steps, right.steps)) if one.words() != other.words()), min(len(left), len(right)))
+        same = next(
+            (at for at, (one, other) in enumerate(zip(left.steps, right.steps)) if one.words() != other.words()),
+            min(len(left), len(right)),
+        )
         self._print(f"{same} steps are the same")
         for mark, timeline in (("-", left), ("+", right)):
             for step in timeline.steps[same : same + 2 * _SHOWN]:

@@ -68,7 +68,9 @@ def _session_of_trace(path: str, name: str, text: bytes, program: Optional[str])
         session = Session(name, steps, setting)
         if [_reply_of(json.loads(line)) for line in lines_of(session.text(), "--json=trace", program=program)] == replies:
             return session
-    raise Refused(f"{path}: the program answers these steps in another way: the trace has only some users' steps, or is another program's")
+    raise Refused(
+        f"{path}: the program answers these steps in another way: the trace has only some users' steps, or is another program's"
+    )
 
 
 def _reply_of(line: Mapping[str, Any]) -> dict[str, Any]:
@@ -100,7 +102,7 @@ def _python_test(session: Session, lines: Sequence[str]) -> str:
     steps = "".join(f"    ({step!r}, {line!r}),\n" for step, line in _pairs(session, lines))
     setting = session.kill_on_debugger_exit
     given = "" if setting is None else f"kill_on_debugger_exit={setting}"
-    return f'''import tracehost
+    return f"""import tracehost
 
 # a step, and the line of its reply
 STEPS = [
@@ -111,12 +113,12 @@ def test_{_identifier(session.name)}() -> None:
     with tracehost.Host({given}) as host:
         for number, (step, line) in enumerate(STEPS, 1):
             assert host.line(step) == line, f"step {{number}}: {{step}}"
-'''
+"""
 
 
 def _c_test(session: Session, lines: Sequence[str]) -> str:
     steps = "".join(f"    {{{_quoted(step)},\n     {_quoted(line)}}},\n" for step, line in _pairs(session, lines))
-    return f'''#include <stdbool.h>
+    return f"""#include <stdbool.h>
 #include <stdint.h>
 #include <stdio.h>
 #include <string.h>
@@ -145,12 +147,12 @@ int main(void)
     tracehost_close(&host);
     return failed;
 }}
-'''
+"""
 
 
 def _rust_test(session: Session, lines: Sequence[str]) -> str:
     steps = "".join(f"    (\n        {_quoted(step)},\n        {_quoted(line)},\n    ),\n" for step, line in _pairs(session, lines))
-    return f'''use tracehost::{{Session, Settings}};
+    return f"""use tracehost::{{Session, Settings}};
 
 /// A step, and the line of its reply.
 const STEPS: &[(&str, &str)] = &[
@@ -164,7 +166,7 @@ fn {_identifier(session.name)}() {{
         assert_eq!(session.line(step).unwrap(), *line, "{{step}}");
     }}
 }}
-'''
+"""
 
 
 def _identifier(name: str) -> str:

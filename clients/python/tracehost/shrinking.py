@@ -61,7 +61,9 @@ class _Replay:
 
     def __init__(self, session: Session, timeline: Timeline) -> None:
         self._session = session
-        self._library = library.find(needed=True)
+        found = library.find(needed=True)
+        assert found is not None
+        self._library = found
         self._births = [self._born(timeline, step) for step in timeline.steps]
         self._all = {number for numbers in self._births for number in numbers}
         self.runs = 0

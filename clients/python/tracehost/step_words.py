@@ -6,7 +6,7 @@
 from __future__ import annotations
 
 import difflib
-from collections.abc import Mapping, Sequence
+from collections.abc import Callable, Mapping, Sequence
 from typing import Any
 
 from .conditions import SIGNAL_REQUESTS
@@ -221,14 +221,14 @@ def _words_of_rule(rule: Mapping[str, Any]) -> str:
 
 
 # an op or an act that is missing here has no further words
-_WORDS = {
+_WORDS: dict[str, Callable[[Mapping[str, Any]], list[str]]] = {
     "ptrace": _words_of_ptrace,
     "wait4": _words_of_wait4,
     "kill": lambda step: [str(step["which"]), _name_of(step["signal"])],
     "sigaction": lambda step: [_name_of(step["signal"]), step["action"]],
     "install": lambda step: [", ".join(map(_words_of_rule, step["rules"]))],
 }
-_WORDS_OF_ACTS = {
+_WORDS_OF_ACTS: dict[str, Callable[[Mapping[str, Any]], list[str]]] = {
     "raise": lambda step: [_name_of(step["signal"])],
     "block": lambda step: [_name_of(signal) for signal in step["set"]],
     "enter": lambda step: [step["call"], *([str(step["code"])] if "code" in step else [])],

@@ -5,7 +5,7 @@ from __future__ import annotations
 import json
 import subprocess
 from bisect import bisect_right
-from collections.abc import Iterator, Mapping, Sequence
+from collections.abc import Callable, Iterator, Mapping, Sequence
 from typing import Any, NamedTuple, Optional
 
 from .naming import status_text
@@ -59,7 +59,9 @@ class Cause(NamedTuple):
 class Timeline:
     """The steps of a session that the program runs. Steps are counted from 1; at 0 nothing is there yet."""
 
-    def __init__(self, steps: Sequence[Mapping[str, Any]], kill_on_debugger_exit: Optional[bool] = None, program: Optional[str] = None) -> None:
+    def __init__(
+        self, steps: Sequence[Mapping[str, Any]], kill_on_debugger_exit: Optional[bool] = None, program: Optional[str] = None
+    ) -> None:
         """Raises Refused."""
         self.steps: list[Step] = []
         self._changed: list[list[int]] = []
@@ -172,7 +174,9 @@ def scenario_text(steps: Sequence[Mapping[str, Any]], kill_on_debugger_exit: Opt
 def lines_of(scenario: str, *options: str, program: Optional[str] = None) -> list[str]:
     """The lines that the program prints of a scenario. Raises Refused, with what it says, and OSError."""
     command = [program or default(), *options, "--explain=always", "-"]
-    done = subprocess.run(command, input=scenario.encode("utf-8", "surrogateescape"), stdout=subprocess.PIPE, stderr=subprocess.PIPE, check=False)
+    done = subprocess.run(
+        command, input=scenario.encode("utf-8", "surrogateescape"), stdout=subprocess.PIPE, stderr=subprocess.PIPE, check=False
+    )
     if done.returncode:
         raise Refused(done.stderr.decode("utf-8", "replace").strip() or f"{command[0]}: status {done.returncode}")
     return done.stdout.decode().splitlines()
@@ -208,7 +212,7 @@ def _info(reply: Mapping[str, Any]) -> str:
     return f"LWP {reply['lwp']}, event {reply['event']}, {_flags(reply['flags'])}{sets}{child}{code}"
 
 
-_ANSWERS = {
+_ANSWERS: dict[str, Callable[[Mapping[str, Any]], str]] = {
     "new": lambda reply: f"new process {reply['pid']}, LWP {reply['lwp']}",
     "number": lambda reply: str(reply["number"]),
     "status": lambda reply: f"{reply['pid']} {status_text(reply['word'])}",
@@ -238,7 +242,9 @@ def change_text(change: Change) -> str:
     if change.before is None:
         return f"{name} is new: {row_text(change.after)}"
     before, after = change.before, change.after
-    fields = [field for field in (*before, *(field for field in after if field not in before)) if before.get(field) != after.get(field)]
+    fields = [
+        field for field in (*before, *(field for field in after if field not in before)) if before.get(field) != after.get(field)
+    ]
     return f"{name}: " + ", ".join(f"{field} {value_text(before.get(field))} => {value_text(after.get(field))}" for field in fields)
 
 
@@ -257,7 +263,9 @@ def tree_of(rows: Mapping[int, Row]) -> list[str]:
         lines.append(f"{'  ' * depth}{number}: {row_text(processes[number])}")
         for lwp, row in rows.items():
             if "lwp" in row and row["pid"] == number:
-                lines.append(f"{'  ' * depth}  LWP {lwp}: {row_text({name: value for name, value in row.items() if name != 'pid'})}")
+                lines.append(
+                    f"{'  ' * depth}  LWP {lwp}: {row_text({name: value for name, value in row.items() if name != 'pid'})}"
+                )
         for child, row in processes.items():
             if row["parent"] == number:
                 add(child, depth + 1)
