@@ -245,6 +245,12 @@ def test_the_commands_of_the_viewer(installed: Environment, tmp_path: Path, comm
     assert run([installed.bin / command, "nosuch"], tmp_path, status=1) == f"{command}: nosuch: No such file or directory\n"
 
 
+def test_the_debugger(installed: Environment, tmp_path: Path) -> None:
+    """It finds the program and the library of the package."""
+    words = [installed.bin / "tracehost-debug", TOP / "examples/first.json", "--batch", "goto 3; list 1000"]
+    assert "1001 3 pids 1000 1001\n" in run(words, tmp_path)
+
+
 @needs("mypy")
 @pytest.mark.parametrize(("more", "wanted"), [("", 0), ("name: str = user.spawn().pid\n", 1)], ids=["right", "wrong"])
 def test_mypy_sees_types(installed: Environment, tmp_path: Path, more: str, wanted: int) -> None:
