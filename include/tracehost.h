@@ -42,7 +42,7 @@ typedef struct tracehost { void *session; uint64_t tag; } tracehost;
 #define TRACEHOST_CLOSED {NULL, 0}
 
 /* tools/format version */
-#define TRACEHOST_VERSION "0.21.0"
+#define TRACEHOST_VERSION "0.22.0"
 /* end */
 
 /* What a call returns. After 1, 2, 3 and 5 the session, and all that the call's pointers lead to, are as before. */

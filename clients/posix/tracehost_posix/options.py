@@ -14,7 +14,7 @@ from .report import say, writing
 
 USAGE = 2
 # tools/format version
-VERSION = "0.21.0"
+VERSION = "0.22.0"
 # end
 
 

@@ -53,7 +53,7 @@ from .steps import Act, Block, Compute, Enter, Leave, Raise, Rule
 from .viewing import view
 
 # tools/format version
-__version__ = "0.21.0"
+__version__ = "0.22.0"
 # end
 
 __all__ = [

@@ -4,6 +4,7 @@ use Rattle.requests.specs.CommonNames.{ℕ, true, Some, Errno, ProcData, process
 use Rattle.requests.specs.Outcome.{answers}
 use Rattle.requests.specs.Step.{Machine, after, step}
 use Rattle.step_types.specs.Plain.{caller_of}
+use Rattle.requests.specs.declared.host.Bar.{Bar}
 
 -- a process of the user that runs
 pub record IsCaller (user : ℕ) (p : ProcData) (rows : Rows) : Type 0 where
@@ -21,3 +22,8 @@ pub record IsCallerByNumber (user n : ℕ) (rows : Rows) (p : ProcData) : Type 0
 pub record Barred (user n : ℕ) (m : Machine) (r : Reply) : Type 0 where
   pub answer : (s : PlainStep) → caller_of s ≡ Some n → step user s m ≡ after m (answers r m.rows)
   pub other : r ≢ Reply.Errno Errno.ENOMEM
+
+-- the reply to each step of a number that may make none
+abbrev pub bar_reply : Bar → Reply
+bar_reply Bar.Missing = Reply.Errno Errno.ESRCH
+bar_reply Bar.Held = Reply.Held

@@ -3,7 +3,7 @@
 ghost use Rattle.std.specs.Prelude.{◌≡◌, None, true, false, IfOk, IfErr, OnOk, option_map, slice_get};
 ghost use Rattle.pid_blocks.specs.Users.{IsUser};
 ghost use Rattle.step_types.specs.declared.step.Step.TheVariants as op;
-ghost use Rattle.requests.specs.Callers.{IsCallerByNumber, Barred};
+ghost use Rattle.requests.specs.Callers.{IsCallerByNumber, Barred, bar_reply};
 ghost use Rattle.requests.specs.Hosts.{Steps};
 ghost use Rattle.step_types.specs.Plain.{installs};
 ghost use Rattle.requests.specs.Making.{Makes};
@@ -34,6 +34,29 @@ fn fits<H>(step: &Step<H>)
     } = step
     {
         let _byte = *code;
+    }
+}
+
+/// Why a number may make no step.
+#[derive(Clone, Copy, Drop)]
+enum Bar {
+    /// It names no process of the user, or one that has ended.
+    Missing,
+    /// Its process doesn't run.
+    Held,
+}
+
+impl Bar {
+    /// Returns the reply to each step of such a number. `caller` itself returns no reply: one that is passed on from an
+    /// inlined function is copied at each level.
+    #[inline(always)]
+    fn reply(self) -> Reply
+        ensures { result ≡ bar_reply self }
+    {
+        match self {
+            Bar::Missing => Reply::Errno(Errno::ESRCH),
+            Bar::Held => Reply::Held,
+        }
     }
 }
 
@@ -126,22 +149,22 @@ impl<F: Decider + Send + Drop> Host<F> {
         self.handlers.at(user, index)
     }
 
-    /// Returns the caller with this number, a process that runs. The error is the reply to a step with such a caller.
+    /// Returns the caller with this number, a process that runs. The error says why there is none.
     #[inline(always)]
     #[tactic(auto, using(std::proofs::lemmas::Bool::Decides::nat_tests))]
-    fn caller(&self, user: Uid, caller: u32) -> Result<ProcData, Reply>
+    fn caller(&self, user: Uid, caller: u32) -> Result<ProcData, Bar>
         ensures found { IfOk result (IsCallerByNumber user caller self.now.rows) }
-        ensures barred { IfErr result (Barred user caller self.now) }
+        ensures barred { IfErr result (λ bar. Barred user caller self.now (bar_reply bar)) }
     {
         let _settings = self.settings;
         let Some(asking) = self.tables.visible_process(user, caller) else {
-            return Err(Reply::Errno(Errno::ESRCH));
+            return Err(Bar::Missing);
         };
         if !asking.is_live() {
-            return Err(Reply::Errno(Errno::ESRCH));
+            return Err(Bar::Missing);
         }
         if !asking.is_run() {
-            return Err(Reply::Held);
+            return Err(Bar::Held);
         }
         Ok(asking)
     }
@@ -154,7 +177,7 @@ impl<F: Decider + Send + Drop> Host<F> {
     {
         let caller = match self.caller(user, number) {
             Ok(caller) => caller,
-            Err(refusal) => return refusal,
+            Err(bar) => return bar.reply(),
         };
         if self.handlers.count(user) >= MAX_HANDLERS {
             return Reply::Errno(Errno::EAGAIN);
@@ -182,7 +205,7 @@ impl<F: Decider + Send + Drop> Host<F> {
             Some(number) => {
                 let caller = match self.caller(user, number) {
                     Ok(caller) => caller,
-                    Err(refusal) => return refusal,
+                    Err(bar) => return bar.reply(),
                 };
                 let reply = called(
                     &mut self.tables,

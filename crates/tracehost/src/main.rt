@@ -45,7 +45,7 @@ use stop_handlers::{Decider, Handler};
 use trace_stop::Settings;
 
 /// The version of the program and of all that comes with it.
-const VERSION: &str = "0.21.0";
+const VERSION: &str = "0.22.0";
 
 /// How many bytes of lines are read, or of answers written, by one call. A pipe holds as many.
 const BUFFER_BYTES: usize = 65536;

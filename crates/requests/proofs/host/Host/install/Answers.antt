@@ -5,7 +5,7 @@ use Rattle.requests.proofs.host.Host.install.Goals.{in-Ok-install, in-Err-instal
 use Rattle.requests.proofs.host.Host.install.Goals as goal
 
 pub returns-in-Err : goal.returns-in-Err
-returns-in-Err g c = host_barred c.self.view_is c.requires c.self.invariant refl refl c.in-Err.ensures.barred
+returns-in-Err g c = rw (c.reply.ensures) (host_barred c.self.view_is c.requires c.self.invariant refl refl c.in-Err.ensures.barred)
 
 pub returns-then-count-ge-MAX_HANDLERS : goal.returns-then-count-ge-MAX_HANDLERS
 returns-then-count-ge-MAX_HANDLERS g c = grind (arith, nat_tests, host_full c.self.view_is c.requires c.self.invariant c.in-Ok.ensures.found c.args.handler (subst (λ (x : Machine). 64 ≤ length (installed_by c.args.user x)) c.self.view_is (subst (λ n. 64 ≤ n) c.count.ensures c.if-count-ge-MAX_HANDLERS.true)))

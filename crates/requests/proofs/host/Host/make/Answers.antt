@@ -7,7 +7,7 @@ pub uncalled-reply-requires-clause-sound : goal.uncalled-reply-requires-clause-s
 uncalled-reply-requires-clause-sound g c κs within = rows_sound (machine_of c.self.inside.settings c.self.inside.tables c.self.inside.handlers) c.self.invariant
 
 pub returns-in-Err : goal.returns-in-Err
-returns-in-Err g c = host_barred c.self.view_is c.requires.user c.self.invariant c.fits.ensures (sym c.caller.ensures ∙ c.in-Some.is) c.in-Err.ensures.barred
+returns-in-Err g c = rw (c.reply.ensures) (host_barred c.self.view_is c.requires.user c.self.invariant c.fits.ensures (sym c.caller.ensures ∙ c.in-Some.is) c.in-Err.ensures.barred)
 
 pub called-reply-requires-clause-sound : goal.called-reply-requires-clause-sound
 called-reply-requires-clause-sound g c κs within = rows_sound (machine_of c.self.inside.settings c.self.inside.tables c.self.inside.handlers) c.self.invariant
