@@ -25,6 +25,7 @@ from tracehost.prompt import Prompt
 from tracehost.saving import Session, read_session
 from tracehost.shrinking import Keep, shrink
 from tracehost.step_words import step_of, words_of
+from tracehost.story import story
 from tracehost.timeline import Refused, Timeline, answer_text
 
 ROWS = sorted((TOP / "tests/rows/sessions").glob("*.json"))
@@ -238,6 +239,33 @@ def test_a_batch_has_a_status(commands: str, status: int) -> None:
     assert (done.returncode, done.stderr) == (status, "")
     assert all(f"tracehost> {one.strip()}\n" in done.stdout for one in commands.removesuffix("; fly").split(";"))
     assert "no step: fly" in done.stdout or "quit" in commands or "fly" not in commands
+
+
+# ---- a story
+
+
+@pytest.mark.parametrize("file", [*ROWS, *(TOP / "examples").glob("*.json")], ids=lambda file: file.stem)
+def test_a_story_has_twenty_lines(file: Path) -> None:
+    if file.stem == "broken":
+        return
+    session = read_session(str(file))
+    for at in sorted({0, 1, len(session.steps) // 2, len(session.steps)}) if len(session.steps) < 300 else ():
+        lines = story(session, "FILE", at)
+        assert len(lines) <= 20 and all(len(line) <= 150 for line in lines)
+        assert lines[-1] == f"to go on from here: tracehost-debug FILE{'' if at == len(session.steps) else f' --at {at}'}"
+
+
+def test_a_story_says_why_and_whom_it_concerns() -> None:
+    done = command(VFORK, "--story", "--at", "13")
+    lines = done.stdout.splitlines()
+    assert lines[0] == "step 13 of user 1001: turn 100001 compute -> held   (LWP 100001 waits for the child of its vfork)"
+    assert lines[1:4] == [
+        "  LWP 100001: pid 1001, mode waits_for_vfork, vfork_child 1002",
+        "  1001: parent 1, tracer 1000, state runs, events PTRACE_EXEC PTRACE_FORK PTRACE_VFORK",
+        "  1000: parent 1, state runs",
+    ]
+    assert re.findall(r"^ +(\d+) \w+ \d", done.stdout, re.MULTILINE) == ["9", "10", "11", "12", "13"]
+    assert command("--story").returncode == 2
 
 
 # ---- files

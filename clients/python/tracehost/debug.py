@@ -25,6 +25,7 @@ from .errors import ProgramEnded
 from .prompt import Prompt
 from .saving import Session, read_session
 from .shrinking import Keep, shrink, shrink_refused
+from .story import story
 from .timeline import Refused
 
 __all__ = ["main"]
@@ -72,6 +73,7 @@ def _options() -> argparse.ArgumentParser:
         "file", metavar="FILE", nargs="?", help="a scenario or a trace, - for standard input; a new session without it"
     )
     parser.add_argument("--at", type=int, metavar="N", help="begin after step N, from 1; else after the last one")
+    parser.add_argument("--story", action="store_true", help="print what the session comes to, in at most twenty lines")
     parser.add_argument(
         "--batch", metavar="COMMANDS", help="do these commands, with ; between two, and leave; status 1 if one fails"
     )
@@ -90,8 +92,8 @@ def _options() -> argparse.ArgumentParser:
 
 def _session_of(given: argparse.Namespace, parser: argparse.ArgumentParser) -> Session:
     if given.file is None:
-        if given.shrink is not None or given.at is not None:
-            parser.error("--at and --shrink need a FILE")
+        if given.shrink is not None or given.at is not None or given.story:
+            parser.error("--at, --story and --shrink need a FILE")
         setting = None if given.kill_on_debugger_exit is None else given.kill_on_debugger_exit == "1"
         return Session("session", (), setting)
     if given.kill_on_debugger_exit is not None:
@@ -119,6 +121,9 @@ def _run(words: Optional[Sequence[str]]) -> int:
         return _shrink(given, session, parser)
     if given.at is not None and not 0 <= given.at <= len(session.steps):
         parser.error(f"--at {given.at}: there are {len(session.steps)} steps")
+    if given.story:
+        print("\n".join(story(session, given.file, given.at, given.program)))
+        return 0
     try:
         prompt = Prompt(session, given.at, given.program)
     except OSError as error:

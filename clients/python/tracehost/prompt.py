@@ -367,11 +367,7 @@ class Prompt(cmd.Cmd):
 
     def _reason(self) -> str:
         """What the errno of the step before the cursor says, or why it is held."""
-        step = self._timeline().steps[self._at - 1]
-        if step.reply["reply"] not in ("error", "held"):
-            return ""
-        host = self._model.after(self._steps()[: self._at - 1])
-        return _why(host, self._steps()[self._at - 1], step.reply.get("errno"))
+        return _reason(self._model, self._steps(), self._timeline().steps[self._at - 1])
 
     def _make(self, text: str) -> None:
         """Makes a step after the cursor. If that isn't the end, it begins a branch."""
@@ -421,6 +417,23 @@ def _why(host: Host, step: Mapping[str, Any], name: Optional[str]) -> str:
     if name is None:
         return f"   ({str(host._held(asked)).split('held, ', 1)[-1]})"
     return f"   ({str(host._refusal(Answered(name), asked).strerror).split(f'{name}, ', 1)[-1]})"
+
+
+def _reason(model: _Model, steps: Sequence[Mapping[str, Any]], step: Step) -> str:
+    """What the errno of one of the steps says, or why it is held; "" if it is neither."""
+    if step.reply["reply"] not in ("error", "held"):
+        return ""
+    host = model.after(steps[: step.number - 1])
+    return _why(host, steps[step.number - 1], step.reply.get("errno"))
+
+
+def reason_of(session: Session, step: Step, program: Optional[str] = None) -> str:
+    """The same of a step of the session."""
+    model = _Model(session.kill_on_debugger_exit, program)
+    try:
+        return _reason(model, session.steps, step)
+    finally:
+        model.close()
 
 
 def _differences(left: Timeline, right: Timeline) -> list[str]:

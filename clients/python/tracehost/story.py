@@ -1,0 +1,63 @@
+"""What a failed session comes to, in at most twenty lines: the last step and why, whom it concerns, and what the last steps changed."""
+
+from __future__ import annotations
+
+from collections.abc import Iterator, Mapping
+from typing import Any, Optional
+
+from .prompt import reason_of
+from .saving import Session
+from .timeline import Row, Step, Timeline, change_text, row_text
+
+_LAST = 5  # steps
+_MOST_ROWS = 6
+_WIDTH = 150
+
+
+def story(session: Session, file: str, at: Optional[int] = None, program: Optional[str] = None) -> list[str]:
+    """The lines. The session is that of the file, and it failed after step `at`, or after its last one."""
+    timeline = Timeline(session.steps, session.kill_on_debugger_exit, program)
+    end = len(timeline) if at is None else min(at, len(timeline))
+    command = f"to go on from here: tracehost-debug {file}{'' if end == len(timeline) else f' --at {end}'}"
+    if not end:
+        return ["no step was made", command]
+    step = timeline.steps[end - 1]
+    lines = [f"step {end} of user {step.user}: {step.words()}{reason_of(session, step, program)}"]
+    lines += [f"  {line}" for line in _concerned(timeline, end, step)]
+    lines.append("the last steps, and what each changed:")
+    for one in timeline.steps[max(0, end - _LAST) : end]:
+        lines.append(f"{one.number:6} {one.words()}")
+        changes = "; ".join(map(change_text, timeline.changes(one.number)))
+        lines += [f"         {_cut(changes)}"] if changes else []
+    return [_cut(line) for line in lines] + [command]
+
+
+def _concerned(timeline: Timeline, at: int, step: Step) -> list[str]:
+    """The rows of the processes and LWPs that a step and its reply name, and of who traces them."""
+    rows = timeline.rows(at, step.user)
+    numbers = dict.fromkeys(number for number in _named(step, rows) if number in rows)
+    return [f"{'LWP ' if 'lwp' in rows[number] else ''}{number}: {row_text(rows[number])}" for number in list(numbers)[:_MOST_ROWS]]
+
+
+def _named(step: Step, rows: Mapping[int, Row]) -> Iterator[int]:
+    for member in ("caller", "target", "which", "lwp"):
+        yield from _with_others(step.asked.get(member), rows)
+    for member in ("pid", "lwp", "child"):
+        yield from _with_others(step.reply.get(member), rows)
+
+
+def _with_others(number: Any, rows: Mapping[int, Row]) -> Iterator[int]:
+    """A process or an LWP, the process of an LWP, and the tracer."""
+    row = rows.get(number)
+    if row is None:
+        return
+    yield number
+    if "lwp" in row:
+        yield row["pid"]
+    tracer = rows.get(row["pid"], row).get("tracer")
+    if tracer is not None:
+        yield tracer
+
+
+def _cut(line: str) -> str:
+    return line if len(line) <= _WIDTH else f"{line[: _WIDTH - 3]}..."
