@@ -55,7 +55,7 @@ class Reader:
         self._environment = {"PATH": f"{room}/bin:{PATH}", "HOME": str(room), "PYTHONPATH": str(clone / "clients/python")}
 
     def types(self, command: str, lines: str = "") -> Printed:
-        if command.startswith("export "):
+        if command.startswith(("export ", ". ")):
             self._exports.append(command)
             return Printed("", 0)
         done = subprocess.run(
