@@ -34,10 +34,10 @@ def with_the_cure(debugger: str) -> str:
 @needs("python3")
 def test_the_tutorial(clone: pathlib.Path, tmp_path: pathlib.Path) -> None:
     reader = Reader(clone, tmp_path)
-    first, exported, passing, failing, cured = shown(f"docs/{PAGE}")
+    activated, first, passing, failing, cured = shown(f"docs/{PAGE}")
+    assert activated == Shown(". ./activate", "")
+    reader.types(activated.command)
     assert reader.has(*first).status == 0
-    assert exported == Shown("export PYTHONPATH=$PWD/clients/python", "")
-    reader.types(exported.command)
 
     debugger, test = clone / "sandbox.py", clone / "test_sandbox.py"
     debugger.write_text(file(0))
@@ -52,6 +52,8 @@ def test_the_tutorial(clone: pathlib.Path, tmp_path: pathlib.Path) -> None:
     made = pathlib.Path(page[1])
     assert made.read_text(encoding="utf-8").rstrip().endswith("</html>")
     replayed = reader.types(f"tracehost {made.parent}/session.json --expect {made.parent}/session.out")
+    back = reader.types(f"tracehost-debug {made.parent}/session.json --batch 'reverse is new'")
+    assert "process 1002 is new: parent 1001, state runs\n" in back.text
     assert (replayed.status, replayed.text) == (0, "")
 
     debugger.write_text(with_the_cure(file(0)))
@@ -71,6 +73,6 @@ def test_a_grandchild(tracehost: Host) -> None:
     assert ends(tracehost, *acts) == {1001: "exited", 1002: "exited"}
 """
     )
-    reader.types("export PYTHONPATH=$PWD/clients/python")
+    reader.types(". ./activate")
     printed = reader.types("python3 -m pytest -q -p tracehost.pytest_plugin test_sandbox.py")
     assert (printed.status, "3 passed" in printed.text) == (0, True), printed.text
