@@ -80,6 +80,9 @@ setup(
     license=(answer_of("licenses", "sum") if built else None) or "BSD-2-Clause",
     cmdclass={"build_py": BuildPackage},
     # the name is the module's, so that pytest takes -p tracehost.pytest_plugin and an installed package for one plugin
-    entry_points={"pytest11": ["tracehost.pytest_plugin = tracehost.pytest_plugin"], "console_scripts": commands},
+    entry_points={
+        "pytest11": [f"tracehost.{name} = tracehost.{name}" for name in ("pytest_plugin", "pytest_scenarios")],
+        "console_scripts": commands,
+    },
     options={"bdist_wheel": {"plat_name": platform(built)}} if built else {},
 )
