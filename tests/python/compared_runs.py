@@ -3,6 +3,7 @@
 from __future__ import annotations
 
 import json
+import re
 import subprocess
 from collections.abc import Sequence
 from pathlib import Path
@@ -118,6 +119,26 @@ def compared(texts: list[tuple[str, str]]) -> list[list[dict[str, Any]]]:
     runs = [[MAKER.reading.Read(name, text) for name, text in zip(("left", "right"), pair)] for pair in texts]
     found: list[list[dict[str, Any]]] = node(PAIRS, [MAKER.compare.Runs(pair).data([]) for pair in runs])
     return found
+
+
+def names_in(pair: tuple[str, str]) -> dict[int, dict[int, int]]:
+    """For each user the numbers of the right run that the page takes for others of the left one."""
+    runs = [MAKER.reading.Read(name, text) for name, text in zip(("left", "right"), pair)]
+    found: dict[int, dict[int, int]] = {}
+    for user, old, new in MAKER.compare.Runs(runs).data([])["names"]:
+        found.setdefault(user, {})[new] = old
+    return found
+
+
+def with_names(line: Line, names: dict[int, int]) -> Line:
+    """The line with the left run's numbers: no other numbers of a line are as high, but a status and a system call's code."""
+    kept = {key: line[key] for key in ("word", "code", "status", "argument", "step", "index", "user") if key in line}
+    text = re.sub(
+        r"(?<![\w.-])\d{4,6}(?!\w)",
+        lambda found: str(names.get(int(found[0]), -int(found[0]) if int(found[0]) in names.values() else found[0])),
+        json.dumps(line),
+    )
+    return {**json.loads(text), **kept}
 
 
 def trace_of(program: Path, steps: Sequence[Step], how: str = "trace+rows", kills: bool = True) -> str:

@@ -5,14 +5,16 @@ from __future__ import annotations
 import json
 import random
 import re
+from collections import Counter
 from pathlib import Path
 from typing import Any
 
 import pytest
 from by_chance import scenario
 from checking import TOP, needs
-from compared_runs import Line, Run, Step, Steps, common_runs, compared, lines_of, node, said, trace_of
+from compared_runs import Line, Run, Step, Steps, common_runs, compared, lines_of, names_in, node, said, trace_of, with_names
 from viewer_pages import run_make
+from viewer_runs import long_scenario
 
 RUNS = """
 import { commonRuns } from "SOURCE/compare_align.mjs";
@@ -119,7 +121,8 @@ def first_difference(left: list[Line], right: list[Line]) -> int | None:
 
 def check_pairs(pairs: list[dict[str, Any]], traces: tuple[str, str]) -> None:
     """Each step is in one pair, in its user's order; kinds are what the lines say; the first difference is the plain one."""
-    sides = [lines_of(trace) for trace in traces]
+    names = names_in(traces)
+    sides = [lines_of(traces[0]), [with_names(line, names.get(line["user"], {})) for line in lines_of(traces[1])]]
     numbered = [{line["index"]: line for line in lines} for lines in sides]
     assert [sorted(pair[side] for pair in pairs if pair[side]) for side in ("left", "right")] == [sorted(one) for one in numbered]
     users = [by_user(lines) for lines in sides]
@@ -167,6 +170,46 @@ def test_random_sessions_with_an_edit(program: Path) -> None:
     for pairs, texts in zip(found, traces):
         check_pairs(pairs, texts)
     assert sum(any(pair["first"] for pair in pairs) for pairs in found) > EDITS / 2
+
+
+def shifted(step: Step) -> Step:
+    """A step of user 1001 whose processes but the first, and their LWPs, have a number more by one."""
+    if step["user"] != 1001:
+        return step
+    more = {key: step[key] + 1 for key in ("caller", "target", "which", "lwp") if step.get(key, 0) > 1000 and step[key] != 100_000}
+    return {**step, **more}
+
+
+@needs("node")
+@pytest.mark.parametrize("first", [True, False], ids=["right", "left"])
+def test_one_more_process_is_one_difference(program: Path, first: bool) -> None:
+    """Those behind it got other numbers, and are the same. Only the run that has it is named."""
+    steps = long_scenario(400)["steps"]
+    more = [*steps[:4], {"user": 1001, "op": "spawn"}, *map(shifted, steps[4:])]
+    traces = (trace_of(program, steps), trace_of(program, more))
+    (pairs,) = compared([traces if first else traces[::-1]])
+    different = [pair for pair in pairs if pair["kind"] != "same"]
+    assert [(pair["kind"], pair["left"], pair["right"]) for pair in different] == [
+        ("right", None, 5) if first else ("left", 5, None)
+    ]
+    names = names_in(traces)
+    assert set(names) == {1001} and names[1001][1002] == 1001 and names[1001][100_002] == 100_001
+
+
+@needs("node")
+def test_numbers_are_taken_for_others_only_if_more_is_the_same_then(program: Path) -> None:
+    for seed in range(EDITS):
+        chance = random.Random(seed)
+        steps = scenario(chance)["steps"]
+        traces = (trace_of(program, steps), trace_of(program, changed(chance, steps)))
+        for user, own in names_in(traces).items():
+            left, right = ([said(line) for line in lines_of(trace) if line["user"] == user] for trace in traces)
+            assert len(set(own.values())) == len(own)
+            counts = [
+                sum((Counter(map(json.dumps, left)) & Counter(json.dumps(with_names(line, names)) for line in right)).values())
+                for names in ({}, own)
+            ]
+            assert counts[0] < counts[1]
 
 
 @needs("node")

@@ -3,7 +3,6 @@
 from __future__ import annotations
 
 import json
-import os
 import random
 from collections.abc import Iterator
 from pathlib import Path
@@ -15,14 +14,15 @@ from by_chance import scenario
 from checking import TOP
 from compared_runs import Step, lines_of, trace_of
 from test_trace_rows import State
-from test_viewer_compare import changed
+from test_viewer_compare import changed, shifted
 from test_viewer_state import lwp_words, process_words
 from viewer_browser import Tab
 from viewer_pages import Pages, browser, needs_browser, run_make, viewed
+from viewer_yardstick import OF_TWO_RUNS, times_to_open, yardstick
 
 __all__ = ["viewed"]  # a fixture
 Object = dict[str, Any]
-MOST_SECONDS_OF_40000 = 2
+MOST_TIMES_TO_OPEN = 6  # of the yardstick's time
 SESSIONS, ROWS_OF_A_SESSION = 12, 20
 ALARM = "document.body.dataset.executed = 1"
 EXAMPLE = json.loads((TOP / "examples/follow_a_fork.json").read_text())["steps"]
@@ -80,6 +80,17 @@ def current(tab: Tab) -> Object:
     (row,) = [row for row in tab.value(ROWS) if row["isCurrent"]]
     found: Object = row
     return found
+
+
+def test_other_numbers_of_the_same_processes(compared: Compared) -> None:
+    """One more spawn is the only difference, and the page says who got another number."""
+    steps = viewer_runs.long_scenario(400)["steps"]
+    tab = compared.open(compared.of_steps(steps, [*steps[:4], {"user": 1001, "op": "spawn"}, *map(shifted, steps[4:])]))
+    assert text_of(tab, "verdict") == "The runs differ in one place at step 2 of user 1001, which only the right one makes."
+    assert text_of(tab, "renamed") == (
+        "1001 of user 1001 is 1002 in the right run, and 3 more numbers are others: they are compared as the same."
+    )
+    assert text_of(compared.open(compared.of_steps(steps, steps[1:])), "renamed") == ""
 
 
 def text_of(tab: Tab, name: str) -> str:
@@ -369,23 +380,14 @@ def test_a_run_without_steps(compared: Compared) -> None:
     assert len([row for row in tab.value(ROWS) if row["kind"] == "right"]) == 18
 
 
-def seconds_of_pages() -> float:
-    """The processor time of the browser's processes that read, run and lay out pages."""
-    processes = browser().ask("SystemInfo.getProcessInfo")["processInfo"]
-    return sum(float(one["cpuTime"]) for one in processes if one["type"] == "renderer")
-
-
 def test_40000_steps(compared: Compared) -> None:
-    """One step is left out in the middle: opened in two seconds of processor time, and the list scrolls."""
+    """One step is left out in the middle: the page opens fast, and the list scrolls."""
     steps = viewer_runs.long_scenario(40000)["steps"]
     compared.open(compared.of_steps(EXAMPLE, EXAMPLE))  # the browser is there
     page = compared.of_steps(steps, [*steps[:20000], *steps[20001:]])
-    before = seconds_of_pages()
+    other = compared.pages.file("yardstick.html", yardstick(page, OF_TWO_RUNS))
+    assert times_to_open(compared.open, page, other) < MOST_TIMES_TO_OPEN
     tab = compared.open(page)
-    tab.settle()
-    used = seconds_of_pages() - before
-    print(f"40,000 steps beside 39,999: {used:.2f} s of processor time, {os.path.getsize(page) >> 20} MiB")
-    assert used < MOST_SECONDS_OF_40000
     assert "first at step 5001 of user 1001, which only the left one makes" in text_of(tab, "verdict")
     assert tab.value("page.all.length") == 40000
     tab.value("document.getElementById('pairs').scrollTop = 1e9")

@@ -4,17 +4,16 @@ from __future__ import annotations
 
 import base64
 import json
-import re
 import struct
 import zlib
 from collections.abc import Iterator
 from pathlib import Path
-from typing import Any
 
 import pytest
 import viewer_runs as runs
 from viewer_browser import Tab
 from viewer_pages import Pages, browser, lines_of, needs_browser, run_make, viewed
+from viewer_yardstick import OF_A_RUN, processor_seconds, times_to_open, yardstick
 
 __all__ = ["viewed"]  # a fixture
 pytestmark = needs_browser
@@ -23,20 +22,8 @@ NAMES = "page.picture.plan.lanes.map(({ name }) => name)"
 STEPS = "page.picture.plan.steps.map(({ at }) => at + 1)"
 TICKS = "[...document.querySelectorAll('#axis text')].map((text) => Number(text.textContent))"
 FRAMES = 120
-# of the yardstick's time, and of a short session's: both are measured beside the page
-MOST_TIMES_TO_OPEN, MOST_TIMES_A_FRAME = 5, 2
-# It reads the same data, keeps what each step changed, and draws nothing
-YARDSTICK = """<!doctype html><meta charset="utf-8"><title>yardstick</title><body>%s<script>
-const rows = new Map();
-for (const { lines, text } of JSON.parse(document.getElementById("embedded").textContent).files) {
-    for (const { rows: changed } of lines ?? text.trim().split("\\n").map((line) => JSON.parse(line))) {
-        for (const row of changed?.processes ?? []) rows.set(row.pid, row);
-        for (const row of changed?.lwps ?? []) rows.set(row.lwp, row);
-    }
-}
-document.body.textContent = rows.size;
-</script>"""
-DATA = re.compile(r'<script type="application/json" id="embedded">.*?</script>', re.DOTALL)
+# of the yardstick's time, by steps: of a short session most is the drawing; and of a frame of one of 300 steps
+MOST_TIMES_TO_OPEN, MOST_TIMES_A_FRAME = {5000: 8, 40000: 4}, 2
 
 
 class Run:
@@ -243,12 +230,6 @@ def test_a_file_of_png(tabs: list[Tab], some: Run) -> None:
     assert len(colours) > 50
 
 
-def processor_seconds() -> float:
-    """What all pages of the browser have used."""
-    found: list[dict[str, Any]] = browser().ask("SystemInfo.getProcessInfo")["processInfo"]
-    return float(sum(process["cpuTime"] for process in found if process["type"] == "renderer"))
-
-
 def frame_milliseconds(tab: Tab) -> float:
     """Of the processor, for a frame while the picture scrolls: the mean. The tab has to be in front, else it draws none."""
     before = processor_seconds()
@@ -267,34 +248,18 @@ def frame_milliseconds(tab: Tab) -> float:
     return 1000 * (processor_seconds() - before) / FRAMES
 
 
-def seconds_to_open(tabs: list[Tab], page: Path) -> float:
-    """Of the processor, the less of two times."""
-    seconds = []
-    for _ in range(2):
-        before = processor_seconds()
-        open_tab(tabs, page)
-        seconds.append(processor_seconds() - before)
-    return min(seconds)
-
-
-@pytest.mark.parametrize("count", [5000, 40000])
+@pytest.mark.parametrize("count", MOST_TIMES_TO_OPEN)
 def test_a_long_session_is_fast(tabs: list[Tab], pages: Pages, some: Run, count: int) -> None:
     """By the time of the processor, in times what other pages of the same browser take: the machine may have other work."""
     run = Run(pages, runs.long_scenario(count), f"long{count}")
-    data = DATA.search(run.page.read_text())
-    assert data
-    yardstick = pages.file("yardstick.html", (YARDSTICK % data[0]).encode())
+    other = pages.file("yardstick.html", yardstick(run.page, OF_A_RUN))
     open_tab(tabs, pages.empty())  # the browser has begun
-    opening, least = seconds_to_open(tabs, run.page), seconds_to_open(tabs, yardstick)
-    assert int(tabs[-1].value("document.body.textContent")) > 8
+    assert times_to_open(lambda page: open_tab(tabs, page), run.page, other) < MOST_TIMES_TO_OPEN[count]
     short_frame = min(frame_milliseconds(open_tab(tabs, some.page)) for _ in range(2))
     frame = min(frame_milliseconds(open_tab(tabs, run.page)) for _ in range(2))
     tab = tabs[-1]
     assert tab.value("page.picture.plan.columns") == count
-    print(
-        f"{count} steps: opened with {opening:.2f} s of the processor, the yardstick with {least:.2f} s; a frame takes {frame:.1f} ms of it, of 300 steps {short_frame:.1f} ms"
-    )
-    assert opening < MOST_TIMES_TO_OPEN * least
+    print(f"{count} steps: a frame takes {frame:.1f} ms of the processor, of 300 steps {short_frame:.1f} ms")
     assert frame < MOST_TIMES_A_FRAME * short_frame
     tab.value(f"page.goToStep({count // 2})")
     assert tab.value("document.getElementById('active').dataset.line") == str(count // 2)

@@ -2,9 +2,10 @@
 
 /**
  * A step with its reply: the user, the step's number, and the places of its parts among the values: what was asked, the
- * rest of the reply, and the rows, -1 if there are none.
+ * rest of the reply, and the rows, -1 if there are none. If processes have other numbers in the runs, what is compared
+ * follows: three numbers, the same for parts that are the same with the left run's numbers.
  *
- * @typedef {[user: number, step: number, asked: number, said: number, rows: number]} Row
+ * @typedef {[user: number, step: number, asked: number, said: number, rows: number, ...keys: number[]]} Row
  */
 
 /** A step with its reply: an entry of the other pages. */
@@ -14,11 +15,12 @@ export class Line {
    * @param {any[]} values
    * @param {number} index  its place among all lines, from 0
    */
-  constructor([user, step, asked, said, rows], values, index) {
+  constructor([user, step, asked, said, rows, ...keys], values, index) {
     this.user = user;
     this.step = step;
     this.index = index;
     this.places = { asked, said, rows };
+    this.keys = keys.length ? { asked: keys[0], said: keys[1], rows: keys[2] } : this.places;
     this.values = values;
   }
 
@@ -38,7 +40,7 @@ export class Line {
 
   /** Whether both ask the same and have the same reply. @param {Line} other */
   isSameAs(other) {
-    return this.places.asked === other.places.asked && this.places.said === other.places.said;
+    return this.keys.asked === other.keys.asked && this.keys.said === other.keys.said;
   }
 }
 

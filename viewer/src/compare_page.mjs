@@ -13,13 +13,22 @@ const NARROW = matchMedia("(max-width: 700px)");
 
 /** @typedef {import("./compare_runs.mjs").Pair} Pair */
 /** @typedef {{name: string, rows: import("./compare_lines.mjs").Row[]}} File */
+/** @typedef {[user: number, left: number, right: number]} Name  a process or an LWP with other numbers in the runs */
 /** @typedef {{step: number, text: string}} Note  of the step of the right run with this number, over all users */
+
+/** Which processes and LWPs have other numbers in the right run. @param {Name[]} names */
+function renamedText(names) {
+  if (names.length === 0) return "";
+  const [user, left, right] = names[0];
+  const more = names.length > 1 ? `, and ${counted(names.length - 1, "more number")} are others` : "";
+  return `${left} of user ${user} is ${right} in the right run${more}: they are compared as the same.`;
+}
 
 const counted = (number, word) => `${number} ${word}${number === 1 ? "" : "s"}`;
 
 export class ComparePage {
-  /** @param {{files: File[], values: any[], faults: string[], notes: Note[]}} data */
-  constructor({ files, values, faults, notes }) {
+  /** @param {{files: File[], values: any[], faults: string[], notes: Note[], names: Name[]}} data */
+  constructor({ files, values, faults, notes, names }) {
     const [left, right] = files.map(({ rows }) => rows.map((row, index) => new Line(row, values, index)));
     element("faults").replaceChildren(...faults.map((fault) => tag("li", { textContent: fault })));
     this.isDamaged = faults.length > 0;
@@ -31,6 +40,7 @@ export class ComparePage {
     this.showsEqual = true;
     element("left-name").append(...nameOf("left", files[0].name, left.length));
     element("right-name").append(...nameOf("right", files[1].name, right.length));
+    element("renamed").textContent = renamedText(names);
   }
 
   /** Notes are on the row of their step; those behind the last step on that of the last one. */

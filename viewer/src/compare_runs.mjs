@@ -37,7 +37,7 @@ export class Pair {
 function numbering() {
   /** @type {Map<string, number>} */
   const numbers = new Map();
-  return ({ places: { asked, said } }) => {
+  return ({ keys: { asked, said } }) => {
     const key = `${asked} ${said}`;
     if (!numbers.has(key)) numbers.set(key, numbers.size);
     return numbers.get(key);
@@ -74,7 +74,7 @@ export function pairsOfUser(left, right) {
 function pairsBetween(left, right) {
   const number = numbering();
   const [lefts, rights] = [left, right].map((lines) => ({
-    asked: Int32Array.from(lines.map(({ places }) => places.asked)), whole: Int32Array.from(lines.map(number)),
+    asked: Int32Array.from(lines.map(({ keys }) => keys.asked)), whole: Int32Array.from(lines.map(number)),
   }));
   /** @type {Pair[]} */
   const pairs = [];
@@ -98,7 +98,7 @@ function markRows(pairs) {
   for (const pair of pairs) {
     if (pair.kind !== "same") return;
     const { left, right } = pair;
-    if (!left.hasRows || !right.hasRows || left.places.rows === right.places.rows) continue;
+    if (!left.hasRows || !right.hasRows || left.keys.rows === right.keys.rows) continue;
     pair.kind = "rows";
     return;
   }
