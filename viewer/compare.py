@@ -5,7 +5,7 @@ from __future__ import annotations
 import argparse
 import json
 import re
-from collections.abc import Mapping, Sequence
+from collections.abc import Sequence
 from typing import NamedTuple
 
 import reading
@@ -52,32 +52,17 @@ class Values:
         return [json.loads(text) for text in self.places]
 
 
-Row = list[int]
+NUMBERS = ("user", "step", "index")
 
 
-def row_of(line: reading.Object, values: Values) -> Row:
-    """The places of what was asked, of the reply, and of the rows."""
-    asked, said = renaming.asked_and_said(line)
-    return [values.place(asked), values.place(said), values.place(line["rows"]) if "rows" in line else -1]
-
-
-def rows_of(file: reading.Read, values: Values, keys: Values, names: Mapping[int, renaming.Names]) -> list[Row]:
-    """The steps of a trace in the order of the scenario: the user, the step's number, and the places of its values.
-
-    If numbers are others in the left run, the places follow that its values would have with those: what is compared.
-    """
+def rows_of(file: reading.Read, values: Values) -> list[renaming.Row]:
+    """The steps of a trace in the order of the scenario: the user, the step's number, and the places of its values."""
     rows = []
-    on_the_left = {user: renaming.on_the_left(own) for user, own in names.items()}
-    for line in in_order(file):
-        row = [line["user"], line["step"], *row_of(line, values)]
-        if names:
-            row += row_of(renaming.renamed(line, on_the_left.get(line["user"], int)), keys)
-        rows.append(row)
+    for line in sorted(file.replies, key=lambda line: int(line["index"])):
+        said = {name: value for name, value in line.items() if name not in (*NUMBERS, "asked", "rows")}
+        changes = values.place(line["rows"]) if "rows" in line else -1
+        rows.append([line["user"], line["step"], values.place(line["asked"]), values.place(said), changes])
     return rows
-
-
-def in_order(file: reading.Read) -> list[reading.Object]:
-    return sorted(file.replies, key=lambda line: int(line["index"]))
 
 
 class Runs:
@@ -100,16 +85,16 @@ class Runs:
 
     def data(self, notes: Sequence[Note]) -> reading.Object:
         """What their page contains."""
-        values, keys = Values(), Values()
-        left, right = map(in_order, self.files)
-        names = renaming.names_of(left, right)
-        unchanged = {user: {} for user in names}
-        files = [{"name": file.name, "rows": rows_of(file, values, keys, own)} for file, own in zip(self.files, (unchanged, names))]
+        values = Values()
+        left, right = (rows_of(file, values) for file in self.files)
+        shown = values.all()
+        other = renaming.Renaming(left, right, shown, values.place)
+        rows = [left, [row + other.keys(row) for row in right]]
         more = [f"and {len(self.faults) - MOST_FAULTS} more"] if len(self.faults) > MOST_FAULTS else []
         return {
-            "files": files,
-            "values": values.all(),
+            "files": [{"name": file.name, "rows": own} for file, own in zip(self.files, rows)],
+            "values": shown,
             "faults": [*self.faults[:MOST_FAULTS], *more],
             "notes": [note._asdict() for note in notes],
-            "names": [[user, old, new] for user, own in sorted(names.items()) for new, old in sorted(own.items())],
+            "names": [[user, old, new] for user, own in sorted(other.names.items()) for new, old in sorted(own.items())],
         }

@@ -2,14 +2,11 @@
 
 from __future__ import annotations
 
-import json
 from collections import Counter, defaultdict
-from collections.abc import Callable, Iterator, Mapping, Sequence
+from collections.abc import Callable, Iterable, Mapping, Sequence
 from typing import Any
 
-import reading
-
-Line = reading.Object
+Row = list[int]  # a user, the user's number of the step, and the places of its values: what was asked, the reply, the rows
 Names = dict[int, int]  # from the right run's numbers to the left one's
 FIRST = 1000  # the least number of a process; users, signals and codes are no numbers of processes
 # the members of steps, replies and rows whose value is a process or an LWP, or several
@@ -21,7 +18,7 @@ def renamed(value: Any, name: Callable[[int], Any], is_number: bool = False) -> 
     """The value with other numbers of processes and LWPs."""
     if isinstance(value, dict):
         return {key: renamed(one, name, key in NUMBERS or key in LISTS) for key, one in value.items()}
-    if isinstance(value, (list, tuple)):
+    if isinstance(value, list):
         return [renamed(one, name, is_number) for one in value]
     return name(value) if is_number and isinstance(value, int) and not isinstance(value, bool) and value >= FIRST else value
 
@@ -32,59 +29,74 @@ def on_the_left(names: Names) -> Callable[[int], int]:
     return lambda number: names.get(number, -number if number in taken else number)
 
 
-def asked_and_said(line: Line) -> tuple[Any, dict[str, Any]]:
-    """The step of a line and its reply, without what the step changed."""
-    return line["asked"], {name: value for name, value in line.items() if name not in ("user", "step", "index", "asked", "rows")}
+class Renaming:
+    """The numbers of the right run that are others in the left one. Each value is looked at once: most come often."""
 
+    def __init__(self, left: Sequence[Row], right: Sequence[Row], values: Sequence[object], place: Callable[[object], int]) -> None:
+        """`place` is that of a value among the values, and a new one for another value."""
+        self._values, self._place = values, place
+        self._shapes: dict[int, int] = {}
+        self._numbers: dict[int, list[int]] = {}
+        self._keys: dict[tuple[int, int], int] = {}
+        self.names: dict[int, Names] = {}
+        for user in {row[0] for row in right}:
+            one, other = ([row for row in rows if row[0] == user] for rows in (left, right))
+            self._find(user, one, other)
 
-def names_of(left: Sequence[Line], right: Sequence[Line]) -> dict[int, Names]:
-    """For each user the numbers of the right run that are others in the left one; only if more steps are the same then."""
-    found = {}
-    for user in {line["user"] for line in right}:
-        one, other = ([line for line in lines if line["user"] == user] for lines in (left, right))
-        names = _chosen(_votes(one, other))
-        if _equal(one, other, names) > _equal(one, other, {}):
-            found[user] = {new: old for new, old in names.items() if new != old}
-    return found
+    def keys(self, row: Row) -> Row:
+        """The places that a right run's values would have with the left run's numbers; none if its user has the same."""
+        user, _, *places = row
+        return [self._key(user, place) if place >= 0 else -1 for place in places] if user in self.names else []
 
+    def _find(self, user: int, left: Sequence[Row], right: Sequence[Row]) -> None:
+        """Finds the user's numbers; only if more steps are the same with these."""
+        counts = Counter((row[2], row[3]) for row in left)
+        before = sum((counts & Counter((row[2], row[3]) for row in right)).values())
+        if before == min(len(left), len(right)):
+            return
+        names = {new: old for new, old in _chosen(self._votes(left, right)).items() if new != old}
+        self.names[user] = names
+        after = sum((counts & Counter((self._key(user, row[2]), self._key(user, row[3])) for row in right)).values())
+        if after <= before:
+            del self.names[user]
 
-def _votes(left: Sequence[Line], right: Sequence[Line]) -> dict[int, Counter[int]]:
-    """How often a number of the right run is where a number of the left one is, if both runs begin, or end, alike but for
-    their numbers."""
-    shapes = [[_text(renamed(asked_and_said(line), lambda _: "#")) for line in lines] for lines in (left, right)]
-    most = min(map(len, shapes))
-    begin = next((at for at in range(most) if shapes[0][at] != shapes[1][at]), most)
-    end = next((at for at in range(most) if shapes[0][-1 - at] != shapes[1][-1 - at]), most)
-    pairs = [*zip(left[:begin], right[:begin]), *(zip(left[-end:], right[-end:]) if end else ())]
-    votes: dict[int, Counter[int]] = defaultdict(Counter)
-    for one, other in pairs:
-        for old, new in zip(_numbers(one), _numbers(other)):
-            votes[new][old] += 1
-    return votes
+    def _votes(self, left: Sequence[Row], right: Sequence[Row]) -> dict[int, Counter[int]]:
+        """How often a number of the right run is where a number of the left one is, if both runs begin, or end, alike but
+        for their numbers."""
+        shapes = [[(self._shape(row[2]), self._shape(row[3])) for row in rows] for rows in (left, right)]
+        most = min(map(len, shapes))
+        begin = next((at for at in range(most) if shapes[0][at] != shapes[1][at]), most)
+        end = next((at for at in range(most) if shapes[0][-1 - at] != shapes[1][-1 - at]), most)
+        votes: dict[int, Counter[int]] = defaultdict(Counter)
+        for one, other in [*zip(left[:begin], right[:begin]), *(zip(left[-end:], right[-end:]) if end else ())]:
+            for place, other_place in zip(one[2:4], other[2:4]):
+                for old, new in zip(self._numbers_of(place), self._numbers_of(other_place)):
+                    votes[new][old] += 1
+        return votes
+
+    def _shape(self, place: int) -> int:
+        if place not in self._shapes:
+            self._shapes[place] = self._place(renamed(self._values[place], lambda _: "#"))
+        return self._shapes[place]
+
+    def _numbers_of(self, place: int) -> Iterable[int]:
+        if place not in self._numbers:
+            self._numbers[place] = []
+            renamed(self._values[place], self._numbers[place].append)
+        return self._numbers[place]
+
+    def _key(self, user: int, place: int) -> int:
+        if (user, place) not in self._keys:
+            self._keys[user, place] = self._place(renamed(self._values[place], on_the_left(self.names[user])))
+        return self._keys[user, place]
 
 
 def _chosen(votes: Mapping[int, Counter[int]]) -> Names:
     """A number of the left run for each of the right one, none twice: those with most votes first."""
     names: Names = {}
     taken = set()
-    for count, new, old in sorted(((-count, new, old) for new, counts in votes.items() for old, count in counts.items())):
+    for _, new, old in sorted((-count, new, old) for new, counts in votes.items() for old, count in counts.items()):
         if new not in names and old not in taken:
             names[new] = old
             taken.add(old)
     return names
-
-
-def _equal(left: Sequence[Line], right: Sequence[Line], names: Names) -> int:
-    """How many steps are in both runs, in any order."""
-    counts = Counter(_text(asked_and_said(line)) for line in left)
-    others = Counter(_text(renamed(asked_and_said(line), on_the_left(names))) for line in right)
-    return sum((counts & others).values())
-
-
-def _numbers(line: Line) -> Iterator[int]:
-    numbers: list[int] = []
-    renamed(asked_and_said(line), numbers.append)
-    return iter(numbers)
-
-
-_text = json.JSONEncoder(separators=(",", ":"), sort_keys=True).encode
