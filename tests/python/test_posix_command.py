@@ -3,6 +3,7 @@
 from __future__ import annotations
 
 import itertools
+import json
 import os
 import pathlib
 import re
@@ -10,6 +11,7 @@ import shutil
 import signal
 import subprocess
 import time
+from typing import Any
 
 import pytest
 from posix_kit import CC, POSIX, RUN, Posix
@@ -387,6 +389,30 @@ def test_a_deadlock_and_a_switch_have_places(posix: Posix, tmp_path: pathlib.Pat
     assert re.search(rf"1000/100000 {place}$", done.stderr, re.MULTILINE), done.stderr
     title = re.search(r'"title": *"([^"]*)"', (tmp_path / "run.json.html").read_text())
     assert title is not None and re.fullmatch(r"lost_wakeup its words: deadlock: .* \(switches before step \d+\)", title[1]), title
+
+
+def embedded(page: pathlib.Path) -> dict[str, Any]:
+    """The data of a page."""
+    found = re.search(r'<script type="application/json" id="embedded">(.*?)</script>', page.read_text(), re.DOTALL)
+    assert found is not None
+    data: dict[str, Any] = json.loads(found[1])
+    return data
+
+
+def test_a_record_s_page_shows_the_failure(posix: Posix, tmp_path: pathlib.Path) -> None:
+    """At its last step: what is said, file and line of who is to blame, the switches, and the rows. A run that passes has none."""
+    race = POSIX / "races" / "lost_wakeup.c"
+    at_pause = f"lost_wakeup.c:{line_of('pause();', race.read_text())}"
+    done = run(RUN, "--schedules", 300, "--record", tmp_path / "run.json", posix.race("lost_wakeup"))
+    assert done.returncode == 1
+    data, (file,) = embedded(tmp_path / "run.json.html"), embedded(tmp_path / "run.json.html")["files"]
+    told = data["failure"]["message"].splitlines()
+    assert (data["failure"]["test"], data["failure"]["step"]) == ("lost_wakeup", len(file["lines"]))
+    assert told[0].startswith("deadlock: 1000/100000 waits in pause") and told[1].endswith(at_pause)
+    assert any(line.startswith("--switches ") for line in told)
+    assert any("rows" in line for line in file["lines"]) and any(line["asked"].get("call") == "pause" for line in file["lines"])
+    done = run(RUN, "--record", tmp_path / "right.json", posix.remedy("lost_wakeup"))
+    assert done.returncode == 0 and "failure" not in embedded(tmp_path / "right.json.html")
 
 
 def test_what_was_never_preempted_is_listed(posix: Posix) -> None:

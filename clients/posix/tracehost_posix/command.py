@@ -207,10 +207,19 @@ class Command:
                 setting.kill_on_debugger_exit,
                 {**options, "kill_on_debugger_exit": setting.kill_on_debugger_exit},
             )
-            trouble = report.page(setting.model, path, title)
+            trouble = report.page(setting.model, path, title, self._failure(outcome, words))
         except OSError as failed:
             raise OSError(f"--record: {path}: {failed.strerror}") from failed
         _tell("--record", f"{path}.html", trouble)
+
+    def _failure(self, outcome: Outcome, name: str) -> list[str]:
+        """The viewer's options for a run that failed: what it says, who is to blame, and the switches."""
+        why = outcome.result.why
+        if why is None:
+            return []
+        switches, blamed = self.lines(outcome)
+        heads = [f"--switches {outcome.result.schedule}:"] if switches else []
+        return [f"--failed={name}", "--message=" + "\n".join([why, *blamed, *heads, *switches])]
 
     def end(self, why: str | None, sums: Sums) -> int:
         """What is said of these runs at the end, and the status."""

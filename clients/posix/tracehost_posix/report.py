@@ -4,7 +4,7 @@ from __future__ import annotations
 
 import os
 import sys
-from collections.abc import Callable, Iterable, Iterator, Mapping
+from collections.abc import Callable, Iterable, Iterator, Mapping, Sequence
 from contextlib import contextmanager
 from typing import TYPE_CHECKING
 
@@ -137,13 +137,13 @@ def _source_lines(addresses: set[tuple[str, int]]) -> dict[tuple[str, int], str]
     return found
 
 
-def page(model: str, path: str, title: str) -> str | None:
-    """The viewer's page of a record, as PATH.html, with the program's calls by name; a text if it can't be made.
+def page(model: str, path: str, title: str, words: Sequence[str] = ()) -> str | None:
+    """The viewer's page of a record, as PATH.html, with the program's calls by name and the viewer's further options; a
+    text if it can't be made.
 
     There is then no page, not the one of an older run either.
     """
     import contextlib
-    import re
     import subprocess
 
     with contextlib.suppress(FileNotFoundError):
@@ -151,23 +151,16 @@ def page(model: str, path: str, title: str) -> str | None:
     viewer = _viewer()
     if viewer is None:
         return NO_VIEWER
-    lines = subprocess.run([model, "--json", path], capture_output=True)
+    lines = subprocess.run([model, "--json=trace+rows", path], capture_output=True, text=True, errors="replace")
     if lines.returncode != 0:
-        return lines.stderr.decode("utf-8", "replace").strip() or f"{model}: status {lines.returncode}"
-    with open(path) as file:
-        scenario = re.sub(r'"call":"other","code":(\d+)', _named_call, file.read())
-    with room() as folder:
-        labelled = os.path.join(folder, os.path.basename(path))
-        with open(labelled, "w") as file:
-            file.write(scenario)
-        words = [*viewer, f"--title={title}", f"--output={path}.html", "-", labelled]
-        done = subprocess.run(words, input=lines.stdout, stderr=subprocess.PIPE)
-    return None if done.returncode == 0 else done.stderr.decode("utf-8", "replace").strip() or f"status {done.returncode}"
+        return lines.stderr.strip() or f"{model}: status {lines.returncode}"
+    command = [*viewer, f"--title={title}", f"--output={path}.html", *words, "-", *([] if lines.stdout else [path])]
+    made = subprocess.run(command, input=_with_names(lines.stdout), stderr=subprocess.PIPE, text=True, errors="replace")
+    return None if made.returncode == 0 else made.stderr.strip() or f"status {made.returncode}"
 
 
 def page_of_two(model: str, path: str, scenarios: Mapping[str, str], words: list[str]) -> str | None:
     """The viewer's page of two runs, by their names, with its further options; a text if it can't be made."""
-    import re
     import subprocess
 
     viewer = _viewer()
@@ -181,7 +174,7 @@ def page_of_two(model: str, path: str, scenarios: Mapping[str, str], words: list
                 return done.stderr.strip() or f"{model}: status {done.returncode}"
             files.append(os.path.join(folder, name))
             with open(files[-1], "w") as file:
-                file.write(re.sub(r'"call":"other","(?:code|argument)":(\d+)', _named_call, done.stdout))
+                file.write(_with_names(done.stdout))
         made = subprocess.run([*viewer, f"--output={path}", *words, "--", *files], stderr=subprocess.PIPE, text=True)
     return None if made.returncode == 0 else made.stderr.strip() or f"status {made.returncode}"
 
@@ -198,6 +191,13 @@ def _viewer() -> list[str] | None:
         return [sys.executable, own]
     installed = beside("tracehost-view") or which("tracehost-view")
     return None if installed is None else [installed]
+
+
+def _with_names(trace: str) -> str:
+    """A trace with the program's calls by name."""
+    import re
+
+    return re.sub(r'"call":"other","(?:code|argument)":(\d+)', _named_call, trace)
 
 
 def _named_call(found: re.Match[str]) -> str:
