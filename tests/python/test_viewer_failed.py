@@ -107,6 +107,54 @@ def test_a_failed_test(opened: Open, width: int) -> None:
 
 
 @needs_browser
+def test_no_card_hides_what_led_to_a_failure(opened: Open) -> None:
+    """There is one as soon as somebody goes on."""
+    tab = opened(COLLECTOR, "--failed", "test", "--at", 19)
+    assert tab.value("document.getElementById('card').hidden")
+    tab.press("f")
+    assert not tab.value("document.getElementById('card').hidden")
+    assert not opened(COLLECTOR, address="step=3").value("document.getElementById('card').hidden")
+
+
+@needs_browser
+def test_what_is_nearest_to_the_failure_comes_first(opened: Open, pages: Pages) -> None:
+    """Of its user; others' follow, and what came later."""
+    dropped = [
+        *attached(1),
+        *stop(100_001, 15),
+        WAIT,
+        ptrace("PT_CONTINUE", 1001),
+        *stop(100_001, 10),
+        WAIT,
+        ptrace("PT_CONTINUE", 1001),
+    ]
+    numbers = {"caller": 1000, "target": 1000, "lwp": 4000}
+    others = [{name: value + numbers[name] if name in numbers else value for name, value in step.items()} for step in dropped]
+    steps = [{"user": user, **step} for pair in zip(dropped, others) for user, step in zip((1001, 1002), pair)]
+    file = pages.file("steps.json", json.dumps({"steps": steps}).encode())
+    plain = opened(file).value(LOOK_AT)
+    places = [int(text.partition(":")[0]) for text in plain]
+    assert len(places) == 4 and places == sorted(places)
+    first = places[0]
+    found = opened(file, "--failed", "test", "--at", places[2] - 1).value(LOOK_AT)
+    own = [place for place in places if place % 2 == (places[2] - 1) % 2]
+    assert [int(text.partition(":")[0]) for text in found][: len(own)] == sorted(
+        own, key=lambda at: (at > places[2] - 1, abs(places[2] - 1 - at))
+    )
+    assert first in places and sorted(found) == sorted(plain)
+
+
+@needs_browser
+def test_escape_ends_a_search(opened: Open) -> None:
+    tab = opened(COLLECTOR)
+    tab.press("/")
+    tab.write("PT_ATTACH")
+    assert 0 < tab.value("page.list.steps.length") < 25
+    tab.press("Escape")
+    assert (tab.value("page.list.steps.length"), tab.value("document.getElementById('find').value")) == (25, "")
+
+
+@needs_browser
 def test_a_link_goes_to_its_own_step(opened: Open) -> None:
     tab = opened(COLLECTOR, "--failed", "test", address="step=3")
     assert tab.value("document.getElementById('active').dataset.line") == "3"
@@ -214,6 +262,9 @@ def test_keys_of_the_panel(opened: Open) -> None:
     tab.press("ArrowRight")
     assert len(tab.value(ROWS)) == 6
     tab.press("End")
+    tab.press("Enter")
+    assert tab.value("document.getElementById('active').dataset.line") == "8"
+    tab.press("ArrowUp")  # the child of the fork, which has made no step: it was born at this one
     tab.press("Enter")
     assert tab.value("document.getElementById('active').dataset.line") == "8"
     tab.press("t")

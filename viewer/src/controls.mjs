@@ -72,6 +72,10 @@ export function listenToFields(page) {
   find.addEventListener("input", () => page.session && page.find(find.value));
   find.addEventListener("keydown", (event) => {
     if (event.key === "Enter" && page.session) page.goToFound(event.shiftKey ? -1 : 1);
+    if (event.key === "Escape" && page.session) {
+      find.value = ""; // a browser may empty it without an event
+      page.find("");
+    }
   });
   number.addEventListener("keydown", (event) => {
     if (event.key === "Enter" && page.session) page.goToStep(number.value.trim());

@@ -37,6 +37,18 @@ function isDark() {
 const many = (number, word, words) => `${number} ${number === 1 ? word : words}`;
 const between = (least, value, most) => Math.min(most, Math.max(least, value));
 
+/** The notices, those of the user of the step that a test failed after and nearest before it first. */
+function nearestTo(failed, { notices, entries }) {
+  if (failed === null) return notices;
+  const user = entries.find(({ index }) => index === failed)?.reply.user;
+  const rank = ({ at }) => [Number(entries[at]?.reply.user !== user), Number(at > failed), Math.abs(failed - at)];
+  const order = (one, other) => {
+    const ranks = [rank(one), rank(other)];
+    return ranks[0].map((value, place) => value - ranks[1][place]).find((difference) => difference !== 0) ?? 0;
+  };
+  return [...notices].sort(order);
+}
+
 export class Page {
   constructor() {
     const drawsAll = this.address().get("draw") === "all";
@@ -46,7 +58,7 @@ export class Page {
     this.overview = new Overview(this.picture);
     this.list = new StepList({ onMark });
     this.card = new Card(this.picture);
-    this.panel = new StatePanel({ onProcess: (_user, pid, index) => this.goToProcess(pid, index) });
+    this.panel = new StatePanel({ onProcess: (user, pid, index) => this.goToProcess(user, pid, index) });
     this.failure = new Failure({ onStep: (index) => this.goToEntry(index) });
     this.files = { replies: null, scenario: null };
     /** @type {import("./session.mjs").Session | null} */
@@ -86,11 +98,12 @@ export class Page {
     document.body.classList.add("open");
     this.show();
     this.goToAddress();
+    if (this.failure.at !== null) this.card.close(); // it would hide what led to the failure
   }
 
   /** Buttons that go to what an author of a debugger may want to look at. */
   showNotices() {
-    const { notices } = this.session;
+    const notices = nearestTo(this.failure.at, this.session);
     const shown = notices.slice(0, MOST_NOTICES).map(({ at, text }) => {
       const button = tag("button", { type: "button", textContent: `${at + 1}: ${text}` });
       button.addEventListener("click", () => this.goToEntry(at));
@@ -297,12 +310,15 @@ export class Page {
     this.remember(mark);
   }
 
-  /** Goes to the mark of a process, or of its LWPs, that is nearest to an entry, from there to the left. */
-  goToProcess(pid, index) {
+  /** Goes to the last step up to an entry that was the process's own, or an LWP's of it, or changed its row. */
+  goToProcess(user, pid, index) {
     const { plan } = this.picture;
     const isOf = (mark) => mark.lane.number === pid && mark.lane.kind === "process" || mark.lane.owner?.number === pid;
     const mark = plan.steps.findLast((one) => one.at <= index && isOf(one));
-    if (mark) this.go(mark);
+    const changed = this.session.histories.get(user)?.steps
+      .findLast(({ index: at, reply }) => at <= index && (reply.rows.processes ?? []).some((row) => row.pid === pid));
+    if (changed && changed.index > (mark?.at ?? -1)) this.goToEntry(changed.index);
+    else if (mark) this.go(mark);
   }
 
   /** Goes to the step of an entry, counted over all users' steps from 0. */
