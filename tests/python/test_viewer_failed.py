@@ -145,13 +145,16 @@ def test_what_is_nearest_to_the_failure_comes_first(opened: Open, pages: Pages) 
 
 
 @needs_browser
-def test_escape_ends_a_search(opened: Open) -> None:
+def test_escape_leaves_a_search_as_it_is(opened: Open) -> None:
+    """In the list and in the field, which a browser would empty."""
     tab = opened(COLLECTOR)
     tab.press("/")
     tab.write("PT_ATTACH")
-    assert 0 < tab.value("page.list.steps.length") < 25
-    tab.press("Escape")
-    assert (tab.value("page.list.steps.length"), tab.value("document.getElementById('find').value")) == (25, "")
+    count = tab.value("page.list.steps.length")
+    assert 0 < count < 25
+    tab.press("Escape", 27)
+    assert (tab.value("page.list.steps.length"), tab.value("document.getElementById('find').value")) == (count, "PT_ATTACH")
+    assert tab.value("document.activeElement === document.body")
 
 
 @needs_browser

@@ -72,10 +72,7 @@ export function listenToFields(page) {
   find.addEventListener("input", () => page.session && page.find(find.value));
   find.addEventListener("keydown", (event) => {
     if (event.key === "Enter" && page.session) page.goToFound(event.shiftKey ? -1 : 1);
-    if (event.key === "Escape" && page.session) {
-      find.value = ""; // a browser may empty it without an event
-      page.find("");
-    }
+    if (event.key === "Escape") event.preventDefault(); // a browser may empty the field without an event
   });
   number.addEventListener("keydown", (event) => {
     if (event.key === "Enter" && page.session) page.goToStep(number.value.trim());
