@@ -52,7 +52,7 @@ def pages(tmp_path: pathlib.Path) -> list[str]:
 # ---- a test that fails, and the one after it
 
 SUITE = """
-import builtins, io, os, pathlib, pytest, resource, shutil, subprocess, sys, tempfile
+import builtins, io, os, pathlib, pytest, resource, shutil, subprocess, sys, tempfile, weakref
 
 class Unprintable(Exception):
     def __str__(self):
@@ -95,6 +95,7 @@ BODIES = {
     "sys.exit for shutil": 'monkeypatch.setattr(shutil, "which", sys.exit)',
     "the program": 'monkeypatch.setenv("TRACEHOST", "a\\udce9"); monkeypatch.setenv("PATH", "")',
     "standard error": 'monkeypatch.setattr(sys, "stderr", None)',
+    "a patch that stays": "weakref.WeakSet = failing",
 }
 
 
