@@ -102,6 +102,20 @@ static _Noreturn void foreign_text(const struct process *p, const char *line, si
 /* The runtime never asks this. */
 void foreign_question(const struct lwp *l) { foreign_text(l->process, l->asked, strlen(l->asked)); }
 
+int int_of(const struct lwp *l, int64_t number)
+{
+	if (number < INT32_MIN || number > INT32_MAX)
+		foreign_question(l);
+	return (int)number;
+}
+
+int code_of(const struct lwp *l, int64_t number)
+{
+	if (number < 0)
+		foreign_question(l);
+	return int_of(l, number);
+}
+
 /* What isn't asked, and has no answer: a remark, another filter of the runtime's, or PID STATUS of a process of the host's. */
 static void take_aside(struct process *p, enum reading reading, const char *words)
 {

@@ -97,6 +97,8 @@ void run_handler(struct lwp *l, struct info info);
 const char *aside(struct lwp *l, const char *line);
 void close_socket(struct lwp *l);
 _Noreturn void foreign_question(const struct lwp *l);
+int int_of(const struct lwp *l, int64_t number); /* which is an int in the runtime */
+int code_of(const struct lwp *l, int64_t number); /* of a call that the LWP stays in */
 void count_ring(const struct lwp *timer);
 int64_t ask_for(struct lwp *l, const char *format, ...) __attribute__((format(printf, 2, 3)));
 
