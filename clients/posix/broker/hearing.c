@@ -1,5 +1,4 @@
 /* What a thread says, and what it is answered. */
-#undef _FORTIFY_SOURCE /* whose longjmp(3) goes to no other stack */
 #include <errno.h>
 #include <string.h>
 #include <sys/socket.h>
@@ -327,7 +326,7 @@ static bool reply_to(struct lwp *l)
 	}
 	if (l->born) { /* its exec: the image that comes says hello */
 		meet(l);
-		longjmp(l->base, 1);
+		begin_anew(l);
 	}
 	bool asks = hear(l, born != NULL || (l->entered >= 0 && !l->begun) || lands);
 	if (born != NULL)
@@ -405,11 +404,8 @@ void live(struct lwp *l)
 		meet(l);
 		give_way(l);
 	}
-	char *stack = l->stack;
-	if (setjmp(l->base) != 0) {
-		l->stack = stack;
+	if (l->renewed)
 		give_way(l);
-	}
 	for (;;) {
 		act(l);
 		if (!reply_to(l))

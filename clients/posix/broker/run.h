@@ -61,6 +61,7 @@ void run_once(void);
 void switch_to(struct lwp *from, struct lwp *to); /* NULL is the loop of runs */
 void start_with(struct lwp *first, void (*life)(struct lwp *l));
 void retire(struct lwp *l); /* it never goes on again */
+_Noreturn void begin_anew(struct lwp *l); /* its life, on another stack: an exec forgets what it stood in */
 void coroutines_end(void);
 bool ran_on_another_stack(struct lwp *l, struct info info);
 _Noreturn void leave_run(void);
