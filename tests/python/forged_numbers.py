@@ -22,8 +22,8 @@ class Kind(NamedTuple):
         return [number for number in self.ends() if not self.first <= number <= self.last]
 
     def ends(self) -> list[int]:
-        """The last that it may be, the first that it may not be, and what has no room in a smaller type."""
-        return sorted({self.first - 1, self.first, self.last, self.last + 1, *FAR})
+        """The last that it may be, the first that it may not be, and what has no room in a smaller type, or is the usual one there."""
+        return sorted({self.first - 1, self.first, self.last, self.last + 1, self.usual + WIDER, *FAR})
 
 
 class Edge(NamedTuple):
@@ -35,6 +35,7 @@ class Edge(NamedTuple):
 
 
 FAR = (-(2**63), -(2**31), -1, 0, 2**31 - 1, 2**31, 2**32, 2**63 - 1)
+WIDER = 2**32
 NEWEST, NEWEST_LWP = -1000, -1001
 """As the usual number: of the newest child, and of its LWP."""
 
@@ -189,9 +190,10 @@ def edges() -> list[Edge]:
 def asked(edge: Edge, children: int) -> str:
     """The question, after so many children."""
     own = {NEWEST: 1000 + children, NEWEST_LWP: 100000 + children}
-    numbers = [str(own.get(kind.usual, kind.usual)) for kind in FIELDS[edge.name]]
-    numbers[edge.place] = str(edge.number)
-    return question(edge.name, numbers, WORDS.get(edge[:2], ""))
+    own |= {number + WIDER: own[number] + WIDER for number in own}
+    numbers = [kind.usual for kind in FIELDS[edge.name]]
+    numbers[edge.place] = edge.number
+    return question(edge.name, [str(own.get(number, number)) for number in numbers], WORDS.get(edge[:2], ""))
 
 
 def question(name: str, numbers: list[str], word: str = "") -> str:
