@@ -164,6 +164,12 @@ REFUSED = (f"call {' 1' * 7}", f"call{' 1' * 8}", f"ptrace{' 1' * 40}", f"call {
 """Of more numbers than any question has; longer than a message."""
 
 
+def is_near(edge: Edge) -> bool:
+    """Whether the number is beside an end."""
+    kind = FIELDS[edge.name][edge.place]
+    return edge.number in (kind.first - 1, kind.first, kind.last, kind.last + 1)
+
+
 def is_refused(edge: Edge) -> bool:
     """Whether the broker ends the run there."""
     kind = FIELDS[edge.name][edge.place]
@@ -184,7 +190,7 @@ def edges() -> list[Edge]:
     found = [
         Edge(name, place, number) for name, kinds in FIELDS.items() for place, kind in enumerate(kinds) for number in kind.ends()
     ]
-    return sorted(found, key=lambda edge: edge.number in FAR)
+    return sorted(found, key=is_near, reverse=True)
 
 
 def asked(edge: Edge, children: int) -> str:
