@@ -161,10 +161,9 @@ struct lwp {
 	uint64_t changed;
 	/* its coroutine */
 	char *stack;
-	bool started;
+	bool started, renewed; /* renewed: by an exec */
 	ucontext_t context;
-	jmp_buf base; /* an exec comes back here */
-	jmp_buf *act; /* and a void question here */
+	jmp_buf *act; /* a void question comes back here, on the same stack: a shadow stack has no other frames to leave */
 };
 
 struct table {

@@ -106,7 +106,7 @@ static void changed_by(struct process *caller, const struct request *asked, cons
 /* A request that the model has. The last argument: the target is to go on at address 0. */
 BODY(ptrace_call)
 {
-	struct request asked = {arguments[0], arguments[1], arguments[2], arguments[3]}, made = made_of(l, asked);
+	struct request asked = {arguments[0], int_of(l, arguments[1]), int_of(l, arguments[2]), arguments[3]}, made = made_of(l, asked);
 	struct numbers numbers = {0};
 	reply r = {.kind = TRACEHOST_ERROR, .error = EINVAL};
 	struct step s = step_of(l, made.number, made.target, made.data);

@@ -52,7 +52,7 @@ def pages(tmp_path: pathlib.Path) -> list[str]:
 # ---- a test that fails, and the one after it
 
 SUITE = """
-import builtins, io, os, pathlib, pytest, resource, shutil, subprocess, sys, tempfile
+import builtins, io, os, pathlib, pytest, resource, shutil, subprocess, sys, tempfile, weakref
 
 class Unprintable(Exception):
     def __str__(self):
@@ -95,6 +95,7 @@ BODIES = {
     "sys.exit for shutil": 'monkeypatch.setattr(shutil, "which", sys.exit)',
     "the program": 'monkeypatch.setenv("TRACEHOST", "a\\udce9"); monkeypatch.setenv("PATH", "")',
     "standard error": 'monkeypatch.setattr(sys, "stderr", None)',
+    "a patch that stays": "weakref.WeakSet = failing",
 }
 
 
@@ -162,9 +163,9 @@ def test_one(new_tracehost):
     assert time.monotonic() - began < 150  # 200 one after another
 
 
-def test_an_error_in_an_error(runs: Runs) -> None:
-    """What is said of the first one reads no files."""
-    said = runs(
+UNRECORDED = {  # a suite, the folder of its artifacts, and what is said
+    # what is said of the first one reads no files
+    "an error in an error": (
         """
 import os, sys
 
@@ -174,10 +175,34 @@ def test_one(monkeypatch, new_tracehost):
         host = new_tracehost()
     assert host.user(1001).spawn().pid == 1000
 """,
-        "--tracehost-artifacts=/dev/null/nowhere",
-        status=0,
-    )
-    assert "1 passed" in said and "test_one: not recorded: " in said
+        "/dev/null/nowhere",
+        ["1 passed", "test_one: not recorded: "],
+    ),
+    # a test replaces it before its session begins; pytest's folder is there for the tests after it
+    "another file system": (
+        """
+import pathlib, pytest
+
+@pytest.fixture
+def no_folders(monkeypatch):
+    monkeypatch.setattr(pathlib.Path, "mkdir", lambda *words, **settings: None)
+
+def test_first(no_folders, tracehost):
+    assert tracehost.user(1001).spawn().pid == 1000
+
+def test_second(tmp_path, tracehost):
+    (tmp_path / "file").write_text("x")
+""",
+        "",
+        ["2 passed", "test_first: not recorded: FileNotFoundError"],
+    ),
+}
+
+
+@pytest.mark.parametrize("suite, folder, told", UNRECORDED.values(), ids=UNRECORDED)
+def test_what_is_not_recorded_is_told(runs: Runs, suite: str, folder: str, told: list[str]) -> None:
+    said = runs(suite, f"--tracehost-artifacts={folder}", status=0)
+    assert all(words in said for words in told), said
 
 
 def test_a_session_that_is_longer_than_a_scenario(runs: Runs) -> None:
@@ -193,28 +218,6 @@ def test_one(monkeypatch, tracehost):
         status=0,
     )
     assert "session.json: the recording ends after 3 steps, as no scenario may be longer" in said
-
-
-def test_another_file_system(runs: Runs) -> None:
-    """A test replaces it before its session begins. pytest's folder is there for the tests after it."""
-    said = runs(
-        """
-import pathlib, pytest
-
-@pytest.fixture
-def no_folders(monkeypatch):
-    monkeypatch.setattr(pathlib.Path, "mkdir", lambda *words, **settings: None)
-
-def test_first(no_folders, tracehost):
-    assert tracehost.user(1001).spawn().pid == 1000
-
-def test_second(tmp_path, tracehost):
-    (tmp_path / "file").write_text("x")
-""",
-        "--tracehost-artifacts=",
-        status=0,
-    )
-    assert "2 passed" in said and "test_first: not recorded: FileNotFoundError" in said
 
 
 def test_descriptors_that_a_test_closes(runs: Runs) -> None:

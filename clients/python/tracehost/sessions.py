@@ -4,11 +4,11 @@ from __future__ import annotations
 
 import hashlib
 import re
-import weakref
 from collections.abc import Callable, Iterator
 from contextlib import contextmanager
 from pathlib import Path
 from typing import Any, NamedTuple, Optional
+from weakref import WeakSet, ref
 
 import pytest
 
@@ -100,7 +100,7 @@ class Sessions(Told):
         super().__init__()
         self._make_folder = make_folder
         self._folder: Optional[Path] = None
-        self._hosts: weakref.WeakSet[Host] = weakref.WeakSet()
+        self._hosts: WeakSet[Host] = WeakSet()
         self._records: dict[Path, Callable[[], Optional[Host]]] = {}
         self._failures: dict[Path, Failure] = {}
 
@@ -136,7 +136,7 @@ class Sessions(Told):
         host = Host(record=scenario, record_lines=scenario.with_suffix(".out"), **settings)
         assert host._recording is not None
         host._recording.tell = self.tell
-        self.note(scenario, weakref.ref(host))
+        self.note(scenario, ref(host))
         return host
 
     def note(self, scenario: Path, host: Callable[[], Optional[Host]] = lambda: None) -> None:
