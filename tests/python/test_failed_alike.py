@@ -51,7 +51,7 @@ def by_pytest(room: Path, program: Path) -> Path:
         [sys.executable, "-m", "pytest", *words, "test_debugger.py"], cwd=room, env=environment, check=False, stdout=subprocess.PIPE
     )
     assert ran.returncode == 1, ran.stdout
-    (scenario,) = (room / "left").glob("*/session.json")
+    (scenario,) = (room / "left").glob("*.json")
     return scenario
 
 

@@ -51,7 +51,7 @@ def test_the_tutorial(clone: pathlib.Path, tmp_path: pathlib.Path) -> None:
     assert page is not None
     made = pathlib.Path(page[1])
     assert made.read_text(encoding="utf-8").rstrip().endswith("</html>")
-    replayed = reader.types(f"tracehost {made.parent}/session.json --expect {made.parent}/session.out")
+    replayed = reader.types(f"tracehost {made.with_suffix('.json')} --expect {made.with_suffix('.out')}")
     assert (replayed.status, replayed.text) == (0, "")
 
     debugger.write_text(with_the_cure(file(0)))
