@@ -74,7 +74,7 @@ def records(library: Path, program: Path, tmp_path_factory: pytest.TempPathFacto
         failing.environment = {"TRACEHOST": str(program), "TRACEHOST_VIEW": str(TOP / "viewer/make")}
         ran = failing(case, room / "left" / name)
         assert ran.status not in (0, 2), (name, ran)
-        left[name] = room / "left" / name / f"{case}.json"
+        left[name] = room / "left" / name / f"{failing.stem(case)}.json"
     return left
 
 
