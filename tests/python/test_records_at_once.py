@@ -155,7 +155,9 @@ def test_side_by_side(programs: dict[str, Program], room: Path, library: Path, p
 
     def run_all(more: dict[str, str]) -> None:
         with ThreadPoolExecutor(len(programs)) as pool:
-            list(pool.map(lambda each: each.run({**environment, **more}), programs.values()))
+            begun = [pool.submit(each.run, {**environment, **more}) for each in programs.values()]
+        for ended in begun:
+            ended.result()
 
     run_all({"ALL_FAIL": "1"})
     assert check(programs, left, program, lambda number: True) == COUNT * len(programs)
