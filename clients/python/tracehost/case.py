@@ -33,7 +33,7 @@ __all__ = ["TestCase"]
 
 
 class TestCase(unittest.TestCase):
-    """A test with sessions that are recorded. They are closed at its end."""
+    """A test whose sessions are recorded."""
 
     settings_of_host: ClassVar[dict[str, Any]] = {}
     """The settings of the `Host` that is `tracehost`."""
@@ -42,16 +42,14 @@ class TestCase(unittest.TestCase):
 
     @property
     def tracehost(self) -> Host:
-        """A `Host` of this test, which is started when it is first asked for."""
+        """The first `Host` of this test."""
         if self._host is None:
             self._host = self.new_tracehost(**self.settings_of_host)
         return self._host
 
     def new_tracehost(self, name: str = "session", **settings: Any) -> Host:
-        """Starts a `Host` that records as `name`, with the settings of `Host`. A further one of that name takes its place.
-
-        In `debug`, which has no result, it doesn't record.
-        """
+        """Starts a `Host` that records as `name`."""
+        # without a record in `debug`, which has no result
         return Host(**settings) if self._sessions is None else self._sessions.start(name, settings)
 
     def run(self, result: Optional[unittest.TestResult] = None) -> Optional[unittest.TestResult]:

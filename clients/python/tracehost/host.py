@@ -427,8 +427,8 @@ class Process:
         """wait4(2): the status of a child or tracee, `which` by number or -1 for any; ``Waited(0, 0)`` for nothing.
 
         With `block`, but not with `WaitOption.WNOHANG`, the call sleeps until another thread's step brings
-        something to collect. It raises TimeoutError after `timeout` seconds. ECHILD if the caller has none that
-        `which` names; EINVAL if `which` is 0 or below -1.
+        something to collect. It raises TimeoutError after `timeout` seconds, or at once if nothing could end it. ECHILD
+        if the caller has none that `which` names; EINVAL if `which` is 0 or below -1.
         """
         asked = whole("options", options, WaitOption)
         if asked:

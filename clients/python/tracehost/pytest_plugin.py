@@ -51,7 +51,7 @@ _set_up: list[Any] = []  # the fixtures that are being set up, each by the one b
 
 
 class NewHost(Protocol):
-    """Starts a `Host` that records as `name` in the test's folder. A further one of that name takes its place."""
+    """Starts a `Host` that records as `name` of the test. A further one of that name takes its place."""
 
     def __call__(self, name: str = "session", **settings: Any) -> Host:
         ...
