@@ -5,6 +5,7 @@
 #include "tracehost_client.h"
 
 #include <pthread.h>
+#include <signal.h>
 #include <stddef.h>
 #include <stdint.h>
 #include <sys/types.h>
@@ -222,18 +223,41 @@ void thp_close_file(struct thp_file *file);
 /* Begins a record in files that are empty; -1 with errno, and the session isn't recorded. */
 int thp_begin_record(th_host *h, int scenario, int lines);
 
-/* ---- tests: failing.c, and their files: artifacts.c */
+/* ---- tests: failing.c; their files: artifacts.c; their pages: pages.c; signals that end them: crashes.c */
 
-enum { THP_PATH = 4096, THP_PAGE_WORDS = 10 };
+enum { THP_PATH = 4096, THP_STEM = 112, THP_PAGE_WORDS = 10 };
 
 struct thp_artifacts {
     char folder[THP_PATH], scenario[THP_PATH], lines[THP_PATH], page[THP_PATH];
+    char scenario_now[THP_PATH], lines_now[THP_PATH]; /* while the test runs */
+    char stem[THP_STEM]; /* how the names begin */
+    int nth; /* of the tests with this stem that have names; 0 for none */
     int is_own_folder; /* of this test only */
 };
 
+struct thp_test {
+    struct thp_test *next;
+    volatile sig_atomic_t is_open;
+    th_host *host;
+    pid_t owner;
+    struct thp_file file; /* the scenario, which is locked */
+    struct thp_artifacts artifacts;
+    char name[256], message[1024];
+    int has_failed;
+    size_t step; /* at which it failed */
+};
+
+/* All tests, also those that have ended: they are used again and never freed, so that a signal's handler may read them. */
+extern struct thp_test *volatile thp_tests;
+
 /* Makes the files of a test of this name, and opens two of them; -1 with errno. */
 int thp_open_artifacts(struct thp_artifacts *a, const char *test, int *scenario, int *lines);
-void thp_remove_artifacts(const struct thp_artifacts *a);
+/* The test has failed, and the files get their last names; -1 with errno. A signal's handler may call it. */
+int thp_keep_artifacts(const struct thp_artifacts *a, int in_handler);
+/* The test has ended: the files of one that has passed go, and those that an earlier run of it has left. */
+void thp_end_artifacts(const struct thp_artifacts *a, int failed);
+/* Begins to handle signals that end the program, or ends it. */
+void thp_watch_signals(int watches);
 /* The command that makes the page, which the other arguments are for. */
 void thp_page_command(
     const char *argv[THP_PAGE_WORDS], const struct thp_artifacts *a, const char *test, const char *message, const char *step);

@@ -253,13 +253,17 @@ int th_record(th_host *h, const char *scenario, const char *lines);
 int th_record_error(const th_host *h);
 
 /*
- * A test, before the first step of its session, -1 with EBUSY after it. If the test fails it leaves NAME.json, a scenario with the
- * steps, NAME.out, their lines, and NAME.html, a page ($TRACEHOST names the program that it is made by, else tracehost, and
- * $TRACEHOST_VIEW the viewer, else tracehost-view). They are in the folder that $TRACEHOST_ARTIFACTS names, else in a new one below
- * $TMPDIR, and standard error says where. A name that is in use gets a number. A test that passes leaves nothing, and so does a
- * forked child. What can't be recorded is told on standard error, and changes neither a call nor the test.
+ * A test, before the first step of its session, -1 with EBUSY after it. If the test fails it leaves PROGRAM.NAME-DIGEST.json, a
+ * scenario with the steps, with .out their lines, and with .html a page ($TRACEHOST names the program that it is made by, else
+ * tracehost, and $TRACEHOST_VIEW the viewer, else tracehost-view). They are in the folder that $TRACEHOST_ARTIFACTS names, else in a
+ * new one below $TMPDIR, and standard error says where. A further test of the name in this process gets a number. A test that passes
+ * leaves nothing, and removes what it left in an earlier run; a forked child does neither. What can't be recorded is told on standard
+ * error, and changes neither a call nor the test.
  *
- * By abort(3) and assert(3) a test has failed too, unless the program handles SIGABRT itself.
+ * A signal that ends the program while the test is open, as by abort(3), assert(3) and Ctrl-C, is a failure too. If the program
+ * handles the signal itself, or by SIGKILL, the files keep the names that they have while the test runs, with the process's number
+ * at the end: PROGRAM.NAME-DIGEST.json.1234. The first are named before the program's handler is called, the others by the test's
+ * next run.
  */
 int th_test_begin(th_host *h, const char *name);
 
