@@ -1,7 +1,7 @@
 """The tables are those of format/scenario.toml and format/refusals.toml: `tools/format check` finds no file that is older.
 
 In a copy of the sources, each of its files is older once the tables that it has are changed, and none is after `tools/format
-write`.
+write`. A word of a table that isn't known ends the tool, which tells the file and the line, and writes nothing.
 """
 
 from __future__ import annotations
@@ -70,9 +70,9 @@ CHANGES = [
     ),
     Change(
         "another name of an op",
-        '^name = "list"',
-        'name = "pids"',
-        f"{EXPLAINED} {SCHEMA} clients/python/tracehost/names.py {VIEWER} docs/FORMAT.md",
+        r'(?<=^name = ")list|(?<=^op = ")list|(?<=^usage = .")list',
+        "pids",
+        f"{EXPLAINED} {SCHEMA} clients/python/tracehost/names.py {VIEWER} docs/FORMAT.md {MANUAL} {REFUSALS}",
     ),
     Change(
         "another number of a request",
@@ -82,8 +82,8 @@ CHANGES = [
     ),
     Change(
         "another name of a call",
-        '"vfork"',
-        '"rfork"',
+        '(?<=["`])vfork(?=["`])',
+        "rfork",
         f"{EXPLAINED} {SCHEMA} clients/c/names.c clients/python/tracehost/names.py {MANUAL} docs/FORMAT.md",
     ),
     Change("another range", "^user = .*", "user = [1001, 1065]", f"{EXPLAINED} {SCHEMA}"),
@@ -98,6 +98,80 @@ CHANGES = [
     Change("another condition", "^holds = .not is_live.caller..", 'holds = "is_live(caller)"', f"clients/c/rows.c {NOT_IN_C}"),
     Change("another effect", '^effect = "lists the user.s processes.*', 'effect = "lists them"', "docs/FORMAT.md"),
 ]
+
+
+class Mistake(NamedTuple):
+    """A misspelt word in the first line of the table that it fits, what is said of it, and of which line if it is another."""
+
+    old: str
+    new: str
+    said: str
+    line: str = ""
+
+
+SCENARIO_MISTAKES = {
+    "a table": Mistake(r"^\[\[request\]\]$", "[[requets]]", "'requets' is none of act, action, "),
+    "a table of one entry": Mistake(r"^\[\[option\]\]$", "[[opt]]", "'opt' is none of act, action, "),
+    "a key of a range": Mistake("^signal = .1, 31.", "singal = [1, 31]", "'singal' is none of byte, pass, "),
+    "a range": Mistake("^byte = .*", "byte = [0]", "[0] has to be the least and the most"),
+    "the type of a range": Mistake("^byte = .*", 'byte = [0, "255"]', "[0, '255'] has to be an array, with each value a whole"),
+    "a key of a key": Mistake('^kind = "user"$', 'knid = "user"', "'knid' is none of kind, name"),
+    "the kind of a key": Mistake('^kind = "word"$', 'kind = "wrod"', "'wrod' has to be one of user, word, "),
+    "the type of a name": Mistake('^name = "op"$', "name = 1", "1 has to be a text"),
+    "a key of an op": Mistake('^keys_text = ""$', 'key_text = ""', "'key_text' is none of about, answers, "),
+    "a key that an op has": Mistake('"caller", "request"', '"caller", "requets"', "'requets' is none of act, action, call, "),
+    "a key that may be missing": Mistake(r'"\[options\]"', '"[option]"', "'option' is none of act, action, call, "),
+    "a key of another table": Mistake('^usage = ."spawn".$', 'client = "SPAWN"', "'client' is none of about, answers, "),
+    "a form of an op": Mistake('^usage = ."spawn".$', 'usage = ["swapn"]', "'swapn' has to begin with spawn"),
+    "an answer": Mistake("^answers = .`new`", 'answers = "`nwe`', "'nwe' is none of caught, ended, "),
+    "a reply": Mistake('"info", "lwps"', '"inof", "lwps"', "'inof' is none of caught, ended, "),
+    "a name in a text": Mistake("`which` is a number, a process or -1 for any;", "`wich` is any;", "'wich' is none of "),
+    "a constant in a text": Mistake("or clears it if data is 0", "PTRACE_FROK", "'PTRACE_FROK' is none of PL_FLAG_BORN, "),
+    "a constant in a help": Mistake("no turns until PT_RESUME", "no turns until PT_RESMUE", "'PT_RESMUE' is none of PL_FLAG_"),
+    "a class of data": Mistake('^data = "ignored"', 'data = "nonsense"', "'nonsense' is none of count, ignored, signal, switch"),
+    "the name of a class of data": Mistake(r"^\[data.switch\]", "[data.swich]", "'swich' is none of count, ignored, "),
+    "a key of a class of data": Mistake("^key = .At most", 'kee = "At most', "'kee' is none of key"),
+    "the type of a number": Mistake("^number = 10$", 'number = "10"', "'10' has to be a whole number"),
+    "a number that is a truth": Mistake("^number = 10$", "number = true", "True has to be a whole number"),
+    "a key that is missing": Mistake('^variant = "Attach"\\n', "", "variant is missing", "[[request]]"),
+    "a name that is there": Mistake('^name = "PT_STEP"', 'name = "PT_CONTINUE"', "'PT_CONTINUE' is there already"),
+    "a kind of code": Mistake('^code = "byte"', 'code = "bite"', "'bite' is none of byte, pass, "),
+    "one event of two": Mistake('^both = ."PTRACE_SCE"', 'both = ["PTRACE_SEC"', "'PTRACE_SEC' is none of PTRACE_EXEC, "),
+    "an event without a number": Mistake(
+        "^number = 0x0020\\n", "", "PTRACE_VFORK has to have either a number or both", "[[event]]"
+    ),
+    "a key of a decision": Mistake(r'^keys = ."\[pass\]".', 'keys = ["[pas]"]', "'pas' is none of act, action, "),
+    "the syntax": Mistake("^number = 10$", "number = 10 +", "Expected newline or end of document"),
+}
+REFUSAL_MISTAKES = {
+    "a table": Mistake(r"^\[groups\]", "[gruops]", "'gruops' is none of call, condition, groups, numbers"),
+    "a condition of a group": Mistake(
+        '^caller = ."caller_gone"', 'caller = ["caller_goen"', "'caller_goen' is none of caller_gone"
+    ),
+    "an op": Mistake('^op = "list"', 'op = "lits"', "'lits' is none of handle, install, "),
+    "a key of a call": Mistake('^order = ."limits".', 'oder = ["limits"]', "'oder' is none of op, order, request, text"),
+    "a condition of a call": Mistake('^order = ."limits".', 'order = ["limit"]', "'limit' is none of caller, caller_gone, "),
+    "a request": Mistake('^request = "PT_ATTACH"', 'request = "PT_ATACH"', "'PT_ATACH' is none of , PT_ATTACH, "),
+    "an argument of a call": Mistake(
+        "^text = .list.. by .caller.", 'text = "list() by {calle}', "'calle' is none of act, action, "
+    ),
+    "a key of a condition": Mistake("^possible = .lwp <=", 'posible = "lwp <=', "'posible' is none of answer, holds, "),
+    "an errno": Mistake('^answer = "EPERM"', 'answer = "EPREM"', "'EPREM' has to be one of held, EPERM, "),
+    "an argument in words": Mistake("^words = .{lwp} is no LWP", 'words = "{lpw} is no LWP', "'lpw' is none of act, action, "),
+    "an argument": Mistake("^possible = .lwp <= ", 'possible = "lpw <= ', "'lpw' is none of DEFAULT, FORK, "),
+    "a number": Mistake("lwp <= LAST_PID", "lwp <= LAST_PDI", "'LAST_PDI' is none of DEFAULT, FORK, "),
+    "a request in a condition": Mistake("== PT_GETLWPLIST", "== PT_GETLWPLITS", "'PT_GETLWPLITS' is none of DEFAULT, FORK, "),
+    "a set": Mistake("in SIGNAL_REQUESTS", "in SINGAL_REQUESTS", "'SINGAL_REQUESTS' is none of DATA_REQUESTS, SIGNAL_REQUESTS"),
+    "a function of rows": Mistake("not is_live.caller.", "not is_life(caller)", "'is_life' is none of call_of, has_child, "),
+    "its arguments": Mistake("traces.caller, ", "traces(", "traces takes 2 arguments"),
+    "rows in what is possible": Mistake("^possible = .act == LEAVE.$", 'possible = "lwps() == 1"', "'lwps' is none of "),
+    "an operation": Mistake("lwp <= LAST_PID", "lwp + 1 <= LAST_PID", "has a BinOp, which no language is written for"),
+    "an expression": Mistake("lwp <= LAST_PID", "lwp <= ", "is no expression: "),
+    "a condition that nothing asks for": Mistake(
+        '"no_other_process", ', "", "'no_other_process' is none of caller_gone, ", 'name = "no_other_process"'
+    ),
+}
+MISTAKES = [(TABLES[0], *made) for made in SCENARIO_MISTAKES.items()] + [(TABLES[1], *made) for made in REFUSAL_MISTAKES.items()]
 
 
 @pytest.fixture(scope="module")
@@ -176,3 +250,20 @@ def test_nothing_is_older_once_it_is_written(copy: Path) -> None:
     change(copy, "PT_ATTACH", "PT_SEIZE")
     assert run(copy / "tools/format", "write").status == 0
     assert run(copy / "tools/format", "check").status == 0
+
+
+@pytest.mark.parametrize(("table", "name", "made"), MISTAKES, ids=[f"{Path(table).stem}: {name}" for table, name, _ in MISTAKES])
+def test_a_word_that_is_not_known_is_told_with_its_line(copy: Path, table: str, name: str, made: Mistake) -> None:
+    text = (copy / table).read_text()
+    place = re.search(made.old, text, re.MULTILINE)
+    assert place
+    text = text[: place.start()] + made.new + text[place.end() :]
+    (copy / table).write_text(text)
+    files = {file: file.read_bytes() for file in copy.rglob("*") if file.is_file()}
+    ran = run(copy / "tools/format", "write")
+    assert (ran.status, ran.out) == (1, "")
+    told = re.fullmatch(rf"format: {table}:(\d+): (.*)\n", ran.err)
+    assert told and made.said in told[2], ran.err
+    line = int(told[1])
+    assert text.splitlines()[line - 1] == made.line if made.line else line == text.count("\n", 0, place.start()) + 1
+    assert {file: file.read_bytes() for file in files} == files
