@@ -108,10 +108,22 @@ enum { /* flags of a stop: the model's own bits, and not those of pl_flags */
     TRACEHOST_PL_FLAG_CHILD = 16, TRACEHOST_PL_FLAG_BORN = 32, TRACEHOST_PL_FLAG_EXITED = 64,
     TRACEHOST_PL_FLAG_VFORKED = 128, TRACEHOST_PL_FLAG_VFORK_DONE = 256
 };
+enum { /* dispositions */
+    TRACEHOST_DEFAULT = 0, TRACEHOST_IGNORE = 1, TRACEHOST_CATCH = 2
+};
+enum { /* options of wait4; no wait blocks */
+    TRACEHOST_WNOHANG = 1, TRACEHOST_WUNTRACED = 2, TRACEHOST_WCONTINUED = 4
+};
+enum { /* decisions of a rule */
+    TRACEHOST_DECLINE = 0, TRACEHOST_LEAVE = 1, TRACEHOST_CONTINUE = 2, TRACEHOST_DETACH = 3, TRACEHOST_KILL = 4
+};
+enum { /* limits, and first and last numbers */
+    TRACEHOST_FIRST_USER = 1001, TRACEHOST_LAST_USER = 1064, TRACEHOST_LAST_SIGNAL = 31,
+    TRACEHOST_MAX_PROCESSES = 250, TRACEHOST_MAX_LWPS = 1000, TRACEHOST_MAX_HANDLERS = 64,
+    TRACEHOST_MAX_RULES = 16, TRACEHOST_FIRST_PROCESS = 1000, TRACEHOST_PROCESS_NUMBERS = 1000,
+    TRACEHOST_LAST_PROCESS = 99999, TRACEHOST_FIRST_LWP = 100000, TRACEHOST_LWP_NUMBERS = 4000
+};
 /* end */
-enum { TRACEHOST_DEFAULT = 0, TRACEHOST_IGNORE = 1, TRACEHOST_CATCH = 2 };             /* dispositions */
-enum { TRACEHOST_WNOHANG = 1, TRACEHOST_WUNTRACED = 2, TRACEHOST_WCONTINUED = 4 };     /* options; no wait blocks */
-enum { TRACEHOST_DECLINE = 0, TRACEHOST_LEAVE = 1, TRACEHOST_CONTINUE = 2, TRACEHOST_DETACH = 3, TRACEHOST_KILL = 4 };
 
 /* A rule of a stop handler. The first of its rules that fits a stop decides it. */
 typedef struct tracehost_rule {
@@ -121,14 +133,15 @@ typedef struct tracehost_rule {
     uint32_t pass;     /* for CONTINUE and DETACH: a signal, or 0 for none; else without meaning */
 } tracehost_rule;
 
-enum { /* acts of an LWP, and what `argument` is */
-    TRACEHOST_COMPUTE = 0, TRACEHOST_RAISE = 1 /* a signal */, TRACEHOST_BLOCK = 2 /* signals, signal n as bit n - 1 */,
-    TRACEHOST_ENTER = 3 /* see the calls */, TRACEHOST_LEAVE_CALL = 4
+/* tools/format acts */
+enum { /* acts of an LWP; `argument` is RAISE's signal, and BLOCK's signals, signal n as bit n - 1 */
+    TRACEHOST_COMPUTE = 0, TRACEHOST_RAISE = 1, TRACEHOST_BLOCK = 2, TRACEHOST_ENTER = 3, TRACEHOST_LEAVE_CALL = 4
 };
-enum { /* calls that TRACEHOST_ENTER enters */
+enum { /* calls that TRACEHOST_ENTER enters; `argument` is EXIT's status, 0 to 255, and OTHER's number */
     TRACEHOST_FORK = 0, TRACEHOST_VFORK = 1, TRACEHOST_EXEC = 2, TRACEHOST_THR_NEW = 3, TRACEHOST_THR_EXIT = 4,
-    TRACEHOST_EXIT = 5 /* argument: the exit status, 0 to 255 */, TRACEHOST_OTHER = 6 /* argument: the call's number */
+    TRACEHOST_EXIT = 5, TRACEHOST_OTHER = 6
 };
+/* end */
 
 /* The version of the library that the program runs with: that of the header is TRACEHOST_VERSION. */
 const char *tracehost_version(void);

@@ -86,7 +86,7 @@ def call(view: View, asked: Called) -> tuple[View, Reply]:
         case List():
             return view, Processes(tuple([row.number for row in view.processes]))
         case Install():
-            refuse_if(len(view.handlers) >= names.HANDLERS, "EAGAIN")
+            refuse_if(len(view.handlers) >= names.MAX_HANDLERS, "EAGAIN")
             return view._replace(handlers=(*view.handlers, Handler(caller.number, asked.rules))), Ok()
         case Handle():
             return handle(view, asked)

@@ -26,8 +26,8 @@ from .steps import Caught, Ended, Error, Held, New, Ok, Refusal, Reply, Stopped,
 
 def need_room(view: View, process: bool) -> None:
     """Refuses a step that makes an LWP, or also a process, beyond the user's limits."""
-    refuse_if(process and len(view.processes) >= names.PROCESSES, "EAGAIN")
-    refuse_if(len(view.lwps) >= names.LWPS, "EAGAIN")
+    refuse_if(process and len(view.processes) >= names.MAX_PROCESSES, "EAGAIN")
+    refuse_if(len(view.lwps) >= names.MAX_LWPS, "EAGAIN")
 
 
 def turn(view: View, asked: Turn) -> tuple[View, Reply]:

@@ -13,10 +13,17 @@ _ABSENT = object()
 NO_JSON = object()
 _MOST_SHOWN = 160
 
-SIGNALS = ["SIG" + name for name in (
-    "HUP INT QUIT ILL TRAP ABRT EMT FPE KILL BUS SEGV SYS PIPE ALRM TERM URG STOP TSTP CONT CHLD TTIN TTOU IO XCPU XFSZ"
-    " VTALRM PROF WINCH INFO USR1 USR2"
-).split()]  # fmt: skip
+# tools/format names
+SIGNALS = [
+    "SIGHUP", "SIGINT", "SIGQUIT", "SIGILL", "SIGTRAP", "SIGABRT", "SIGEMT", "SIGFPE", "SIGKILL", "SIGBUS",
+    "SIGSEGV", "SIGSYS", "SIGPIPE", "SIGALRM", "SIGTERM", "SIGURG", "SIGSTOP", "SIGTSTP", "SIGCONT", "SIGCHLD",
+    "SIGTTIN", "SIGTTOU", "SIGIO", "SIGXCPU", "SIGXFSZ", "SIGVTALRM", "SIGPROF", "SIGWINCH", "SIGINFO", "SIGUSR1",
+    "SIGUSR2",
+]  # fmt: skip
+FIRST_USER, LAST_USER, LAST_PROCESS = 1001, 1064, 99999
+# the requests that let their target go on
+RESUMES = ("PT_CONTINUE", "PT_STEP", "PT_DETACH", "PT_TO_SCE", "PT_TO_SCX", "PT_SYSCALL")
+# end
 
 
 def is_whole(value: Any) -> bool:
@@ -28,7 +35,7 @@ def is_word(value: Any) -> bool:
 
 
 def is_user(value: Any) -> bool:
-    return is_whole(value) and 1001 <= value <= 1064
+    return is_whole(value) and FIRST_USER <= value <= LAST_USER
 
 
 def is_signal(value: Any) -> bool:
@@ -169,7 +176,7 @@ def fault_of_reply(reply: Any) -> Optional[str]:
     if is_name(reply.get("refused")) and "reply" not in reply:
         return None
     if not is_user(reply.get("user")):
-        return "no user from 1001 to 1064"
+        return f"no user from {FIRST_USER} to {LAST_USER}"
     if not is_whole(reply.get("step")) or reply["step"] < 1:
         return "no number of a step"
     if type(reply.get("reply")) is not str or reply["reply"] not in REPLIES:
@@ -281,7 +288,7 @@ def fault_of_pair(lines: Read, scenario: Read) -> Optional[str]:
         answered = {(index,): step for index, step in enumerate(steps)}
         keys = [(index,) for index in range(len(lines.replies))]
     else:
-        answered, counts = {}, dict.fromkeys(range(1001, 1065), 0)
+        answered, counts = {}, dict.fromkeys(range(FIRST_USER, LAST_USER + 1), 0)
         for step in filter(is_object, steps):
             assert step is not None
             counts[step["user"]] += 1

@@ -4,7 +4,7 @@
 #include <stdlib.h>
 #include <tracehost.h>
 
-enum { ANSWER = 4096, RULES = 16 }; /* room for most answers; the most rules of a handler */
+enum { ANSWER = 4096 }; /* room for most answers */
 
 /* the enums of internal.h are the library's */
 typedef char same_kinds[(int)THP_ERROR == TRACEHOST_ERROR && (int)THP_HANDLED == TRACEHOST_HANDLED ? 1 : -1];
@@ -33,8 +33,8 @@ static int flags_of(uint32_t bits)
 
 static uint32_t install(tracehost *library, const struct thp_step *step, tracehost_reply *reply)
 {
-    tracehost_rule rules[RULES];
-    if (step->rule_count > RULES)
+    tracehost_rule rules[TRACEHOST_MAX_RULES];
+    if (step->rule_count > TRACEHOST_MAX_RULES)
         return TRACEHOST_INVALID;
     for (size_t i = 0; i < step->rule_count; i++) {
         const struct th_rule *rule = &step->rules[i];

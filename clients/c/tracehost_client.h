@@ -116,9 +116,11 @@ struct th_lwpinfo {
 };
 
 /* wait(2): options, and what a status contains */
+/* tools/format options */
 #define TH_WNOHANG 1
 #define TH_WUNTRACED 2
 #define TH_WCONTINUED 4
+/* end */
 #define TH_WSTATUS_(status) ((status)&0177)
 #define TH_WIFSTOPPED(status) (TH_WSTATUS_(status) == 0177)
 #define TH_WSTOPSIG(status) ((status) >> 8)
@@ -129,6 +131,7 @@ struct th_lwpinfo {
 #define TH_WEXITSTATUS(status) ((status) >> 8)
 
 /* signals */
+/* tools/format signals */
 #define TH_SIGHUP 1
 #define TH_SIGINT 2
 #define TH_SIGQUIT 3
@@ -160,6 +163,7 @@ struct th_lwpinfo {
 #define TH_SIGINFO 29
 #define TH_SIGUSR1 30
 #define TH_SIGUSR2 31
+/* end */
 
 /* the name of a signal, as "SIGHUP"; NULL if there is none */
 const char *th_signame(int sig);
@@ -173,6 +177,7 @@ int th_flagnames(int flags, char *text, size_t size);
 int th_eventnames(int mask, char *text, size_t size);
 
 /* FreeBSD's errno numbers */
+/* tools/format errors */
 #define TH_EPERM 1
 #define TH_ESRCH 3
 #define TH_ECHILD 10
@@ -180,6 +185,7 @@ int th_eventnames(int mask, char *text, size_t size);
 #define TH_EBUSY 16
 #define TH_EINVAL 22
 #define TH_EAGAIN 35
+/* end */
 
 /* FreeBSD's number of a host system's errno that a call has set; 0 for one that isn't the model's */
 int th_freebsd_errno(int error);

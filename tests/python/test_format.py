@@ -20,13 +20,16 @@ from checking import TOP, run
 
 TABLES = ("format/scenario.toml", "format/refusals.toml")
 COPIED = (
-    "format tools crates schema include clients/c clients/posix/broker clients/posix/runtime clients/posix/tracehost_posix"
+    "format tools crates schema include reference clients/c clients/posix/broker clients/posix/runtime clients/posix/tracehost_posix"
     " clients/python clients/rust/src viewer docs/FORMAT.md man"
 )
 CLIENTS = (
     "clients/c/names.c clients/c/tracehost_client.h clients/python/tracehost/names.py clients/rust/src/steps.rs include/tracehost.h"
     " clients/posix/broker/model.c clients/posix/runtime/trace.c"
 )
+REFERENCE = "reference/names.py"
+NAMES = "clients/python/tracehost/names.py"
+LIMITS = f"{REFERENCE} {NAMES} include/tracehost.h"
 NOT_IN_C = "clients/python/tracehost/conditions.py clients/rust/src/refusals.rs include/tracehost_explain.hpp"
 REFUSALS = f"clients/c/refusals.c {NOT_IN_C}"
 MANUAL = "clients/python/tracehost/manual.py"
@@ -65,7 +68,7 @@ CHANGES = [
         "another name of a request",
         "PT_ATTACH",
         "PT_SEIZE",
-        f"{EXPLAINED} {SCHEMA} {CLIENTS} {MANUAL} docs/FORMAT.md man/tracehost.1 clients/rust/src/refusals.rs"
+        f"{EXPLAINED} {SCHEMA} {CLIENTS} {MANUAL} {REFERENCE} docs/FORMAT.md man/tracehost.1 clients/rust/src/refusals.rs"
         " include/tracehost_explain.hpp",
     ),
     Change(
@@ -76,17 +79,57 @@ CHANGES = [
     ),
     Change(
         "another number of a request",
-        "^number = 10$",
-        "number = 12",
+        r'(?<=^variant = "Attach"\nnumber = )10$',
+        "12",
         f"{CLIENTS} {REFUSALS}",
     ),
     Change(
         "another name of a call",
-        '(?<=["`])vfork(?=["`])',
-        "rfork",
-        f"{EXPLAINED} {SCHEMA} clients/c/names.c clients/python/tracehost/names.py {MANUAL} docs/FORMAT.md",
+        '"thr_exit"',
+        '"thr_end"',
+        f"{EXPLAINED} {SCHEMA} clients/c/names.c clients/python/tracehost/names.py {MANUAL} docs/FORMAT.md {REFERENCE}"
+        " clients/posix/broker/model.c clients/python/tracehost/typed.py include/tracehost.h",
     ),
-    Change("another range", "^user = .*", "user = [1001, 1065]", f"{EXPLAINED} {SCHEMA}"),
+    Change(
+        "another range",
+        "^user = .*",
+        "user = [1001, 1065]",
+        f"{EXPLAINED} {SCHEMA} {REFERENCE} {NAMES} include/tracehost.h viewer/src/names.mjs viewer/reading.py",
+    ),
+    Change("another limit", "^lwps = 1000", "lwps = 999", f"{REFERENCE} {NAMES} {REFUSALS} clients/c/rows.c include/tracehost.h"),
+    Change("the rules of a handler", "^rules = 16", "rules = 17", f"{LIMITS} clients/rust/src/sys.rs {SCHEMA}"),
+    Change(
+        "the first LWP",
+        "^first_lwp = 100000",
+        "first_lwp = 200000",
+        f"{LIMITS} {REFUSALS} {SCHEMA} clients/c/rows.c clients/rust/src/sys.rs viewer/src/names.mjs viewer/reading.py",
+    ),
+    Change(
+        "the name of a signal",
+        '"SIGUSR1"',
+        '"SIGUSR3"',
+        f"{NAMES} {REFERENCE} clients/c/names.c clients/c/tracehost_client.h clients/posix/broker/notices.c"
+        " clients/rust/src/numbers.rs include/tracehost_explain.hpp viewer/src/names.mjs viewer/reading.py",
+    ),
+    Change(
+        "the number of an error",
+        "^number = 35",
+        "number = 11",
+        f"{REFERENCE} clients/c/tracehost_client.h clients/python/tracehost/replies.py clients/rust/src/numbers.rs",
+    ),
+    Change(
+        "FreeBSD's bit of a flag",
+        "^number = 0x0800",
+        "number = 0x1000",
+        f"{NAMES} clients/c/tracehost_client.h clients/posix/broker/answers.c clients/rust/src/flags.rs",
+    ),
+    Change(
+        "a request that resumes",
+        r'(?<=^name = "PT_KILL"\nvariant = "Kill"\nnumber = 8\nkeys = ..target., ..data...\ndata = ")ignored',
+        "signal",
+        f"{SCHEMA} {REFERENCE} {REFUSALS} {MANUAL} clients/rust/src/steps.rs clients/posix/broker/trace_calls.c"
+        " viewer/src/names.mjs viewer/reading.py",
+    ),
     Change(
         "a key that may be missing",
         '"caller", "which", "signal"',
@@ -126,8 +169,8 @@ SCENARIO_MISTAKES = {
     "an answer": Mistake("^answers = .`new`", 'answers = "`nwe`', "'nwe' is none of caught, ended, "),
     "a reply": Mistake('"info", "lwps"', '"inof", "lwps"', "'inof' is none of caught, ended, "),
     "a name in a text": Mistake("`which` is a number, a process or -1 for any;", "`wich` is any;", "'wich' is none of "),
-    "a constant in a text": Mistake("or clears it if data is 0", "PTRACE_FROK", "'PTRACE_FROK' is none of PL_FLAG_BORN, "),
-    "a constant in a help": Mistake("no turns until PT_RESUME", "no turns until PT_RESMUE", "'PT_RESMUE' is none of PL_FLAG_"),
+    "a constant in a text": Mistake("or clears it if data is 0", "PTRACE_FROK", "did you mean 'PTRACE_FORK'?"),
+    "a constant in a help": Mistake("no turns until PT_RESUME", "no turns until PT_RESMUE", "did you mean 'PT_RESUME'?"),
     "a class of data": Mistake('^data = "ignored"', 'data = "nonsense"', "'nonsense' is none of count, ignored, signal, switch"),
     "the name of a class of data": Mistake(r"^\[data.switch\]", "[data.swich]", "'swich' is none of count, ignored, "),
     "a key of a class of data": Mistake("^key = .At most", 'kee = "At most', "'kee' is none of key"),
@@ -145,30 +188,28 @@ SCENARIO_MISTAKES = {
 }
 REFUSAL_MISTAKES = {
     "a table": Mistake(r"^\[groups\]", "[gruops]", "'gruops' is none of call, condition, groups, numbers"),
-    "a condition of a group": Mistake(
-        '^caller = ."caller_gone"', 'caller = ["caller_goen"', "'caller_goen' is none of caller_gone"
-    ),
+    "a condition of a group": Mistake('^caller = ."caller_gone"', 'caller = ["caller_goen"', "did you mean 'caller_gone'?"),
     "an op": Mistake('^op = "list"', 'op = "lits"', "'lits' is none of handle, install, "),
     "a key of a call": Mistake('^order = ."limits".', 'oder = ["limits"]', "'oder' is none of op, order, request, text"),
-    "a condition of a call": Mistake('^order = ."limits".', 'order = ["limit"]', "'limit' is none of caller, caller_gone, "),
+    "a condition of a call": Mistake('^order = ."limits".', 'order = ["limit"]', "did you mean 'limits'?"),
     "a request": Mistake('^request = "PT_ATTACH"', 'request = "PT_ATACH"', "'PT_ATACH' is none of , PT_ATTACH, "),
     "an argument of a call": Mistake(
         "^text = .list.. by .caller.", 'text = "list() by {calle}', "'calle' is none of act, action, "
     ),
     "a key of a condition": Mistake("^possible = .lwp <=", 'posible = "lwp <=', "'posible' is none of answer, holds, "),
-    "an errno": Mistake('^answer = "EPERM"', 'answer = "EPREM"', "'EPREM' has to be one of held, EPERM, "),
-    "an argument in words": Mistake("^words = .{lwp} is no LWP", 'words = "{lpw} is no LWP', "'lpw' is none of act, action, "),
-    "an argument": Mistake("^possible = .lwp <= ", 'possible = "lpw <= ', "'lpw' is none of DEFAULT, FORK, "),
-    "a number": Mistake("lwp <= LAST_PID", "lwp <= LAST_PDI", "'LAST_PDI' is none of DEFAULT, FORK, "),
-    "a request in a condition": Mistake("== PT_GETLWPLIST", "== PT_GETLWPLITS", "'PT_GETLWPLITS' is none of DEFAULT, FORK, "),
+    "an errno": Mistake('^answer = "EPERM"', 'answer = "EPREM"', "'EPREM' is none of EAGAIN, EBUSY, "),
+    "an argument in words": Mistake("^words = .{lwp} is no LWP", 'words = "{lpw} is no LWP', "did you mean 'lwp'?"),
+    "an argument": Mistake("^possible = .lwp <= ", 'possible = "lpw <= ', "did you mean 'lwp'?"),
+    "a number": Mistake("lwp <= LAST_PROCESS", "lwp <= LAST_PROCESSS", "did you mean 'LAST_PROCESS'?"),
+    "a request in a condition": Mistake("== PT_GETLWPLIST", "== PT_GETLWPLITS", "did you mean 'PT_GETLWPLIST'?"),
     "a set": Mistake("in SIGNAL_REQUESTS", "in SINGAL_REQUESTS", "'SINGAL_REQUESTS' is none of DATA_REQUESTS, SIGNAL_REQUESTS"),
     "a function of rows": Mistake("not is_live.caller.", "not is_life(caller)", "'is_life' is none of call_of, has_child, "),
     "its arguments": Mistake("traces.caller, ", "traces(", "traces takes 2 arguments"),
-    "rows in what is possible": Mistake("^possible = .act == LEAVE.$", 'possible = "lwps() == 1"', "'lwps' is none of "),
-    "an operation": Mistake("lwp <= LAST_PID", "lwp + 1 <= LAST_PID", "has a BinOp, which no language is written for"),
-    "an expression": Mistake("lwp <= LAST_PID", "lwp <= ", "is no expression: "),
+    "rows in what is possible": Mistake("^possible = .act == ACT_LEAVE.$", 'possible = "lwps() == 1"', "'lwps' is none of "),
+    "an operation": Mistake("lwp <= LAST_PROCESS", "lwp + 1 <= LAST_PROCESS", "has a BinOp, which no language is written for"),
+    "an expression": Mistake("lwp <= LAST_PROCESS", "lwp <= ", "is no expression: "),
     "a condition that nothing asks for": Mistake(
-        '"no_other_process", ', "", "'no_other_process' is none of caller_gone, ", 'name = "no_other_process"'
+        '"no_other_process", ', "", "no call asks for 'no_other_process'", 'name = "no_other_process"'
     ),
 }
 MISTAKES = [(TABLES[0], *made) for made in SCENARIO_MISTAKES.items()] + [(TABLES[1], *made) for made in REFUSAL_MISTAKES.items()]

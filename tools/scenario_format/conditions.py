@@ -5,7 +5,7 @@ from __future__ import annotations
 import ast
 import dataclasses
 import pathlib
-from typing import Literal
+import re
 
 from .strict import Place, Source
 from .tables import Format
@@ -32,7 +32,6 @@ PARTS = (
     *(ast.Constant, ast.Name, ast.Load, ast.Call),
 )
 PLACEHOLDER = r"\{(.*?)\}"
-Answer = Literal["held", "EPERM", "ESRCH", "ECHILD", "ENOMEM", "EBUSY", "EINVAL", "EAGAIN"]
 
 
 @dataclasses.dataclass(frozen=True)
@@ -40,7 +39,7 @@ class Condition:
     """A condition. format/refusals.toml says what its fields are."""
 
     name: str
-    answer: Answer
+    answer: str
     words: str
     possible: str = ""
     holds: str = ""
@@ -76,22 +75,38 @@ class Refusals:
     def read(cls, path: pathlib.Path, form: Format) -> Refusals:
         source = Source(path, SHAPES)
         requests = {request.name: request.bit for request in form.requests}
-        numbers = {**source.table("numbers", int), **requests}
+        numbers = {**source.table("numbers", int), **_numbers(form), **requests}
         sets = {
             "SIGNAL_REQUESTS": tuple(request.bit for request in form.requests if request.data == "signal"),
             "DATA_REQUESTS": tuple(request.bit for request in form.requests if request.data not in (None, "ignored")),
         }
         conditions = []
         for place, row in source.entries("condition", Condition):
-            source.mentioned(place._replace(key="words"), PLACEHOLDER, row["words"], IN_TEXTS)
+            source.mentioned(place._replace(key="words"), PLACEHOLDER, row["words"], [*IN_TEXTS, *form.numbers])
+            source.known(place._replace(key="answer"), row["answer"], ["held", *(error.name for error in form.errors)])
             for key in {"possible", "holds"} & set(row):
                 check_expression(source, place._replace(key=key), row[key], numbers, sets)
-            conditions.append(Condition(**row))
+            conditions.append(Condition(**{**row, "words": with_numbers(row["words"], form.numbers)}))
         calls = _calls(source, form)
         asked = {name for call in calls for name in call.order}
         for number, condition in enumerate(conditions):
-            source.known(Place("condition", number, "name"), condition.name, asked)
+            if condition.name not in asked:
+                source.wrong(Place("condition", number, "name"), f"no call asks for {condition.name!r}")
         return cls(calls, tuple(conditions), requests, numbers, sets)
+
+
+def with_numbers(words: str, numbers: dict[str, int]) -> str:
+    """The words with numbers in place of their names."""
+    return re.sub(PLACEHOLDER, lambda match: str(numbers.get(match[1], match[0])), words)
+
+
+def _numbers(form: Format) -> dict[str, int]:
+    """The numbers of format/scenario.toml that expressions name."""
+    signals = {name: number for number, name in enumerate(form.signals, 1)}
+    acts = {f"ACT_{act.name.upper()}": act.bit for act in form.acts}
+    calls = {f"CALL_{call.name.upper()}": call.bit for call in form.calls}
+    actions = {f"ACTION_{action.name.upper()}": action.bit for action in form.actions}
+    return {**form.numbers, **signals, **acts, **calls, **actions}
 
 
 def _calls(source: Source, form: Format) -> tuple[Call, ...]:

@@ -3,6 +3,7 @@
 from __future__ import annotations
 
 import collections
+import difflib
 import pathlib
 import re
 import tomllib
@@ -12,6 +13,7 @@ from collections.abc import Collection, Iterator
 from typing import Any, NamedTuple, NoReturn
 
 Row = dict[str, Any]
+FEW = 20
 
 
 class Place(NamedTuple):
@@ -62,21 +64,25 @@ class Source:
         raise SystemExit(f"format: {self._name}:{line}: {why}")
 
     def known(self, place: Place, word: object, words: Collection[str]) -> None:
-        if word not in words:
-            self.wrong(place, f"{word!r} is none of {', '.join(sorted(set(words)))}")
+        if word in words:
+            return
+        names = sorted(set(words))
+        near = difflib.get_close_matches(str(word), names, 1, 0)
+        few = ", ".join(names) if len(names) <= FEW else f"{len(names)} names; did you mean {near[0]!r}?"
+        self.wrong(place, f"{word!r} is none of {few}")
 
     def mentioned(self, place: Place, pattern: str, text: str, words: Collection[str]) -> None:
         """Each word of the text that has this form is one of these."""
         for word in re.findall(pattern, text):
             self.known(place, word, words)
 
-    def table(self, name: str, kind: type | None = None) -> Row:
+    def table(self, name: str, kind: Any) -> Row:
         """The keys of `[name]`; all its values are of this type."""
         row = self._tables
         for part in name.split("."):
             row = row.get(part, {})
         self._keys(Place(name), row, self._shapes[name])
-        for key, value in row.items() if kind is not None else ():
+        for key, value in row.items():
             self._is(Place(name, 0, key), value, kind)
         return row
 

@@ -12,6 +12,8 @@ from .strict import Place, Row, Source
 # the keys of each table's entries
 SHAPES = {
     "ranges": "user word byte signal pass",
+    "limits": "processes lwps handlers rules steps process_numbers lwp_numbers first_process first_lwp",
+    "signals": "names",
     "key": "name kind",
     "op": "name keys about effect answers usage [keys_text] [replies] [help]",
     "request": "name variant number keys about effect answers help [data]",
@@ -19,13 +21,14 @@ SHAPES = {
     "data.switch": "key title about",
     "data.count": "key",
     "data.ignored": "key title about",
-    "act": "name keys about effect answers help keys_text [replies]",
-    "call": "name keys about effect answers help keys_text [code]",
+    "act": "name library keys about effect answers help keys_text [client]",
+    "call": "name library keys about effect answers help keys_text [code]",
     "event": "name about [number] [both]",
     "stop_flag": "name number library about effect",
     "option": "name number",
     "action": "name number client",
     "decision": "name number keys about effect",
+    "error": "name number words",
     "reply": "name",
 }
 # the tables of names, by the fields of Format
@@ -39,6 +42,7 @@ TABLES = {
     "options": "option",
     "actions": "action",
     "decisions": "decision",
+    "errors": "error",
     "replies": "reply",
 }
 # the table whose names a key has
@@ -99,6 +103,7 @@ class Entry:
     replies: tuple[str, ...] = ()
     usage: tuple[str, ...] = ()
     help: str = ""
+    words: str = ""
 
     @classmethod
     def of(cls, row: Row) -> Entry:
@@ -140,6 +145,8 @@ class Format:
     """All tables."""
 
     ranges: dict[str, tuple[int, int]]
+    limits: dict[str, int]
+    signals: tuple[str, ...]
     data: dict[str, Data]
     keys: tuple[NamedKey, ...]
     ops: tuple[Entry, ...]
@@ -151,7 +158,32 @@ class Format:
     options: tuple[Entry, ...]
     actions: tuple[Entry, ...]
     decisions: tuple[Entry, ...]
+    errors: tuple[Entry, ...]
     replies: tuple[Entry, ...]
+
+    @property
+    def numbers(self) -> dict[str, int]:
+        """The limits as constants."""
+        limits = self.limits
+        return {
+            "FIRST_USER": self.ranges["user"][0],
+            "LAST_USER": self.ranges["user"][1],
+            "LAST_SIGNAL": self.ranges["signal"][1],
+            "MAX_PROCESSES": limits["processes"],
+            "MAX_LWPS": limits["lwps"],
+            "MAX_HANDLERS": limits["handlers"],
+            "MAX_RULES": limits["rules"],
+            "FIRST_PROCESS": limits["first_process"],
+            "PROCESS_NUMBERS": limits["process_numbers"],
+            "LAST_PROCESS": limits["first_lwp"] - 1,
+            "FIRST_LWP": limits["first_lwp"],
+            "LWP_NUMBERS": limits["lwp_numbers"],
+        }
+
+    @property
+    def resuming(self) -> list[Entry]:
+        """The requests that let the target go on, and may pass it a signal."""
+        return by_number(tuple(request for request in self.requests if request.data == "signal"))
 
     @classmethod
     def read(cls, path: pathlib.Path) -> Format:
@@ -169,8 +201,13 @@ class Format:
         for name, ends in ranges.items():
             if len(ends) != 2 or ends[0] > ends[1]:
                 source.wrong(Place("ranges", 0, name), f"{ends} has to be the least and the most")
+        signals = source.table("signals", tuple[str, ...])["names"]
+        if list(ranges["signal"]) != [1, len(set(signals))]:
+            source.wrong(Place("signals", 0, "names"), f"{len(set(signals))} names, of the signals {ranges['signal']}")
         return cls(
             ranges={name: (least, most) for name, (least, most) in ranges.items()},
+            limits=source.table("limits", int),
+            signals=tuple(signals),
             data={name: Data(**row) for name, row in data.items()},
             keys=keys,
             **tables,

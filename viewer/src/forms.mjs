@@ -1,10 +1,10 @@
 /** The forms of values in files, and of the rows in lines of `--json=trace+rows`. */
 
-import { SIGNALS } from "./names.mjs";
+import { FIRST_USER, LAST_USER, SIGNALS } from "./names.mjs";
 
 export const isWhole = (value) => Number.isInteger(value);
 export const isWord = (value) => isWhole(value) && value >= 0 && value < 2 ** 32;
-export const isUser = (value) => isWhole(value) && value >= 1001 && value <= 1064;
+export const isUser = (value) => isWhole(value) && value >= FIRST_USER && value <= LAST_USER;
 export const isSignal = (value) => SIGNALS.indexOf(value) > 0;
 /** @type {Set<unknown>} the names so far: there are few, in many lines */
 const names = new Set();

@@ -1,6 +1,7 @@
 /** Reading of files: lines of `--json`, scenarios, and which step each line answers. */
 
 import { isName, isObject, isSignal, isUser, isWhole, isWord, listOf, oneOf, ROWS, wrongMember } from "./forms.mjs";
+import { FIRST_USER, LAST_USER } from "./names.mjs";
 
 const FLAGS = { flags: listOf(isName), child: isWord, code: isWord };
 const STATUS = { word: isWord };
@@ -81,7 +82,7 @@ function faultInTrace(reply) {
 function faultOfReply(reply) {
   if (!isObject(reply)) return "no object";
   if (isName(reply.refused) && reply.reply === undefined) return undefined;
-  if (!isUser(reply.user)) return "no user from 1001 to 1064";
+  if (!isUser(reply.user)) return `no user from ${FIRST_USER} to ${LAST_USER}`;
   if (!isWhole(reply.step) || reply.step < 1) return "no number of a step";
   if (!REPLIES.has(reply.reply)) return "no reply that is known";
   const members = REPLIES.get(reply.reply);

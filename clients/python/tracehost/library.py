@@ -12,12 +12,10 @@ from typing import Any, Optional
 
 from . import checkout, packaged
 from .errors import SessionClosed
+from .names import MAX_LWPS, MAX_PROCESSES
 
 # what a call returns
 ANSWERED, NOT_OPEN, NO_MEMORY, INVALID, NO_TEXT, TOO_MANY = range(6)
-
-# what a user may have (docs/FORMAT.md, section 2)
-MOST_PROCESSES, MOST_LWPS = 250, 1000
 
 _NAME = "libtracehost.so"
 _ROOM = 1 << 16
@@ -293,7 +291,7 @@ class Session:
     def rows(self, uid: int) -> RawRows:
         """The user's processes and LWPs, until the next call of this function. Raises ValueError if this is no user."""
         if self._rows is None:
-            self._rows = (CProcess * MOST_PROCESSES)(), (CLwp * MOST_LWPS)()
+            self._rows = (CProcess * MAX_PROCESSES)(), (CLwp * MAX_LWPS)()
         processes, lwps = self._rows
         counts = (c_size_t(), c_size_t())
         code = self.library["view"](

@@ -197,7 +197,9 @@ Turned = Union[None, New, Stopped, Caught, Ended]
 
 NOTHING = Waited(0, 0)
 # FreeBSD's numbers in errno(2)
+# tools/format errors
 _ERRNOS = {1: "EPERM", 3: "ESRCH", 10: "ECHILD", 12: "ENOMEM", 16: "EBUSY", 22: "EINVAL", 35: "EAGAIN"}
+# end
 
 
 class Answered(Exception):

@@ -28,23 +28,15 @@ from .replies import (
 from .steps import Act, Block, Compute, Enter, Raise, Rule
 
 # the library's numbers of acts, calls, actions, decisions, and its bits of flags
-_COMPUTE, _RAISE, _BLOCK, _ENTER, _LEAVE = range(5)
+# tools/format numbers
+_COMPUTE, _RAISE, _BLOCK, _ENTER, _LEAVE = 0, 1, 2, 3, 4
 CALLS = (Call.FORK, Call.VFORK, Call.EXEC, Call.THR_NEW, Call.THR_EXIT, Call.EXIT, Call.OTHER)
+# end
 _NUMBER_OF_CALL = {call: number for number, call in enumerate(CALLS)}
-_NUMBER_OF_ACTION = {Action.SIG_DFL: 0, Action.SIG_IGN: 1, Action.CATCH: 2}
-_DECISIONS = (Decision.DECLINE, Decision.LEAVE, Decision.CONTINUE, Decision.DETACH, Decision.KILL)
+_NUMBER_OF_ACTION = {action: number for number, action in enumerate(Action)}
+_DECISIONS = tuple(Decision)
 _PASSING = (Decision.CONTINUE, Decision.DETACH)
-_FLAGS = (
-    StopFlag.PL_FLAG_SCE,
-    StopFlag.PL_FLAG_SCX,
-    StopFlag.PL_FLAG_EXEC,
-    StopFlag.PL_FLAG_FORKED,
-    StopFlag.PL_FLAG_CHILD,
-    StopFlag.PL_FLAG_BORN,
-    StopFlag.PL_FLAG_EXITED,
-    StopFlag.PL_FLAG_VFORKED,
-    StopFlag.PL_FLAG_VFORK_DONE,
-)
+_FLAGS = tuple(StopFlag)
 
 
 class NotTyped(Exception):

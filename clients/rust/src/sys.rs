@@ -19,6 +19,11 @@ pub const INVALID: u32 = 3;
 pub const NO_TEXT: u32 = 4;
 pub const TOO_MANY: u32 = 5;
 
+// tools/format limits
+pub const LAST_PROCESS: u32 = 99_999;
+pub const MAX_RULES: usize = 16;
+// end
+
 /// `tracehost`
 #[repr(C)]
 struct Raw {
