@@ -128,7 +128,7 @@ def python_enum(head: str, about: str, members: dict[str, int]) -> str:
 
 
 def python_limits(form: Format) -> str:
-    return "".join(f"{name} = {number}\n" for name, number in form.numbers.items())
+    return "".join(f"{name.replace('MAX_', 'MOST_')} = {number}\n" for name, number in form.numbers.items())
 
 
 def python_signals(form: Format) -> str:

@@ -78,9 +78,7 @@ class Source:
 
     def table(self, name: str, kind: Any) -> Row:
         """The keys of `[name]`; all its values are of this type."""
-        row = self._tables
-        for part in name.split("."):
-            row = row.get(part, {})
+        row: Row = self._found(name) or {}
         self._keys(Place(name), row, self._shapes[name])
         for key, value in row.items():
             self._is(Place(name, 0, key), value, kind)
@@ -88,14 +86,18 @@ class Source:
 
     def tables(self, name: str) -> dict[str, Row]:
         """The tables `[name.first]` and so on."""
+        return {key: self.table(f"{name}.{key}", str) for key in self.parts(name)}
+
+    def parts(self, name: str) -> list[str]:
+        """The names of all tables `[name.first]` and so on, or of tables `[[name.first]]`."""
         inner = [shape.split(".")[1] for shape in self._shapes if shape.startswith(f"{name}.")]
         for key in self._tables[name]:
             self.known(Place(f"{name}.{key}"), key, inner)
-        return {key: self.table(f"{name}.{key}", str) for key in inner}
+        return inner
 
     def entries(self, table: str, types_of: type) -> Iterator[tuple[Place, Row]]:
         """The entries of `[[table]]`. Each has the keys of its shape, with the types that the class gives them."""
-        rows, hints = self._tables[table], typing.get_type_hints(types_of)
+        rows, hints = self._found(table), typing.get_type_hints(types_of)
         if not isinstance(rows, list):
             self.wrong(Place(table), f"[{table}] has to be [[{table}]]")
         names: set[str] = set()
@@ -110,7 +112,14 @@ class Source:
             yield place, row
 
     def names(self, table: str) -> list[str]:
-        return [row["name"] for row in self._tables[table] if isinstance(row, dict) and "name" in row]
+        return [row["name"] for row in self._found(table) if isinstance(row, dict) and "name" in row]
+
+    def _found(self, name: str) -> Any:
+        """The table or the tables of this name, which may have a point."""
+        found: Any = self._tables
+        for part in name.split("."):
+            found = found.get(part) if isinstance(found, dict) else None
+        return found
 
     def _keys(self, place: Place, row: Row, shape: str) -> None:
         words = [word.strip("[]") for word in shape.split()]
@@ -135,7 +144,7 @@ def _fits(value: object, hint: Any) -> bool:
         return value in arguments
     if issubclass(hint, str):
         return isinstance(value, str)
-    return isinstance(value, hint) and not isinstance(value, bool)
+    return isinstance(value, hint) and isinstance(value, bool) == (hint is bool)
 
 
 def _in_words(hint: Any) -> str:
@@ -146,4 +155,4 @@ def _in_words(hint: Any) -> str:
         return " or ".join(_in_words(one) for one in arguments if one is not type(None))
     if origin is typing.Literal:
         return f"one of {', '.join(arguments)}"
-    return "a text" if issubclass(hint, str) else "a whole number"
+    return "a text" if issubclass(hint, str) else "true or false" if hint is bool else "a whole number"

@@ -7,6 +7,7 @@ import pathlib
 import re
 from typing import Literal
 
+from . import replies
 from .strict import Place, Row, Source
 
 # the keys of each table's entries
@@ -29,7 +30,7 @@ SHAPES = {
     "action": "name number client",
     "decision": "name number keys about effect",
     "error": "name number words",
-    "reply": "name",
+    **replies.SHAPES,
 }
 # the tables of names, by the fields of Format
 TABLES = {
@@ -43,7 +44,6 @@ TABLES = {
     "actions": "action",
     "decisions": "decision",
     "errors": "error",
-    "replies": "reply",
 }
 # the table whose names a key has
 NAMES = {"data": "data", "code": "ranges", "both": "event", "replies": "reply"}
@@ -159,7 +159,7 @@ class Format:
     actions: tuple[Entry, ...]
     decisions: tuple[Entry, ...]
     errors: tuple[Entry, ...]
-    replies: tuple[Entry, ...]
+    shapes: replies.Shapes
 
     @property
     def numbers(self) -> dict[str, int]:
@@ -191,7 +191,7 @@ class Format:
         ranges, data = source.table("ranges", tuple[int, ...]), source.tables("data")
         keys = tuple(NamedKey(**row) for _, row in source.entries("key", NamedKey))
         names = {"ranges": list(ranges), "data": list(data)}
-        names |= {table: source.names(table) for table in (*TABLES.values(), "key")}
+        names |= {table: source.names(table) for table in (*TABLES.values(), "key", "reply")}
         tables = {}
         for field, table in TABLES.items():
             rows = list(source.entries(table, Entry))
@@ -210,6 +210,7 @@ class Format:
             signals=tuple(signals),
             data={name: Data(**row) for name, row in data.items()},
             keys=keys,
+            shapes=replies.Shapes.read(source),
             **tables,
         )
 

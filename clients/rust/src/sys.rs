@@ -56,6 +56,17 @@ macro_rules! record {
 }
 
 record! {
+    /// `tracehost_rule`
+    Rule {
+        flags,
+        signal,
+        decision,
+        pass,
+    }
+}
+
+// tools/format structs
+record! {
     /// `tracehost_reply`
     Reply {
         kind,
@@ -77,16 +88,6 @@ record! {
         error,
         count,
         stop_pid,
-    }
-}
-
-record! {
-    /// `tracehost_rule`
-    Rule {
-        flags,
-        signal,
-        decision,
-        pass,
     }
 }
 
@@ -126,6 +127,7 @@ record! {
         code,
     }
 }
+// end
 
 extern "C" {
     fn tracehost_version() -> *const c_char;
