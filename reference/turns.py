@@ -121,7 +121,7 @@ def exit_of_call(
     """The stop of a call's exit, with its flags under its event, or under PTRACE_SCX; without one the call's answer."""
     child = 0
     if event in process.mask:
-        child = 0 if made is None else made.process
+        child = 0 if made is None else made.pid
     elif names.ON_EXIT in process.mask:
         flags = NO_NAMES
     else:

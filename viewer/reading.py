@@ -71,55 +71,76 @@ def _rows_of(members: Mapping[str, Check]) -> Check:
     return _maybe(list_of(lambda row: is_object(row) and wrong_member(row, members) is None))
 
 
-_FLAGS: dict[str, Check] = {"flags": list_of(is_name), "child": is_word, "code": is_word}
 _STATUS: dict[str, Check] = {"word": is_word}
 _SIGNAL: dict[str, Check] = {"signal": is_signal, "number": is_word}
+_ERROR: dict[str, Check] = {"errno": is_name, "number": is_word}
 
 
-def _is_stop(value: Any) -> bool:
-    return is_object(value) and wrong_member(value, {"lwp": is_word, **_SIGNAL, **_FLAGS}) is None
+def _object_of(members: Mapping[str, Check]) -> Check:
+    return lambda value: is_object(value) and wrong_member(value, members) is None
 
 
-def _is_passed(value: Any) -> bool:
-    return value is _ABSENT or value is None or (is_object(value) and wrong_member(value, _SIGNAL) is None)
+def _or_null(check: Check) -> Check:
+    return lambda value: value is None or check(value)
 
 
+_is_passed = _maybe(_or_null(_object_of(_SIGNAL)))
+# tools/format replies
+_DECISION: dict[str, Check] = {"decision": one_of("decline", "leave", "continue", "detach", "kill"), "pass": _is_passed}
 # the members of each reply
 REPLIES: dict[str, dict[str, Check]] = {
     "ok": {},
-    "nothing": {},
-    "held": {},
     "new": {"pid": is_word, "lwp": is_word},
     "number": {"number": is_word},
     "status": {"pid": is_word, **_STATUS},
-    "info": {
-        "lwp": is_word, "event": one_of("SIGNAL", "NONE"), "mask": list_of(is_signal), "pending": list_of(is_signal), **_FLAGS,
-    },
+    "nothing": {},
+    "info": {"lwp": is_word, "event": one_of("SIGNAL", "NONE"), "flags": list_of(is_name), "mask": list_of(is_signal),
+        "pending": list_of(is_signal), "child": is_word, "code": is_word},
     "lwps": {"lwps": list_of(is_word)},
     "pids": {"pids": list_of(is_word)},
     "mask": {"events": list_of(is_name)},
-    "handled": {
-        "pid": is_word, **_STATUS, "at": _is_stop, "by": lambda by: by is None or is_word(by),
-        "decision": one_of("decline", "leave", "continue", "detach", "kill"), "pass": _is_passed,
-    },
+    "handled": {"pid": is_word, **_STATUS, "at": _object_of({"lwp": is_word, **_SIGNAL, "flags": list_of(is_name),
+        "child": is_word, "code": is_word}), "by": _or_null(is_word), **_DECISION},
     "stopped": {"lwp": is_word, **_SIGNAL, "flags": list_of(is_name)},
-    "caught": _SIGNAL,
-    "ended": _STATUS,
-    "error": {"errno": is_name, "number": is_word},
+    "caught": {**_SIGNAL},
+    "ended": {**_STATUS},
+    "held": {},
+    "error": {**_ERROR},
 }  # fmt: skip
-_SET, _NUMBER = _maybe(one_of(True)), _maybe(is_word)
-_SIGNALS, _NAMES = _maybe(list_of(is_signal)), _maybe(list_of(is_name))
+# end
+# tools/format rows
 _PROCESS: dict[str, Check] = {
-    "pid": is_word, "parent": is_word, "tracer": _NUMBER, "state": one_of("runs", "trace_stop", "job_stop", "zombie"),
-    "stop_signal": _maybe(is_signal), "reported": _SET, "stop_lwp": _NUMBER, "status": _NUMBER, "continued": _SET,
-    "events": _NAMES, "pending": _SIGNALS, "ignore": _SIGNALS, "catch": _SIGNALS,
-}  # fmt: skip
+    "pid": is_word,
+    "parent": is_word,
+    "tracer": _maybe(is_word),
+    "state": one_of("runs", "trace_stop", "job_stop", "zombie"),
+    "stop_lwp": _maybe(is_word),
+    "stop_signal": _maybe(is_signal),
+    "reported": _maybe(one_of(True)),
+    "status": _maybe(is_word),
+    "continued": _maybe(one_of(True)),
+    "events": _maybe(list_of(is_name)),
+    "pending": _maybe(list_of(is_signal)),
+    "ignore": _maybe(list_of(is_signal)),
+    "catch": _maybe(list_of(is_signal)),
+}
 _LWP: dict[str, Check] = {
-    "lwp": is_word, "pid": is_word, "mode": one_of("runs", "in_call", "waits_for_vfork"), "call": _maybe(is_name),
-    "argument": _NUMBER, "vfork_child": _NUMBER, "suspended": _SET, "stepping": _SET, "blocked": _SIGNALS,
-    "pending": _SIGNALS, "due": _maybe(one_of("born", "begun", "vfork_done")), "flags": _NAMES, "child": _NUMBER,
-    "code": _NUMBER,
-}  # fmt: skip
+    "lwp": is_word,
+    "pid": is_word,
+    "mode": one_of("runs", "in_call", "waits_for_vfork"),
+    "call": _maybe(is_name),
+    "argument": _maybe(is_word),
+    "vfork_child": _maybe(is_word),
+    "suspended": _maybe(one_of(True)),
+    "stepping": _maybe(one_of(True)),
+    "blocked": _maybe(list_of(is_signal)),
+    "pending": _maybe(list_of(is_signal)),
+    "due": _maybe(one_of("born", "begun", "vfork_done")),
+    "flags": _maybe(list_of(is_name)),
+    "child": _maybe(is_word),
+    "code": _maybe(is_word),
+}
+# end
 # the members of what a step changed
 ROWS: dict[str, Check] = {
     "processes": _rows_of(_PROCESS), "lwps": _rows_of(_LWP), "removed_processes": _maybe(list_of(is_word)),

@@ -83,13 +83,14 @@ static uint32_t call_library(tracehost *library, const struct thp_step *step, tr
 static void take_reply(tracehost *library, const tracehost_reply *told, const struct thp_step *step, struct thp_reply *reply)
 {
     reply->kind = (enum thp_kind)told->kind;
+    /* tools/format reply */
     reply->pid = (int)told->pid;
     reply->lwp = (int)told->lwp;
     reply->number = (int)told->number;
     reply->status = (int)told->status;
     reply->signal = (int)told->signal;
     reply->event = (int)told->event;
-    reply->flags = reply->kind == THP_MASK ? (int)told->mask : flags_of(told->flags);
+    reply->flags = flags_of(told->flags);
     reply->mask = (int)told->mask;
     reply->pending = (int)told->pending;
     reply->child = (int)told->child;
@@ -98,7 +99,9 @@ static void take_reply(tracehost *library, const tracehost_reply *told, const st
     reply->decision = (int)told->decision;
     reply->pass = (int)told->pass;
     reply->error = thp_errno_numbered(told->error);
+    reply->events = (int)told->mask;
     reply->count = told->count;
+    /* end */
     size_t length, kept = step->size < reply->count ? step->size : reply->count;
     if (kept > 0)
         tracehost_numbers(library, (uint32_t *)step->numbers, kept, &length);

@@ -105,6 +105,7 @@ typedef uint32_t th_sigset; /* signal n has bit n - 1 */
 /* end */
 
 /* the fields of FreeBSD's struct ptrace_lwpinfo that the model has */
+/* tools/format lwpinfo */
 struct th_lwpinfo {
     th_lwpid pl_lwpid;
     int pl_event;
@@ -114,6 +115,7 @@ struct th_lwpinfo {
     th_pid pl_child_pid;
     unsigned pl_syscall_code;
 };
+/* end */
 
 /* wait(2): options, and what a status contains */
 /* tools/format options */
@@ -348,6 +350,7 @@ struct th_rule {
 int th_install(th_host *h, th_caller caller, const struct th_rule *rules, size_t count);
 
 /* What a trace stop shows, and what the caller's handlers decided. */
+/* tools/format handled */
 struct th_handled {
     int stopped; /* 1: a trace stop, and all that follows holds; 0: only a status */
     int status;
@@ -360,6 +363,7 @@ struct th_handled {
     enum th_decision decision;
     int pass;
 };
+/* end */
 
 /* Waits for any child, and gives a trace stop to the caller's handlers. Returns the process, or 0 for nothing. */
 th_pid th_handle(th_host *h, th_caller caller, struct th_handled *handled);

@@ -38,6 +38,9 @@ EXPLAINED = "crates/*/src/tables.rt"
 KEYS = "crates/*/src/members.rt crates/*/specs/Streams.antt"
 KEY_SETS = "src/keys.rt specs/Keys.antt proofs/KeyLemmas.antt proofs/KeySets.antt"
 VIEWER = "viewer/src/read.mjs viewer/reading.py"
+DECODERS = (
+    "clients/c/steps.c clients/python/tracehost/replies.py clients/rust/src/replies.rs reference/printing.py viewer/src/words.mjs"
+)
 
 
 class Change(NamedTuple):
@@ -139,6 +142,27 @@ CHANGES = [
     Change("another help", '^help = "Counts the LWPs', 'help = "Counts LWPs', f"{MANUAL} clients/rust/src/steps.rs"),
     Change("other words of a refusal", "^words = .*traced already", 'words = "{target} is traced', REFUSALS),
     Change("another condition", "^holds = .not is_live.caller..", 'holds = "is_live(caller)"', f"clients/c/rows.c {NOT_IN_C}"),
+    Change(
+        "the words of a reply",
+        "^words = .{pid} {lwp}.",
+        'words = "{lwp} {pid}"',
+        f"{DECODERS} reference/steps.py clients/python/tracehost/typed.py include/tracehost.h viewer/src/read.mjs viewer/reading.py",
+    ),
+    Change("a key of a word", "^words = .{lwp} {signal} flags=", 'words = "{lwp} {signal} pl_flags=', DECODERS),
+    Change(
+        "one more field of a reply",
+        '^name = "stop_pid"\n((?:.*\n)*?)words = .{lwp} {event} ',
+        'name = "depth"\nkind = "word"\nabout = "a depth"\nfreebsd = "pl_depth"\n\n[[field]]\nname = "stop_pid"\n\\1words = "{lwp} {event} {depth} ',
+        f"{DECODERS} reference/steps.py clients/python/tracehost/library.py clients/python/tracehost/typed.py clients/c/calls.c"
+        " clients/c/in_process.c clients/c/internal.h clients/c/tracehost_client.h clients/rust/src/sys.rs include/tracehost.h"
+        " viewer/src/read.mjs viewer/reading.py",
+    ),
+    Change(
+        "a member of a row",
+        '^name = "stepping"',
+        'name = "single"',
+        "clients/python/tracehost/library.py clients/rust/src/sys.rs include/tracehost.h viewer/src/forms.mjs viewer/reading.py",
+    ),
     Change("another effect", '^effect = "lists the user.s processes.*', 'effect = "lists them"', "docs/FORMAT.md"),
 ]
 
@@ -152,6 +176,7 @@ class Mistake(NamedTuple):
     line: str = ""
 
 
+ANY = "[[reply]]"
 SCENARIO_MISTAKES = {
     "a table": Mistake(r"^\[\[request\]\]$", "[[requets]]", "'requets' is none of act, action, "),
     "a table of one entry": Mistake(r"^\[\[option\]\]$", "[[opt]]", "'opt' is none of act, action, "),
@@ -184,6 +209,18 @@ SCENARIO_MISTAKES = {
         "^number = 0x0020\\n", "", "PTRACE_VFORK has to have either a number or both", "[[event]]"
     ),
     "a key of a decision": Mistake(r'^keys = ."\[pass\]".', 'keys = ["[pas]"]', "'pas' is none of act, action, "),
+    "the kind of a field": Mistake('^kind = "handler"', 'kind = "handel"', "'handel' has to be one of word, status, "),
+    "a key of a field": Mistake('^freebsd = "pl_event"', 'fredbsd = "pl_event"', "'fredbsd' is none of about, doc, "),
+    "a field in words": Mistake("^words = .{pid} {lwp}.", 'words = "{pid} {lpw}"', "'lpw' is none of child, code, "),
+    "a field in a member": Mistake('"signal", "flags", "child"', '"signal", "flasg", "child"', "'flasg' is none of child, code, "),
+    "the type of a reply's key": Mistake("^changes = true", 'changes = "yes"', "'yes' has to be true or false"),
+    "the number of a reply": Mistake(
+        '^name = "held"\\nnumber = 13', 'name = "held"\nnumber = 12', "have to be 0, 1 and so on", ANY
+    ),
+    "a table of rows": Mistake(r"^\[\[row.lwp\]\]", "[[row.lpw]]", "'lpw' is none of lwp, process"),
+    "the kind of a member": Mistake('^kind = "flag"', 'kind = "flga"', "'flga' has to be one of word, number, "),
+    "a choice of a member": Mistake('^when = "in_call"', 'when = "in_cal"', "'in_cal' is none of , begun, "),
+    "choices": Mistake('^choices = ."runs", "in_call".*\\n', "", "only a choice has choices", "[[row.lwp]]"),
     "the syntax": Mistake("^number = 10$", "number = 10 +", "Expected newline or end of document"),
 }
 REFUSAL_MISTAKES = {
@@ -239,7 +276,7 @@ def copy(sources: Path) -> Iterator[Path]:
 def change(copy: Path, old: str, new: str) -> None:
     changed = 0
     for table in TABLES:
-        text, count = re.subn(old, new.replace("\\", r"\\"), (copy / table).read_text(), flags=re.MULTILINE)
+        text, count = re.subn(old, new, (copy / table).read_text(), flags=re.MULTILINE)
         (copy / table).write_text(text)
         changed += count
     assert changed

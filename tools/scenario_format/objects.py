@@ -2,9 +2,11 @@
 
 from __future__ import annotations
 
+import re
+
 from .constants import names, quoted
 from .replies import Field, Member, Part, Reply
-from .tables import Format
+from .tables import Format, wrapped
 
 # ---- the forms of members, in the viewer's JavaScript and Python
 
@@ -89,15 +91,23 @@ def row_lines(checks: Checks, rows: tuple[Member, ...]) -> str:
     return "".join(key.format(member.json or member.name, of_member(checks, member)) for member in rows)
 
 
+def folded(line: str, indent: str) -> str:
+    """A line that is too long over several."""
+    first, *more = re.split("(?<=,) ", line)
+    texts = wrapped([first, *(f" {item}" for item in more)], 118, "", indent)
+    return "".join(f"{text}\n" for text in texts)
+
+
 def decision_names(form: Format) -> list[str]:
     return names(form.decisions)
 
 
 def viewer_replies(form: Format) -> str:
     checks = Checks(True)
-    rows = "".join(f"  {reply.name}: {of_reply(checks, reply)},\n" for reply in form.shapes.replies)
-    return f"const DECISIONS = {checks.one_of(decision_names(form))};\n" + (
-        "const DECISION = { decision: DECISIONS, pass: isPassed };\n/**\n * The members of each reply, with their forms.\n *\n"
+    rows = "".join(folded(f"  {reply.name}: {of_reply(checks, reply)},", "    ") for reply in form.shapes.replies)
+    decision = f"{{ decision: {checks.one_of(decision_names(form))}, pass: isPassed }}"
+    return (
+        f"const DECISION = {decision};\n/**\n * The members of each reply, with their forms.\n *\n"
         " * @type {Map<string, Record<string, (value: any) => boolean>>}\n */\n"
         f"const REPLIES = new Map(Object.entries({{\n{rows}}}));\n"
     )
@@ -109,7 +119,7 @@ def viewer_rows(form: Format) -> str:
 
 def viewer_python_replies(form: Format) -> str:
     checks = Checks(False)
-    rows = "".join(f'    "{reply.name}": {of_reply(checks, reply)},\n' for reply in form.shapes.replies)
+    rows = "".join(folded(f'    "{reply.name}": {of_reply(checks, reply)},', " " * 8) for reply in form.shapes.replies)
     decision = f'{{"decision": {checks.one_of(decision_names(form))}, "pass": _is_passed}}'
     return (
         f"_DECISION: dict[str, Check] = {decision}\n"
@@ -233,16 +243,20 @@ def model_word(part: Part) -> str:
     return f"{part.key}={{{value}}}" if part.key else f"{{{value}}}"
 
 
+def model_said(reply: Reply) -> str:
+    """An expression for the words of a reply."""
+    if is_list(reply):
+        return f'" ".join(["{reply.name}", *map(str, reply.{reply.fields[0].name})])'
+    texts = in_texts([reply.name, *(model_word(part) for part in reply.parts)], 100)
+    if len(texts) == 1:
+        return f'{"f" if reply.fields else ""}"{texts[0]}"'
+    return "(\n" + "".join(f'                f"{text}"\n' for text in texts) + "            )"
+
+
 def model_words(form: Format) -> str:
-    cases = ""
-    for reply in form.shapes.replies:
-        texts = in_texts([reply.name, *(model_word(part) for part in reply.parts)], 100)
-        said = f'"{texts[0]}"' if not reply.fields else " ".join(f'f"{text}"' for text in texts)
-        if is_list(reply):
-            said = f'" ".join(["{reply.name}", *map(str, reply.{reply.fields[0].name})])'
-        elif len(texts) > 1:
-            said = "(\n" + "".join(f'                f"{text}"\n' for text in texts) + "            )"
-        cases += f"        case {reply.name.title()}():\n            return {said}\n"
+    cases = "".join(
+        f"        case {reply.name.title()}():\n            return {model_said(reply)}\n" for reply in form.shapes.replies
+    )
     return f"def in_words(reply: Reply) -> str:\n    match reply:\n{cases}\n\n"
 
 
@@ -250,16 +264,23 @@ def model_member(field: Field) -> str:
     return MODEL_MEMBERS.get(field.kind, '"{0}": reply.{0}').format(field.name)
 
 
+def in_lines(before: str, items: list[str], indent: str) -> str:
+    """A dictionary as black lays it out."""
+    short = f"{indent}{before}{{{', '.join(items)}}}\n"
+    if len(short) <= 133:
+        return short
+    return f"{indent}{before}{{\n" + "".join(f"{indent}    {item},\n" for item in items) + f"{indent}}}\n"
+
+
 def model_members(form: Format) -> str:
-    cases = ""
+    text = ""
     for reply in form.shapes.replies:
         at = [model_member(field) for field in reply.fields if field.name in reply.at]
         items = [model_member(field) for field in reply.fields if field.name not in reply.at]
+        text += f"        case {reply.name.title()}():\n"
         if at:
-            place = reply.fields.index(next(field for field in reply.fields if field.name in reply.at))
+            place = next(place for place, field in enumerate(reply.fields) if field.name in reply.at)
             items.insert(place, '"at": at')
-            cases += f"        case {reply.name.title()}():\n            at = {{{', '.join(at)}}}\n"
-            cases += f"            return {{{', '.join(items)}}}\n"
-        else:
-            cases += f"        case {reply.name.title()}():\n            return {{{', '.join(items)}}}\n"
-    return f"# fmt: off\ndef members_of(reply: Reply) -> dict[str, object]:\n    match reply:\n{cases}# fmt: on\n\n\n"
+            text += in_lines("at = ", at, " " * 12)
+        text += in_lines("return ", items, " " * 12)
+    return f"def members_of(reply: Reply) -> dict[str, object]:\n    match reply:\n{text}\n\n"

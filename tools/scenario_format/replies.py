@@ -10,7 +10,7 @@ from .strict import Place, Row, Source
 
 SHAPES = {
     "field": "name kind about [member] [freebsd] [python] [rust] [doc]",
-    "reply": "name number words changes [at] [more] [python] [rust] [freebsd] [about]",
+    "reply": "name number words changes about [at] [more] [python] [rust] [freebsd]",
     "row.process": "name kind [about] [json] [only] [when] [choices]",
     "row.lwp": "name kind [about] [json] [only] [when] [choices]",
 }
@@ -56,12 +56,12 @@ class Reply:
     number: int
     words: str
     changes: bool
+    about: str
     at: tuple[str, ...] = ()
     more: tuple[str, ...] = ()
     python: str = ""
     rust: str = ""
     freebsd: Literal["", "first", "also"] = ""
-    about: str = ""
     parts: tuple[Part, ...] = ()
 
     @property
