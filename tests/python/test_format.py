@@ -161,7 +161,8 @@ CHANGES = [
         "a member of a row",
         '^name = "stepping"',
         'name = "single"',
-        "clients/python/tracehost/library.py clients/rust/src/sys.rs include/tracehost.h viewer/src/forms.mjs viewer/reading.py",
+        "clients/python/tracehost/library.py clients/python/tracehost/rows.py clients/rust/src/sys.rs include/tracehost.h"
+        " viewer/src/forms.mjs viewer/reading.py",
     ),
     Change("another effect", '^effect = "lists the user.s processes.*', 'effect = "lists them"', "docs/FORMAT.md"),
 ]
@@ -220,7 +221,7 @@ SCENARIO_MISTAKES = {
     "a table of rows": Mistake(r"^\[\[row.lwp\]\]", "[[row.lpw]]", "'lpw' is none of lwp, process"),
     "the kind of a member": Mistake('^kind = "flag"', 'kind = "flga"', "'flga' has to be one of word, number, "),
     "a choice of a member": Mistake('^when = "in_call"', 'when = "in_cal"', "'in_cal' is none of , begun, "),
-    "choices": Mistake('^choices = ."runs", "in_call".*\\n', "", "only a choice has choices", "[[row.lwp]]"),
+    "choices": Mistake('^choices = ."runs", "in_call".*\\n', "", "a choice, and nothing else, has choices", "[[row.lwp]]"),
     "the syntax": Mistake("^number = 10$", "number = 10 +", "Expected newline or end of document"),
 }
 REFUSAL_MISTAKES = {

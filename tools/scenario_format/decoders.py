@@ -236,3 +236,75 @@ def python_table(form: Format) -> str:
 def python_changes(form: Format) -> str:
     names = ", ".join(quoted(reply.name for reply in form.shapes.replies if reply.changes))
     return f"_CHANGES = frozenset(({names}))\n"
+
+
+# ---- rows in Python
+
+ROW_TYPES = {
+    "number": "Optional[int]",
+    "flag": "bool",
+    "call": "Optional[Call]",
+    "status": "Optional[int]",
+    "signal": "Optional[Signal]",
+    "signals": "frozenset[Signal]",
+    "flags": "StopFlag",
+    "events": "EventMask",
+}
+FROM_ROW = {
+    "number": "row.{} or None",
+    "flag": "bool(row.{})",
+    "call": "CALLS[row.{}]",
+    "status": "status_of(row.{})",
+    "signal": "Signal(row.{0}) if row.{0} else None",
+    "signals": "signals_of(row.{})",
+    "flags": "flags_of(row.{})",
+    "events": "events_of(row.{})",
+}
+
+
+def row_type(row: Member) -> str:
+    if row.kind == "choice":
+        return f"Optional[{row.python}]" if "" in row.choices else row.python
+    return ROW_TYPES.get(row.kind, "int")
+
+
+def row_value(row: Member, rows: list[Member]) -> str:
+    if row.kind == "choice":
+        value = f"{row.python}(row.{row.name})"
+        return f"{value} if row.{row.name} else None" if "" in row.choices else value
+    value = FROM_ROW.get(row.kind, "row.{}").format(row.name)
+    if row.when:
+        chosen = next(one for one in rows if row.when in one.choices)
+        value += f" if row.{chosen.name} == {chosen.python}.{row.when.upper()}.value else None"
+    return value
+
+
+def row_class(name: str, rows: list[Member]) -> str:
+    about = {"process": "A process of the user, a zombie too.", "lwp": "An LWP of the user."}[name]
+    text, others = f'class {name.title()}Row(NamedTuple):\n    """{about}"""\n\n', ""
+    for row in rows:
+        text += f"    {row.json or row.name}: {row_type(row)}\n" + (f'    """{row.doc}"""\n' if row.doc else "")
+        for other in row.others:
+            others += f"\n    @property\n    def {other}(self) -> {row_type(row)}:\n"
+            others += f'        """As `{row.name}`."""\n        return self.{row.name}\n'
+    return f"{text}{others}\n\n"
+
+
+def python_choices(form: Format) -> str:
+    text = ""
+    for row in (row for rows in form.shapes.rows.values() for row in rows if row.python):
+        about = "The stop that an LWP meets at its next turn." if "" in row.choices else ""
+        about = about or f"What {'a process' if row.name == 'state' else 'an LWP'} is in."
+        members = "".join(f"    {choice.upper()} = {number}\n" for number, choice in enumerate(row.choices) if choice)
+        text += f'class {row.python}(enum.Enum):\n    """{about}"""\n\n{members}\n\n'
+    return text
+
+
+def python_rows(form: Format) -> str:
+    text = python_choices(form)
+    for name, all_rows in form.shapes.rows.items():
+        rows = in_struct(all_rows)
+        values = "".join(f"        {row_value(row, rows)},\n" for row in rows)
+        text += row_class(name, rows)
+        text += f"def {name}_row(row: C{name.title()}) -> {name.title()}Row:\n    return {name.title()}Row(\n{values}    )\n\n\n"
+    return text

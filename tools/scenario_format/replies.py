@@ -11,8 +11,8 @@ from .strict import Place, Row, Source
 SHAPES = {
     "field": "name kind about [member] [freebsd] [python] [rust] [doc]",
     "reply": "name number words changes about [at] [more] [python] [rust] [freebsd]",
-    "row.process": "name kind [about] [json] [only] [when] [choices]",
-    "row.lwp": "name kind [about] [json] [only] [when] [choices]",
+    "row.process": "name kind [about] [json] [only] [when] [choices] [python] [doc] [others]",
+    "row.lwp": "name kind [about] [json] [only] [when] [choices] [python] [doc] [others]",
 }
 MEMBERS = {"handler": ("has_handler", "handler"), "decision": ("decision", "pass")}
 FieldKind = Literal[
@@ -80,6 +80,9 @@ class Member:
     only: Literal["", "json"] = ""
     when: str = ""
     choices: tuple[str, ...] = ()
+    python: str = ""
+    doc: str = ""
+    others: tuple[str, ...] = ()
 
 
 @dataclasses.dataclass(frozen=True)
@@ -108,8 +111,8 @@ class Shapes:
             choices = [choice for _, row in made for choice in row.get("choices", ())]
             for place, row in made:
                 source.known(place._replace(key="when"), row.get("when", ""), ["", *choices])
-                if (row["kind"] == "choice") != ("choices" in row):
-                    source.wrong(place, "only a choice has choices")
+                if not (row["kind"] == "choice") == ("choices" in row) == ("python" in row):
+                    source.wrong(place, "a choice, and nothing else, has choices, and a class in Python")
             rows[name] = tuple(Member(**_tuples(row)) for _, row in made)
         return cls(tuple(fields.values()), tuple(replies), rows)
 
