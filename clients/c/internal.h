@@ -62,6 +62,7 @@ struct thp_step {
     size_t size;
 };
 
+/* tools/format kinds of replies */
 enum thp_kind { /* up to THP_ERROR in the order of tracehost.h */
     THP_DONE,
     THP_NEW,
@@ -81,17 +82,30 @@ enum thp_kind { /* up to THP_ERROR in the order of tracehost.h */
     THP_REFUSED,
     THP_NO_REPLY
 };
+/* end */
 
-/* A reply has the fields of its kind; the others are 0, and -1 is no handler. */
+/* tools/format reply */
+/* A reply has the fields of its kind; the others are 0, and -1 is no handler. The error has the host system's number. */
 struct thp_reply {
     enum thp_kind kind;
-    int pid, lwp, number, status, signal, event, child, handler, decision, pass;
-    int flags; /* of a stop; of THP_MASK the events */
-    int error; /* the host system's number */
-    int mask, pending; /* sets of signals */
+    int pid;
+    int lwp;
+    int number;
+    int status;
+    int signal;
+    int event;
+    int flags;
+    int mask;
+    int pending;
+    int child;
     unsigned code;
+    int handler;
+    int decision, pass;
+    int error;
+    int events;
     size_t count; /* of a list */
 };
+/* end */
 
 /* ---- why a step was refused: refusals.c, and rows.c by the user's rows */
 

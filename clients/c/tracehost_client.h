@@ -105,6 +105,7 @@ typedef uint32_t th_sigset; /* signal n has bit n - 1 */
 /* end */
 
 /* the fields of FreeBSD's struct ptrace_lwpinfo that the model has */
+/* tools/format lwpinfo */
 struct th_lwpinfo {
     th_lwpid pl_lwpid;
     int pl_event;
@@ -114,11 +115,14 @@ struct th_lwpinfo {
     th_pid pl_child_pid;
     unsigned pl_syscall_code;
 };
+/* end */
 
 /* wait(2): options, and what a status contains */
+/* tools/format options */
 #define TH_WNOHANG 1
 #define TH_WUNTRACED 2
 #define TH_WCONTINUED 4
+/* end */
 #define TH_WSTATUS_(status) ((status)&0177)
 #define TH_WIFSTOPPED(status) (TH_WSTATUS_(status) == 0177)
 #define TH_WSTOPSIG(status) ((status) >> 8)
@@ -129,6 +133,7 @@ struct th_lwpinfo {
 #define TH_WEXITSTATUS(status) ((status) >> 8)
 
 /* signals */
+/* tools/format signals */
 #define TH_SIGHUP 1
 #define TH_SIGINT 2
 #define TH_SIGQUIT 3
@@ -160,6 +165,7 @@ struct th_lwpinfo {
 #define TH_SIGINFO 29
 #define TH_SIGUSR1 30
 #define TH_SIGUSR2 31
+/* end */
 
 /* the name of a signal, as "SIGHUP"; NULL if there is none */
 const char *th_signame(int sig);
@@ -173,6 +179,7 @@ int th_flagnames(int flags, char *text, size_t size);
 int th_eventnames(int mask, char *text, size_t size);
 
 /* FreeBSD's errno numbers */
+/* tools/format errors */
 #define TH_EPERM 1
 #define TH_ESRCH 3
 #define TH_ECHILD 10
@@ -180,6 +187,7 @@ int th_eventnames(int mask, char *text, size_t size);
 #define TH_EBUSY 16
 #define TH_EINVAL 22
 #define TH_EAGAIN 35
+/* end */
 
 /* FreeBSD's number of a host system's errno that a call has set; 0 for one that isn't the model's */
 int th_freebsd_errno(int error);
@@ -346,6 +354,7 @@ struct th_rule {
 int th_install(th_host *h, th_caller caller, const struct th_rule *rules, size_t count);
 
 /* What a trace stop shows, and what the caller's handlers decided. */
+/* tools/format handled */
 struct th_handled {
     int stopped; /* 1: a trace stop, and all that follows holds; 0: only a status */
     int status;
@@ -358,6 +367,7 @@ struct th_handled {
     enum th_decision decision;
     int pass;
 };
+/* end */
 
 /* Waits for any child, and gives a trace stop to the caller's handlers. Returns the process, or 0 for nothing. */
 th_pid th_handle(th_host *h, th_caller caller, struct th_handled *handled);

@@ -17,7 +17,8 @@ typedef uint32_t signals; /* signal n is bit n; in the model's sets it is bit n 
 	number++
 
 enum { TRAP = 5, KILL = 9, SEGV = 11, STOP = 17, CONT = 19, CHLD = 20 };
-enum { USER = 1001, FIRST_PROCESS = 1000, PROCESSES = 1000, FIRST_LWP = 100000, LWPS = 4000 };
+enum { USER = TRACEHOST_FIRST_USER, FIRST_PROCESS = TRACEHOST_FIRST_PROCESS, PROCESSES = TRACEHOST_PROCESS_NUMBERS };
+enum { FIRST_LWP = TRACEHOST_FIRST_LWP, LWPS = TRACEHOST_LWP_NUMBERS };
 
 /* Topics: a process's number (news for it), its negative (it may run again), an LWP's number (it has ended), and these. */
 enum { IO = 1, SYNC = 2 };

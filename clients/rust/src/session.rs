@@ -253,7 +253,7 @@ impl Session {
 
     /// Adds a stop handler with these rules, at most 16, after the caller's others.
     pub fn install(&mut self, caller: Caller, rules: &[Rule]) -> Result<(), Error> {
-        let mut raws = [sys::Rule::default(); 16];
+        let mut raws = [sys::Rule::default(); sys::MAX_RULES];
         let raws = raws.get_mut(..rules.len()).ok_or(Error::TooManyRules)?;
         for (raw, rule) in raws.iter_mut().zip(rules) {
             *raw = rule.raw();

@@ -19,6 +19,11 @@ pub const INVALID: u32 = 3;
 pub const NO_TEXT: u32 = 4;
 pub const TOO_MANY: u32 = 5;
 
+// tools/format limits
+pub const LAST_PROCESS: u32 = 99_999;
+pub const MAX_RULES: usize = 16;
+// end
+
 /// `tracehost`
 #[repr(C)]
 struct Raw {
@@ -51,6 +56,17 @@ macro_rules! record {
 }
 
 record! {
+    /// `tracehost_rule`
+    Rule {
+        flags,
+        signal,
+        decision,
+        pass,
+    }
+}
+
+// tools/format structs
+record! {
     /// `tracehost_reply`
     Reply {
         kind,
@@ -72,16 +88,6 @@ record! {
         error,
         count,
         stop_pid,
-    }
-}
-
-record! {
-    /// `tracehost_rule`
-    Rule {
-        flags,
-        signal,
-        decision,
-        pass,
     }
 }
 
@@ -121,6 +127,7 @@ record! {
         code,
     }
 }
+// end
 
 extern "C" {
     fn tracehost_version() -> *const c_char;
