@@ -277,6 +277,7 @@ public:
         std::error_code ignored;
         const std::string made = std::filesystem::exists(page(), ignored) ? page() : "none";
         say("scenario: " + scenario() + "\ntracehost: lines:    " + lines() + "\ntracehost: page:     " + made);
+        say("to go on from here: tracehost-debug " + scenario());
     }
 
     // ---- what a signal's handler may call

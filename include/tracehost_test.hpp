@@ -112,6 +112,7 @@ private:
         }
         const char *page = artifacts->page().c_str();
         say("page:     ", access(page, F_OK) == 0 ? page : "none");
+        say("to go on from here: tracehost-debug ", artifacts->scenario().c_str());
     }
 
     std::size_t steps() const { return recording ? recording->steps() : lost_at; }

@@ -80,6 +80,7 @@ static void leave_in_handler(const struct thp_test *test, const char *message, i
     if (*digit != '\0')
         make_page_in_handler(test, test->has_failed ? test->message : message, digit);
     say_in_handler("page:     ", access(a->page, F_OK) == 0 ? a->page : "none");
+    say_in_handler("to go on from here: tracehost-debug ", a->scenario);
 }
 
 /* Hands the signal on to what the program did with it before. */

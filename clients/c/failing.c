@@ -120,6 +120,7 @@ static void leave(const struct thp_test *test)
     int has_page = thp_make_page(a, test->name, test->message, test->has_failed ? test->step : test->host->steps) == 0;
     fprintf(stderr, "tracehost: scenario: %s\ntracehost: lines:    %s\ntracehost: page:     %s\n", a->scenario, a->lines,
         has_page ? a->page : "none");
+    fprintf(stderr, "tracehost: to go on from here: tracehost-debug %s\n", a->scenario);
 }
 
 int th_test_end(th_host *h, int passed)

@@ -399,7 +399,9 @@ def test_a_signal_ends_the_program(failing: Failing, tmp_path: Path, program: Pa
     assert ran.status == -number and ran.left == files(stem), ran.said
     check_record(tmp_path, stem, program)
     check_page(tmp_path, stem, CASE, number.name)
-    for file, label in zip(ran.left, ("page:     ", "scenario: ", "lines:    ")):
+    page, scenario, lines = ran.left
+    files_told = {"page:     ": page, "scenario: ": scenario, "lines:    ": lines, "to go on from here: tracehost-debug ": scenario}
+    for label, file in files_told.items():
         assert ran.said.count(f"tracehost: {label}{tmp_path / file}\n") == 1
 
 

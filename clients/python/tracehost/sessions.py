@@ -2,6 +2,7 @@
 
 from __future__ import annotations
 
+import shlex
 from collections.abc import Callable, Iterator
 from contextlib import contextmanager, suppress
 from pathlib import Path
@@ -35,7 +36,8 @@ class Failure(NamedTuple):
 
     def __str__(self) -> str:
         lines = Path(self.scenario).with_suffix(".out")
-        return f"scenario: {self.scenario}\nlines:    {lines}\npage:     {self.page()}"
+        files = f"scenario: {self.scenario}\nlines:    {lines}\npage:     {self.page()}"
+        return f"{files}\nto go on from here: tracehost-debug {shlex.quote(self.scenario)}"
 
     def without_page(self, text: str, why: str) -> str:
         """A text in which `str` of this is, but for the page."""

@@ -52,9 +52,10 @@ impl Names {
             Ok(()) => self.page.display().to_string(),
             Err(why) => format!("none: {why}"),
         };
+        let scenario = self.scenario.display();
         format!(
-            "tracehost: scenario: {}\ntracehost: lines:    {}\ntracehost: page:     {page}",
-            self.scenario.display(),
+            "tracehost: scenario: {scenario}\ntracehost: lines:    {}\ntracehost: page:     {page}\n\
+             tracehost: to go on from here: tracehost-debug {scenario}",
             self.lines.display()
         )
     }
