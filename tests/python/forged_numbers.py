@@ -121,10 +121,10 @@ FIELDS: dict[str, tuple[Kind, ...]] = {
 WORDS = {("enter", 0): "read", ("enter", 1): "write", ("again", 0): "poll", ("again", 1): "semaphore"}
 """Of questions that have a word too, by the number at its end."""
 
-_ATTACHED = ("child", "ask ptrace 10 $C 0", "ask wait $C 2")
-_CALLED = ("ask begin 20",)
-_TIMED = ("ask timer 7 28 1000000 1000000",)
-BEFORE = {
+_ATTACHED: tuple[str, ...] = ("child", "ask ptrace 10 $C 0", "ask wait $C 2")
+_CALLED: tuple[str, ...] = ("ask begin 20",)
+_TIMED: tuple[str, ...] = ("ask timer 7 28 1000000 1000000",)
+BEFORE: dict[str, tuple[str, ...]] = {
     "kill": ("child",),
     **dict.fromkeys(("ptrace", "memory", "registers", "apply", "setstep", "thread", "wait"), _ATTACHED),
     **dict.fromkeys(("replace", "end"), _CALLED),
@@ -135,7 +135,7 @@ BEFORE = {
     "undescribed": ("described",),
 }
 """What makes it the time for a question; $C is the number of the newest child."""
-AFTER = {
+AFTER: dict[str, tuple[str, ...]] = {
     "masked": ("ask restore",),
     "enter": ("ask leave",),
     "again": ("ask leave",),
