@@ -9,6 +9,7 @@
 #include "tracehost_record.hpp"
 
 #include <algorithm>
+#include <array>
 #include <cstdint>
 #include <cstdio>
 #include <cstdlib>
@@ -64,7 +65,7 @@ private:
 // What earlier runs of this program have left in a folder, as it was before the program's first test.
 class tracehost_earlier_files {
 public:
-    tracehost_earlier_files(std::filesystem::path folder, const std::string &program) : place(std::move(folder))
+    tracehost_earlier_files(std::string folder, const std::string &program) : place(std::move(folder))
     {
         std::error_code ignored;
         for (std::filesystem::directory_iterator file(place, ignored), end; !ignored && file != end; file.increment(ignored)) {
@@ -76,14 +77,14 @@ public:
         }
     }
 
-    const std::filesystem::path &folder() const { return place; }
+    const std::string &folder() const { return place; }
 
     // Tells of what the test left when its process died.
     void tell(const std::string &stem) const
     {
         for (const auto &[name, inode] : files)
             if (is_of(name, stem) && is_running(name) && scenario_of(name) == name && is_to_go(name, inode))
-                std::fprintf(stderr, "tracehost: left by a test that ended its process: %s\n", (place / name).c_str());
+                std::fprintf(stderr, "tracehost: left by a test that ended its process: %s\n", path(name).c_str());
     }
 
     // Removes what an earlier run of the test has left.
@@ -94,7 +95,7 @@ public:
         const tracehost_folder_lock lock(place.c_str());
         for (const auto &[name, inode] : files)
             if (is_of(name, stem) && is_to_go(name, inode))
-                unlink((place / name).c_str());
+                unlink(path(name).c_str());
     }
 
 private:
@@ -125,7 +126,7 @@ private:
     bool is_to_go(const std::string &name, ino_t inode) const
     {
         struct stat status {};
-        if (lstat((place / name).c_str(), &status) != 0 || status.st_ino != inode)
+        if (lstat(path(name).c_str(), &status) != 0 || status.st_ino != inode)
             return false;
         const timespec &changed = status.st_ctim;
         const bool is_older = changed.tv_sec < began.tv_sec || (changed.tv_sec == began.tv_sec && changed.tv_nsec < began.tv_nsec);
@@ -135,7 +136,7 @@ private:
     // Its process has locked the scenario.
     bool is_in_use(const std::string &scenario) const
     {
-        const int file = open((place / scenario).c_str(), O_RDONLY | O_CLOEXEC | O_NOFOLLOW);
+        const int file = open(path(scenario).c_str(), O_RDONLY | O_CLOEXEC | O_NOFOLLOW);
         if (file < 0)
             return errno != ENOENT;
         const bool is_free = flock(file, LOCK_EX | LOCK_NB) == 0;
@@ -151,7 +152,9 @@ private:
     }
 
     inline static const timespec began = now();
-    std::filesystem::path place;
+    std::string path(const std::string &name) const { return place + "/" + name; }
+
+    std::string place;
     std::vector<std::pair<std::string, ino_t>> files;
 };
 
@@ -178,7 +181,7 @@ public:
         names.erase(name);
     }
     // what `act` does with the earlier files of a folder, one thread at a time
-    template <typename Act> void with_earlier(const std::filesystem::path &folder, const std::string &program, Act act)
+    template <typename Act> void with_earlier(const std::string &folder, const std::string &program, Act act)
     {
         const std::lock_guard<std::mutex> guard(mutex);
         if (!earlier || earlier->folder() != folder)
@@ -200,20 +203,19 @@ public:
     {
         const char *named = std::getenv("TRACEHOST_ARTIFACTS");
         has_own_folder = named == nullptr || *named == '\0';
-        folder = has_own_folder ? new_folder(plain(test, 50)) : std::filesystem::absolute(named);
-        std::filesystem::create_directories(folder);
-        const auto [program, whole] = name_of(test);
-        stem = whole;
+        folder = has_own_folder ? new_folder(plain(test, 50)) : *named == '/' ? named : std::filesystem::absolute(named).string();
+        struct stat status {};
+        if (stat(folder.c_str(), &status) != 0)
+            std::filesystem::create_directories(folder);
+        stem = stem_of(test);
         if (!has_own_folder)
-            tracehost_names::all().with_earlier(folder, program, [&](const tracehost_earlier_files &files) { files.tell(stem); });
+            tracehost_names::all().with_earlier(
+                folder, this_program().name, [&](const tracehost_earlier_files &files) { files.tell(stem); });
         name = tracehost_names::all().take(stem);
-        for (const char *end : {".json", ".out", ".html"})
-            paths.push_back((folder / (name + end)).string());
-        for (const char *end : {".json", ".out"})
-            paths.push_back((folder / (name + end)).string() + "." + std::to_string(getpid()));
+        const std::string front = folder + "/" + name, process = "." + std::to_string(getpid());
+        paths = {front + ".json", front + ".out", front + ".html", front + ".json" + process, front + ".out" + process};
         locked.emplace(opened(scenario_now()));
         static_cast<void>(flock(locked->number(), LOCK_EX | LOCK_NB));
-        place = folder.string();
     }
     ~tracehost_artifacts()
     {
@@ -245,15 +247,14 @@ public:
         unlink(lines_now().c_str());
         unlink(scenario_now().c_str());
         remove_earlier();
-        std::error_code ignored;
         if (has_own_folder)
-            std::filesystem::remove(folder, ignored);
+            rmdir(folder.c_str());
     }
 
     // Gives the files their last names; an errno, or 0. A signal's handler may call it, with few tries.
     int rename_all(int tries = 1000) noexcept
     {
-        const tracehost_folder_lock lock(place.c_str(), tries);
+        const tracehost_folder_lock lock(folder.c_str(), tries);
         if (lock.is_busy)
             return EWOULDBLOCK;
         if (std::rename(scenario_now().c_str(), scenario().c_str()) != 0)
@@ -333,26 +334,44 @@ private:
     // FNV-1a, of the text and a NUL
     static std::uint64_t digest_of(const std::string &text, std::uint64_t digest)
     {
-        for (const char one : text + '\0')
+        for (std::size_t at = 0; at <= text.size(); at++) {
+            const char one = text.c_str()[at];
             digest = (digest ^ static_cast<unsigned char>(one)) * 1099511628211u;
+        }
         return digest;
     }
 
-    // PROGRAM., and PROGRAM.TEST-DIGEST with a digest of the program's path and the test's name
-    static std::pair<std::string, std::string> name_of(const std::string &test)
+    // PROGRAM. and the digest of its path, which are the same for all tests
+    struct program_name {
+        std::string name;
+        std::uint64_t digest;
+    };
+    static const program_name &this_program()
+    {
+        static const auto *made = new program_name(find_program()); // a test may end after static objects
+        return *made;
+    }
+    static program_name find_program()
     {
         std::error_code ignored;
         const std::filesystem::path path = std::filesystem::read_symlink("/proc/self/exe", ignored);
         std::string program = path.has_filename() ? plain(path.filename().string(), 30) : "program";
         if (program[0] == '.' || program[0] == '-')
             program[0] = '_';
-        char digest[16];
-        std::snprintf(digest, sizeof digest, "-%012llx",
-            static_cast<unsigned long long>(digest_of(test, digest_of(path.string(), 14695981039346656037u)) & 0xffffffffffffu));
-        return {program + ".", program + "." + plain(test, 50) + digest};
+        return {program + ".", digest_of(path.string(), 14695981039346656037u)};
     }
 
-    static std::filesystem::path new_folder(const std::string &name)
+    // PROGRAM.TEST-DIGEST, with a digest of the program's path and the test's name
+    static std::string stem_of(const std::string &test)
+    {
+        const std::uint64_t digest = digest_of(test, this_program().digest);
+        std::string made = this_program().name + plain(test, 50) + "-";
+        for (int shift = 44; shift >= 0; shift -= 4)
+            made += "0123456789abcdef"[digest >> shift & 15];
+        return made;
+    }
+
+    static std::string new_folder(const std::string &name)
     {
         std::string made = std::filesystem::temp_directory_path() / ("tracehost-" + name + "-XXXXXX");
         if (mkdtemp(made.data()) == nullptr)
@@ -364,7 +383,7 @@ private:
     {
         if (!has_own_folder)
             tracehost_names::all().with_earlier(
-                folder, name_of("").first, [&](const tracehost_earlier_files &files) { files.remove(stem); });
+                folder, this_program().name, [&](const tracehost_earlier_files &files) { files.remove(stem); });
     }
 
     void make_page(const std::string &test, const std::string &message, const std::string &step)
@@ -392,9 +411,8 @@ private:
 #endif
     static constexpr int seconds_for_a_page = TRACEHOST_SECONDS_FOR_A_PAGE;
 
-    std::filesystem::path folder;
-    std::string place, stem, name;
-    std::vector<std::string> paths;
+    std::string folder, stem, name;
+    std::array<std::string, 5> paths;
     bool has_own_folder = false, has_failed = false;
     std::optional<tracehost_file> locked;
 };

@@ -57,9 +57,9 @@ public:
             places = free;
         }
         free->test = test;
-        if (count++ == 0)
-            for (std::size_t nth = 0; nth < watched.size(); nth++)
-                watch(nth);
+        static const restorer at_end;
+        for (std::size_t nth = 0; nth < watched.size(); nth++)
+            watch(nth);
     }
     static void leave(const tracehost_open_test *test)
     {
@@ -67,9 +67,6 @@ public:
         for (place *one = places; one != nullptr; one = one->next)
             if (one->test == test)
                 one->test = nullptr;
-        if (--count == 0)
-            for (std::size_t nth = 0; nth < watched.size(); nth++)
-                unwatch(nth);
     }
 
 private:
@@ -104,24 +101,28 @@ private:
         errno = error;
     }
 
-    // Handles a signal, unless it is ignored.
+    // Handles a signal, unless it is ignored, or handled so by now: a framework may have taken the handler away.
     static void watch(std::size_t nth)
     {
-        struct sigaction mine {};
+        struct sigaction mine {}, now {};
         mine.sa_sigaction = on_signal;
         mine.sa_flags = SA_SIGINFO | SA_ONSTACK;
-        if (sigaction(watched[nth].signal, nullptr, &before[nth]) == 0 && before[nth].sa_handler != SIG_IGN)
-            is_watched[nth] = sigaction(watched[nth].signal, &mine, nullptr) == 0;
+        if (sigaction(watched[nth].signal, nullptr, &now) != 0 || now.sa_sigaction == on_signal || now.sa_handler == SIG_IGN)
+            return;
+        before[nth] = now;
+        is_watched[nth] = sigaction(watched[nth].signal, &mine, nullptr) == 0;
     }
 
-    // Unless the program handles the signal itself by now.
-    static void unwatch(std::size_t nth)
-    {
-        struct sigaction now {};
-        if (is_watched[nth] && sigaction(watched[nth].signal, nullptr, &now) == 0 && now.sa_sigaction == on_signal)
-            sigaction(watched[nth].signal, &before[nth], nullptr);
-        is_watched[nth] = false;
-    }
+    // This code goes: the program ends, or unloads it.
+    struct restorer {
+        ~restorer()
+        {
+            struct sigaction now {};
+            for (std::size_t nth = 0; nth < watched.size(); nth++)
+                if (is_watched[nth] && sigaction(watched[nth].signal, nullptr, &now) == 0 && now.sa_sigaction == on_signal)
+                    sigaction(watched[nth].signal, &before[nth], nullptr);
+        }
+    };
 
     static std::mutex &mutex()
     {
@@ -130,7 +131,6 @@ private:
     }
 
     inline static std::atomic<place *> places{nullptr};
-    inline static int count = 0;
     inline static std::atomic<bool> is_ending{false};
     inline static std::array<std::atomic<bool>, watched.size()> is_watched{};
     // what the program did with the signals before

@@ -64,20 +64,35 @@ static uint64_t digest_of(uint64_t digest, const char *text)
     return digest;
 }
 
-/* How the names of a test's files begin: PROGRAM.TEST-DIGEST, with a digest of the program's path and the test's name. */
-static void make_stem(const char *test, char stem[THP_STEM])
+/* PROGRAM. and the digest of its path, which are the same for all tests */
+static char program_name[MOST_OF_A_PROGRAM + 2];
+static uint64_t program_digest;
+
+static void name_program(void)
 {
     char path[THP_PATH];
     ssize_t read = readlink("/proc/self/exe", path, sizeof path - 1);
     path[read > 0 ? read : 0] = '\0';
     const char *slash = strrchr(path, '/'), *program = slash == NULL || slash[1] == '\0' ? "program" : slash + 1;
-    size_t length = add_plain(stem, program, MOST_OF_A_PROGRAM);
-    if (stem[0] == '.' || stem[0] == '-')
-        stem[0] = '_';
-    stem[length++] = '.';
+    size_t length = add_plain(program_name, program, MOST_OF_A_PROGRAM);
+    if (program_name[0] == '.' || program_name[0] == '-')
+        program_name[0] = '_';
+    strcpy(program_name + length, ".");
+    program_digest = digest_of(14695981039346656037u, path);
+}
+
+/* How the names of a test's files begin: PROGRAM.TEST-DIGEST, with a digest of the program's path and the test's name. */
+static void make_stem(const char *test, char stem[THP_STEM])
+{
+    static pthread_once_t once = PTHREAD_ONCE_INIT;
+    pthread_once(&once, name_program);
+    size_t length = strlen(strcpy(stem, program_name));
     length += add_plain(stem + length, test, MOST_OF_A_TEST);
-    uint64_t digest = digest_of(digest_of(14695981039346656037u, path), test);
-    snprintf(stem + length, THP_STEM - length, "-%012llx", (unsigned long long)(digest & 0xffffffffffffu));
+    uint64_t digest = digest_of(program_digest, test);
+    stem[length++] = '-';
+    for (int shift = 44; shift >= 0; shift -= 4)
+        stem[length++] = "0123456789abcdef"[digest >> shift & 15];
+    stem[length] = '\0';
 }
 
 static int is_used(const char *stem, int nth)
@@ -120,18 +135,25 @@ static void leave_name(const char *stem, int nth)
 
 static int add_path(char path[THP_PATH], const char *folder, const char *name, const char *kind, const char *more)
 {
-    int length = snprintf(path, THP_PATH, "%s/%s%s%s", folder, name, kind, more);
-    return length >= 0 && length < THP_PATH ? 0 : -1;
+    const char *const parts[] = {folder, "/", name, kind, more};
+    size_t end = 0;
+    for (size_t i = 0; i < COUNT(parts); i++) {
+        size_t length = strlen(parts[i]);
+        if (end + length >= THP_PATH)
+            return -1;
+        memcpy(path + end, parts[i], length + 1);
+        end += length;
+    }
+    return 0;
 }
 
 /* The names of the files, while the test runs and afterwards; -1 with errno if one is too long. */
 static int name_files(struct thp_artifacts *a)
 {
-    char name[THP_STEM + 16], process[24];
+    char number[16] = "", name[THP_STEM + 16], process[24];
     if (a->nth > 1)
-        snprintf(name, sizeof name, "%s-%d", a->stem, a->nth);
-    else
-        snprintf(name, sizeof name, "%s", a->stem);
+        snprintf(number, sizeof number, "-%d", a->nth);
+    strcat(strcpy(name, a->stem), number);
     snprintf(process, sizeof process, ".%ld", (long)getpid());
     if (add_path(a->scenario, a->folder, name, file_kinds[0], "") == 0 &&
         add_path(a->lines, a->folder, name, file_kinds[1], "") == 0 && add_path(a->page, a->folder, name, file_kinds[2], "") == 0 &&
@@ -289,14 +311,19 @@ static int has_stem(const char *name, const char *stem)
     return strncmp(name, stem, length) == 0 && (name[length] == '.' || name[length] == '-');
 }
 
-/* The scenario's path, of which this may be the path of the lines. */
-static void scenario_of(char path[THP_PATH], const char *folder, const char *name)
+/* The scenario's path, of which this may be the path of the lines; -1 if it is too long. */
+static int scenario_of(char path[THP_PATH], const char *folder, const char *name)
 {
+    char front[THP_STEM + 32];
     const char *dot = strrchr(name, '.');
-    if (is_of_a_test(name, 1) && strncmp(dot - 4, file_kinds[1], 4) == 0)
-        snprintf(path, THP_PATH, "%s/%.*s%s%s", folder, (int)(dot - 4 - name), name, file_kinds[0], dot);
-    else
-        snprintf(path, THP_PATH, "%s/%s", folder, name);
+    size_t length = (size_t)(dot - name);
+    if (!is_of_a_test(name, 1) || strncmp(dot - 4, file_kinds[1], 4) != 0)
+        return add_path(path, folder, name, "", "");
+    if (length >= sizeof front)
+        return -1;
+    memcpy(front, name, length - 4);
+    front[length - 4] = '\0';
+    return add_path(path, folder, front, file_kinds[0], dot);
 }
 
 /* Removes what an earlier run of the test has left, or tells of what it left when its process died. */
@@ -306,11 +333,11 @@ static void for_earlier(const struct thp_artifacts *a, int removes)
     struct stat status;
     int lock = -1;
     for (struct earlier *one = earlier_files; one != NULL; one = one->next) {
-        if (!has_stem(one->name, a->stem) || add_path(path, a->folder, one->name, "", "") != 0)
+        if (!has_stem(one->name, a->stem) || add_path(path, a->folder, one->name, "", "") != 0 ||
+            scenario_of(scenario, a->folder, one->name) != 0)
             continue;
         if (lock < 0)
             lock = lock_folder(a->folder, TRIES);
-        scenario_of(scenario, a->folder, one->name);
         int runs = is_of_a_test(one->name, 1);
         if (lstat(path, &status) != 0 || status.st_ino != one->inode || !is_older(&status) || (runs && is_in_use(scenario)))
             continue;

@@ -104,28 +104,29 @@ static void on_signal(int signal, siginfo_t *info, void *context)
     errno = error;
 }
 
-/* Handles a signal, unless it is ignored. */
+/* Handles a signal, unless it is ignored, or handled so by now: a framework may have taken the handler away. */
 static void watch(size_t nth)
 {
-    struct sigaction mine = {.sa_sigaction = on_signal, .sa_flags = SA_SIGINFO | SA_ONSTACK};
-    if (sigaction(watched[nth].signal, NULL, &before[nth]) == 0 && before[nth].sa_handler != SIG_IGN)
-        is_watched[nth] = sigaction(watched[nth].signal, &mine, NULL) == 0;
+    struct sigaction mine = {.sa_sigaction = on_signal, .sa_flags = SA_SIGINFO | SA_ONSTACK}, now;
+    if (sigaction(watched[nth].signal, NULL, &now) != 0 || now.sa_sigaction == on_signal || now.sa_handler == SIG_IGN)
+        return;
+    before[nth] = now;
+    is_watched[nth] = sigaction(watched[nth].signal, &mine, NULL) == 0;
 }
 
-/* Unless the program handles the signal itself by now. */
-static void unwatch(size_t nth)
-{
-    struct sigaction now;
-    if (is_watched[nth] && sigaction(watched[nth].signal, NULL, &now) == 0 && now.sa_sigaction == on_signal)
-        sigaction(watched[nth].signal, &before[nth], NULL);
-    is_watched[nth] = 0;
-}
-
-void thp_watch_signals(int watches)
+void thp_watch_signals(void)
 {
     for (size_t nth = 0; nth < COUNT(watched); nth++)
-        if (watches)
-            watch(nth);
-        else
-            unwatch(nth);
+        watch(nth);
 }
+
+/* This code goes: the program ends, or unloads it. */
+#if defined(__GNUC__)
+__attribute__((destructor)) static void unwatch_all(void)
+{
+    struct sigaction now;
+    for (size_t nth = 0; nth < COUNT(watched); nth++)
+        if (is_watched[nth] && sigaction(watched[nth].signal, NULL, &now) == 0 && now.sa_sigaction == on_signal)
+            sigaction(watched[nth].signal, &before[nth], NULL);
+}
+#endif

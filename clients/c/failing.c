@@ -9,17 +9,7 @@
 #include <unistd.h>
 
 struct thp_test *volatile thp_tests;
-static int open_tests;
 static pthread_mutex_t tests_lock = PTHREAD_MUTEX_INITIALIZER;
-
-/* Waits for signals while tests are open. */
-static void count_tests(int change)
-{
-    int had = open_tests > 0;
-    open_tests += change;
-    if (had != (open_tests > 0))
-        thp_watch_signals(!had);
-}
 
 /* ---------------------------------------------------------------- begin and end */
 
@@ -50,7 +40,7 @@ static struct thp_test *open_test(th_host *h, const char *name)
         test->has_failed = 0;
         test->message[0] = '\0';
         snprintf(test->name, sizeof test->name, "%s", name);
-        count_tests(1);
+        thp_watch_signals();
         test->is_open = 1;
     }
     pthread_mutex_unlock(&tests_lock);
@@ -61,7 +51,6 @@ static void close_test(struct thp_test *test)
 {
     pthread_mutex_lock(&tests_lock);
     test->is_open = 0;
-    count_tests(-1);
     test->host->test = NULL;
     test->host = NULL;
     pthread_mutex_unlock(&tests_lock);

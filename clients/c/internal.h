@@ -270,8 +270,8 @@ int thp_open_artifacts(struct thp_artifacts *a, const char *test, int *scenario,
 int thp_keep_artifacts(const struct thp_artifacts *a, int in_handler);
 /* The test has ended: the files of one that has passed go, and those that an earlier run of it has left. */
 void thp_end_artifacts(const struct thp_artifacts *a, int failed);
-/* Begins to handle signals that end the program, or ends it. */
-void thp_watch_signals(int watches);
+/* Handles signals that end the program, from now on. */
+void thp_watch_signals(void);
 /* The command that makes the page, which the other arguments are for. */
 void thp_page_command(
     const char *argv[THP_PAGE_WORDS], const struct thp_artifacts *a, const char *test, const char *message, const char *step);

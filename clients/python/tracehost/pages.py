@@ -29,7 +29,7 @@ class Pages(Told):
         super().__init__()
         self._folder, self._stem = folder, stem
         self._failures: dict[tuple[object, str], dict[str, Failure]] = {}
-        self._reports: list[pytest.TestReport] = []
+        self._reports: dict[str, list[pytest.TestReport]] = {}
 
     @_last_hook
     def pytest_sessionstart(self, session: pytest.Session) -> None:
@@ -73,8 +73,7 @@ class Pages(Told):
             for words in left["failures"]:
                 failure = Failure(*words)
                 self._failures.setdefault(of_test, {}).setdefault(failure.scenario, failure)
-            if left["failures"]:
-                self._reports.append(report)
+                self._reports.setdefault(failure.scenario, []).append(report)
             if not report.failed:  # pytest doesn't show its sections
                 self.told += [f"{report.nodeid}: {line}" for line in left["told"]]
 
@@ -94,7 +93,7 @@ class Pages(Told):
 
     def _correct(self, failure: Failure, why: str) -> None:
         """The reports that name this page say why there is none."""
-        for report in self._reports:
+        for report in self._reports.get(failure.scenario, []):
             for at, (title, text) in enumerate(report.sections):
                 if title == HEAD:
                     report.sections[at] = (title, failure.without_page(text, why))
