@@ -180,7 +180,8 @@ def viewer_words(form: Format) -> str:
             continue
         texts = in_texts([reply.name, *(script_word(reply, part) for part in reply.parts)], 100)
         rows += f"  {reply.name}: ({'reply' if reply.fields else ''}) => " + "\n    + ".join(f"`{text}`" for text in texts) + ",\n"
-    return f"const WORDS = new Map(Object.entries({{\n{rows}}}));\n"
+    kind = "/** @type {Map<string, (reply: any) => string>} */\n"
+    return f"{kind}const WORDS = new Map(Object.entries({{\n{rows}}}));\n"
 
 
 # ---- the second model

@@ -22,6 +22,7 @@ export function decisionText(reply) {
 const decidedWords = ({ decision, pass }) => (pass === undefined ? decision : `${decision} ${pass ? pass.number : 0}`);
 const errorWords = ({ errno, number }) => `${errno} ${number}`;
 // tools/format words
+/** @type {Map<string, (reply: any) => string>} */
 const WORDS = new Map(Object.entries({
   ok: () => `ok`,
   new: (reply) => `new ${reply.pid} ${reply.lwp}`,
