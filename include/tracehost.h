@@ -56,40 +56,49 @@ enum {
 };
 
 /* A reply: its kind, and the fields that the kind has. All others are 0. */
+/* tools/format reply */
 typedef struct tracehost_reply {
     uint32_t kind;
-    uint32_t pid, lwp;          /* process and LWP */
-    uint32_t number;
-    uint32_t status;            /* the word that wait(2) stores */
-    uint32_t signal;            /* 1 to 31 */
-    uint32_t event;             /* 0 PL_EVENT_NONE, 1 PL_EVENT_SIGNAL */
-    uint32_t flags;             /* TRACEHOST_PL_FLAG_ .. */
-    uint32_t mask, pending;     /* signals, signal n as bit n - 1; the reply MASK has events, TRACEHOST_PTRACE_ .. */
-    uint32_t child, code;       /* the new process of a fork, the number of a system call; or 0 */
-    uint32_t has_handler, handler; /* 1 and the index, from 0, of the handler that decided; 0 and 0 if all declined */
-    uint32_t decision, pass;    /* TRACEHOST_CONTINUE .., and the signal that is passed on; or 0 */
-    uint32_t error;             /* FreeBSD's number in errno(2) */
-    uint32_t count;             /* how many numbers the list has, for tracehost_numbers */
-    uint32_t stop_pid;          /* the process of the stop that a handler was shown */
+    uint32_t pid; /* the process */
+    uint32_t lwp; /* the LWP */
+    uint32_t number; /* how many LWPs a process has */
+    uint32_t status; /* the word that wait(2) stores */
+    uint32_t signal; /* 1 to 31 */
+    uint32_t event; /* 0 PL_EVENT_NONE, 1 PL_EVENT_SIGNAL */
+    uint32_t flags; /* TRACEHOST_PL_FLAG_ .. */
+    uint32_t mask; /* blocked signals, signal n as bit n - 1; of the reply MASK events, TRACEHOST_PTRACE_ .. */
+    uint32_t pending; /* pending signals */
+    uint32_t child; /* the new process of a fork, or 0 */
+    uint32_t code; /* the number of a system call, or 0 */
+    uint32_t has_handler; /* 1 and the index, from 0, of the handler that decided; 0 and 0 if all declined */
+    uint32_t handler;
+    uint32_t decision; /* TRACEHOST_CONTINUE .., and the signal that is passed on, or 0 */
+    uint32_t pass;
+    uint32_t error; /* FreeBSD's number in errno(2) */
+    uint32_t count; /* how many numbers the list has, for tracehost_numbers */
+    uint32_t stop_pid; /* the process of the stop that a handler was shown */
 } tracehost_reply;
+/* end */
 
-enum { /* kinds of replies, each with its fields; docs/FORMAT.md has their meaning */
+/* tools/format kinds of replies */
+enum { /* kinds of replies, each with its members; docs/FORMAT.md has their meaning */
     TRACEHOST_OK = 0,
-    TRACEHOST_NEW = 1,      /* pid lwp */
-    TRACEHOST_NUMBER = 2,   /* number */
-    TRACEHOST_STATUS = 3,   /* pid status */
+    TRACEHOST_NEW = 1,       /* pid lwp */
+    TRACEHOST_NUMBER = 2,    /* number */
+    TRACEHOST_STATUS = 3,    /* pid status */
     TRACEHOST_NOTHING = 4,
-    TRACEHOST_INFO = 5,     /* lwp event flags mask pending child code */
-    TRACEHOST_LWPS = 6,     /* count */
-    TRACEHOST_PIDS = 7,     /* count */
-    TRACEHOST_MASK = 8,     /* mask */
-    TRACEHOST_HANDLED = 9,  /* pid status stop_pid lwp signal flags child code has_handler handler decision pass */
-    TRACEHOST_STOPPED = 10, /* lwp signal flags */
-    TRACEHOST_CAUGHT = 11,  /* signal */
-    TRACEHOST_ENDED = 12,   /* status */
+    TRACEHOST_INFO = 5,      /* lwp event flags mask pending child code */
+    TRACEHOST_LWPS = 6,      /* count */
+    TRACEHOST_PIDS = 7,      /* count */
+    TRACEHOST_MASK = 8,      /* mask */
+    TRACEHOST_HANDLED = 9,   /* pid status lwp signal flags child code has_handler handler decision pass stop_pid */
+    TRACEHOST_STOPPED = 10,  /* lwp signal flags */
+    TRACEHOST_CAUGHT = 11,   /* signal */
+    TRACEHOST_ENDED = 12,    /* status */
     TRACEHOST_HELD = 13,
-    TRACEHOST_ERROR = 14    /* error */
+    TRACEHOST_ERROR = 14     /* error */
 };
+/* end */
 
 /* tools/format names */
 enum { /* requests of ptrace(2), by their numbers in <sys/ptrace.h> */
@@ -108,10 +117,22 @@ enum { /* flags of a stop: the model's own bits, and not those of pl_flags */
     TRACEHOST_PL_FLAG_CHILD = 16, TRACEHOST_PL_FLAG_BORN = 32, TRACEHOST_PL_FLAG_EXITED = 64,
     TRACEHOST_PL_FLAG_VFORKED = 128, TRACEHOST_PL_FLAG_VFORK_DONE = 256
 };
+enum { /* dispositions */
+    TRACEHOST_DEFAULT = 0, TRACEHOST_IGNORE = 1, TRACEHOST_CATCH = 2
+};
+enum { /* options of wait4; no wait blocks */
+    TRACEHOST_WNOHANG = 1, TRACEHOST_WUNTRACED = 2, TRACEHOST_WCONTINUED = 4
+};
+enum { /* decisions of a rule */
+    TRACEHOST_DECLINE = 0, TRACEHOST_LEAVE = 1, TRACEHOST_CONTINUE = 2, TRACEHOST_DETACH = 3, TRACEHOST_KILL = 4
+};
+enum { /* limits, and first and last numbers */
+    TRACEHOST_FIRST_USER = 1001, TRACEHOST_LAST_USER = 1064, TRACEHOST_LAST_SIGNAL = 31,
+    TRACEHOST_MAX_PROCESSES = 250, TRACEHOST_MAX_LWPS = 1000, TRACEHOST_MAX_HANDLERS = 64,
+    TRACEHOST_MAX_RULES = 16, TRACEHOST_FIRST_PROCESS = 1000, TRACEHOST_PROCESS_NUMBERS = 1000,
+    TRACEHOST_LAST_PROCESS = 99999, TRACEHOST_FIRST_LWP = 100000, TRACEHOST_LWP_NUMBERS = 4000
+};
 /* end */
-enum { TRACEHOST_DEFAULT = 0, TRACEHOST_IGNORE = 1, TRACEHOST_CATCH = 2 };             /* dispositions */
-enum { TRACEHOST_WNOHANG = 1, TRACEHOST_WUNTRACED = 2, TRACEHOST_WCONTINUED = 4 };     /* options; no wait blocks */
-enum { TRACEHOST_DECLINE = 0, TRACEHOST_LEAVE = 1, TRACEHOST_CONTINUE = 2, TRACEHOST_DETACH = 3, TRACEHOST_KILL = 4 };
 
 /* A rule of a stop handler. The first of its rules that fits a stop decides it. */
 typedef struct tracehost_rule {
@@ -121,14 +142,15 @@ typedef struct tracehost_rule {
     uint32_t pass;     /* for CONTINUE and DETACH: a signal, or 0 for none; else without meaning */
 } tracehost_rule;
 
-enum { /* acts of an LWP, and what `argument` is */
-    TRACEHOST_COMPUTE = 0, TRACEHOST_RAISE = 1 /* a signal */, TRACEHOST_BLOCK = 2 /* signals, signal n as bit n - 1 */,
-    TRACEHOST_ENTER = 3 /* see the calls */, TRACEHOST_LEAVE_CALL = 4
+/* tools/format acts */
+enum { /* acts of an LWP; `argument` is RAISE's signal, and BLOCK's signals, signal n as bit n - 1 */
+    TRACEHOST_COMPUTE = 0, TRACEHOST_RAISE = 1, TRACEHOST_BLOCK = 2, TRACEHOST_ENTER = 3, TRACEHOST_LEAVE_CALL = 4
 };
-enum { /* calls that TRACEHOST_ENTER enters */
+enum { /* calls that TRACEHOST_ENTER enters; `argument` is EXIT's status, 0 to 255, and OTHER's number */
     TRACEHOST_FORK = 0, TRACEHOST_VFORK = 1, TRACEHOST_EXEC = 2, TRACEHOST_THR_NEW = 3, TRACEHOST_THR_EXIT = 4,
-    TRACEHOST_EXIT = 5 /* argument: the exit status, 0 to 255 */, TRACEHOST_OTHER = 6 /* argument: the call's number */
+    TRACEHOST_EXIT = 5, TRACEHOST_OTHER = 6
 };
+/* end */
 
 /* The version of the library that the program runs with: that of the header is TRACEHOST_VERSION. */
 const char *tracehost_version(void);
@@ -195,24 +217,37 @@ uint32_t tracehost_numbers(tracehost *h, uint32_t *out, size_t size, size_t *len
  * A user's rows: processes by rising number, LWPs in order of birth. tracehost_view stores as many of each as fit, and
  * how many there are. It makes no step and doesn't change the session.
  */
+/* tools/format rows */
 typedef struct tracehost_process {
-    uint32_t pid, parent, tracer;      /* the tracer is 0 if there is none */
-    uint32_t state;                    /* 0 runs, 1 trace stop, 2 job control stop, 3 zombie */
-    uint32_t lwp, signal, told;        /* of a stop: its LWP (trace stops), its signal, 1 once it was reported */
-    uint32_t status;                   /* a zombie's word of wait(2) */
-    uint32_t continued;                /* 1 if a continuation is to be reported */
-    uint32_t events;                   /* the event mask */
-    uint32_t pending;                  /* a set of signals */
+    uint32_t pid;
+    uint32_t parent;
+    uint32_t tracer; /* 0 if there is none */
+    uint32_t state; /* 0 runs, 1 trace stop, 2 job control stop, 3 zombie */
+    uint32_t lwp; /* of a trace stop: its LWP */
+    uint32_t signal; /* of a stop */
+    uint32_t told; /* 1 once the stop was reported */
+    uint32_t status; /* a zombie's word of wait(2) */
+    uint32_t continued; /* 1 if a continuation is to be reported */
+    uint32_t events; /* the event mask */
+    uint32_t pending; /* a set of signals */
 } tracehost_process;
 typedef struct tracehost_lwp {
-    uint32_t lwp, pid;
-    uint32_t mode, call, argument;     /* 0 runs; 1 is in a call, as in tracehost_turn; 2 waits for its vfork's child */
+    uint32_t lwp;
+    uint32_t pid;
+    uint32_t mode; /* 0 runs; 1 is in a call, as in tracehost_turn; 2 waits for its vfork's child */
+    uint32_t call;
+    uint32_t argument;
     uint32_t vfork_child;
-    uint32_t suspended, stepping;
-    uint32_t blocked, pending;         /* sets of signals */
-    uint32_t due;                      /* the stop at its next turn: 0 none, 1 born, 2 begun, 3 vfork done */
-    uint32_t flags, child, code;       /* of its last stop */
+    uint32_t suspended;
+    uint32_t stepping;
+    uint32_t blocked; /* a set of signals */
+    uint32_t pending; /* the same */
+    uint32_t due; /* the stop at its next turn: 0 none, 1 born, 2 begun, 3 vfork done */
+    uint32_t flags; /* of its last stop, as the next two */
+    uint32_t child;
+    uint32_t code;
 } tracehost_lwp;
+/* end */
 uint32_t tracehost_view(tracehost *h, uint32_t user, tracehost_process *processes, size_t processes_size,
                         tracehost_lwp *lwps, size_t lwps_size, size_t *processes_length, size_t *lwps_length);
 

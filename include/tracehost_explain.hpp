@@ -110,11 +110,16 @@ private:
     // a number that is no signal as it was given: -1 is sent as 4294967295
     static std::string signal_name(std::int64_t number)
     {
-        static const char *const names[] = {"HUP", "INT", "QUIT", "ILL", "TRAP", "ABRT", "EMT", "FPE", "KILL", "BUS", "SEGV",
-            "SYS", "PIPE", "ALRM", "TERM", "URG", "STOP", "TSTP", "CONT", "CHLD", "TTIN", "TTOU", "IO", "XCPU", "XFSZ",
-            "VTALRM", "PROF", "WINCH", "INFO", "USR1", "USR2"};
-        if (number >= 1 && number <= 31)
-            return std::string("SIG") + names[number - 1];
+        // tools/format signals
+        static const char *const names[] = {
+            "SIGHUP", "SIGINT", "SIGQUIT", "SIGILL", "SIGTRAP", "SIGABRT", "SIGEMT", "SIGFPE", "SIGKILL", "SIGBUS",
+            "SIGSEGV", "SIGSYS", "SIGPIPE", "SIGALRM", "SIGTERM", "SIGURG", "SIGSTOP", "SIGTSTP", "SIGCONT",
+            "SIGCHLD", "SIGTTIN", "SIGTTOU", "SIGIO", "SIGXCPU", "SIGXFSZ", "SIGVTALRM", "SIGPROF", "SIGWINCH",
+            "SIGINFO", "SIGUSR1", "SIGUSR2"
+        };
+        // end
+        if (number >= 1 && number <= TRACEHOST_LAST_SIGNAL)
+            return names[number - 1];
         return std::to_string(static_cast<std::int32_t>(number));
     }
 };
@@ -136,7 +141,7 @@ public:
     std::int64_t processes() const { return static_cast<std::int64_t>(process_rows.size()); }
     std::int64_t lwps() const { return static_cast<std::int64_t>(lwp_rows.size()); }
     // the process that a target of ptrace(2) names, by its number or an LWP's
-    std::int64_t process_of(std::int64_t number) const { return number <= 99999 ? process(number).pid : owner(number); }
+    std::int64_t process_of(std::int64_t number) const { return number <= TRACEHOST_LAST_PROCESS ? process(number).pid : owner(number); }
     std::int64_t state(std::int64_t pid) const { return process(pid).state; }
     std::int64_t parent(std::int64_t pid) const { return process(pid).parent; }
     std::int64_t tracer(std::int64_t pid) const { return process(pid).tracer; }

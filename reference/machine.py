@@ -30,7 +30,7 @@ from .steps import (
     New,
     Nothing,
     Ok,
-    Processes,
+    Pids,
     Ptrace,
     Refusal,
     Reply,
@@ -84,9 +84,9 @@ def call(view: View, asked: Called) -> tuple[View, Reply]:
         case Sigaction():
             return sigaction(view, caller, asked), Ok()
         case List():
-            return view, Processes(tuple([row.number for row in view.processes]))
+            return view, Pids(tuple([row.number for row in view.processes]))
         case Install():
-            refuse_if(len(view.handlers) >= names.HANDLERS, "EAGAIN")
+            refuse_if(len(view.handlers) >= names.MAX_HANDLERS, "EAGAIN")
             return view._replace(handlers=(*view.handlers, Handler(caller.number, asked.rules))), Ok()
         case Handle():
             return handle(view, asked)
@@ -170,7 +170,7 @@ def handle(view: View, asked: Handle) -> tuple[View, Reply]:
     lwp = the_lwp(view, found.state.lwp)
     stop = Stop(found.state.signal, lwp.flags, lwp.child, lwp.code)
     index, decision, passed = decided(view, asked.caller, stop)
-    reply = Handled(found.number, word(found), lwp.number, stop, index, decision, passed)
+    reply = Handled(found.number, word(found), lwp.number, *stop, index, decision, passed)
     match decision:
         case "continue":
             view = rules.carry_on(view, found.number, passed)

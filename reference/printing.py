@@ -17,59 +17,77 @@ from .steps import (
     Nothing,
     Number,
     Ok,
-    Processes,
+    Pids,
     Reply,
     Status,
     Stopped,
 )
 
 
+# tools/format words
 def in_words(reply: Reply) -> str:
     match reply:
-        case Ok() | Nothing() | Held():
-            return type(reply).__name__.lower()
-        case New(process, lwp):
-            return f"new {process} {lwp}"
-        case Number(number):
-            return f"number {number}"
-        case Status(process, word):
-            return f"status {process} {word}"
+        case Ok():
+            return "ok"
+        case New():
+            return f"new {reply.pid} {reply.lwp}"
+        case Number():
+            return f"number {reply.number}"
+        case Status():
+            return f"status {reply.pid} {reply.status}"
+        case Nothing():
+            return "nothing"
         case Info():
-            return info_in_words(reply)
-        case Lwps(numbers):
-            return " ".join(["lwps", *map(str, numbers)])
-        case Processes(numbers):
-            return " ".join(["pids", *map(str, numbers)])
-        case Mask(events):
-            return "mask " + joined(ordered(events, names.EVENTS), "+")
+            return (
+                f"info {reply.lwp} {event_in_words(reply.event)} flags={flags_in_words(reply.flags)} "
+                f"mask={signals_in_words(reply.mask)} pending={signals_in_words(reply.pending)} child={reply.child} "
+                f"code={reply.code}"
+            )
+        case Lwps():
+            return " ".join(["lwps", *map(str, reply.lwps)])
+        case Pids():
+            return " ".join(["pids", *map(str, reply.pids)])
+        case Mask():
+            return f"mask {events_in_words(reply.events)}"
         case Handled():
-            return handled_in_words(reply)
-        case Stopped(lwp, signal, flags):
-            return f"stopped {lwp} {signal} flags={flags_in_words(flags)}"
-        case Caught(signal):
-            return f"caught {signal}"
-        case Ended(word):
-            return f"ended {word}"
-        case Error(name):
-            return f"error {name} {names.ERRORS[name]}"
+            return (
+                f"handled {reply.pid} {reply.status} at {reply.lwp} signal={reply.signal} "
+                f"flags={flags_in_words(reply.flags)} child={reply.child} code={reply.code} by "
+                f"{handler_in_words(reply.handler)} {decision_in_words(reply)}"
+            )
+        case Stopped():
+            return f"stopped {reply.lwp} {reply.signal} flags={flags_in_words(reply.flags)}"
+        case Caught():
+            return f"caught {reply.signal}"
+        case Ended():
+            return f"ended {reply.status}"
+        case Held():
+            return "held"
+        case Error():
+            return f"error {error_in_words(reply.error)}"
 
 
-def info_in_words(info: Info) -> str:
-    event = "SIGNAL" if info.reports else "NONE"
-    return (
-        f"info {info.lwp} {event} flags={flags_in_words(info.flags)} mask={joined(sorted(info.blocked), ',')}"
-        f" pending={joined(sorted(info.pending), ',')} child={info.child} code={info.code}"
-    )
+# end
 
 
-def handled_in_words(reply: Handled) -> str:
-    stop = reply.stop
-    by = "none" if reply.handler is None else str(reply.handler)
-    passed = f" {reply.passed}" if reply.decision in ("continue", "detach") else ""
-    return (
-        f"handled {reply.process} {reply.word} at {reply.lwp} signal={stop.signal} flags={flags_in_words(stop.flags)}"
-        f" child={stop.child} code={stop.code} by {by} {reply.decision}{passed}"
-    )
+def event_in_words(reports: bool) -> str:
+    return "SIGNAL" if reports else "NONE"
+
+
+def signals_in_words(signals: Iterable[int]) -> str:
+    return joined(sorted(signals), ",")
+
+
+def handler_in_words(handler: int | None) -> str:
+    return "none" if handler is None else str(handler)
+
+
+def decision_in_words(reply: Handled) -> str:
+    return f"{reply.decision} {reply.passed}" if reply.decision in ("continue", "detach") else reply.decision
+
+
+def error_in_words(name: str) -> str:
+    return f"{name} {names.ERRORS[name]}"
 
 
 def ordered(chosen: Iterable[str], order: tuple[str, ...]) -> list[str]:
@@ -84,38 +102,66 @@ def flags_in_words(flags: Iterable[str]) -> str:
     return joined(ordered(flags, names.FLAGS), "+")
 
 
+def events_in_words(events: Iterable[str]) -> str:
+    return joined(ordered(events, names.EVENTS), "+")
+
+
 def as_json(user: int, number: int, reply: Reply) -> str:
     members = {"user": user, "step": number, "reply": in_words(reply).split(" ", 1)[0], **members_of(reply)}
     return json.dumps(members, separators=(",", ":"))
 
 
+# tools/format members
 def members_of(reply: Reply) -> dict[str, object]:
     match reply:
-        case New(process, lwp):
-            return {"pid": process, "lwp": lwp}
-        case Number(number):
-            return {"number": number}
-        case Status(process, word):
-            return {"pid": process, **status(word)}
+        case Ok():
+            return {}
+        case New():
+            return {"pid": reply.pid, "lwp": reply.lwp}
+        case Number():
+            return {"number": reply.number}
+        case Status():
+            return {"pid": reply.pid, **status(reply.status)}
+        case Nothing():
+            return {}
         case Info():
-            return info_members(reply)
-        case Lwps(numbers):
-            return {"lwps": numbers}
-        case Processes(numbers):
-            return {"pids": numbers}
-        case Mask(events):
-            return {"events": ordered(events, names.EVENTS)}
+            return {
+                "lwp": reply.lwp,
+                "event": event_in_words(reply.event),
+                "flags": ordered(reply.flags, names.FLAGS),
+                "mask": signal_names(reply.mask),
+                "pending": signal_names(reply.pending),
+                "child": reply.child,
+                "code": reply.code,
+            }
+        case Lwps():
+            return {"lwps": reply.lwps}
+        case Pids():
+            return {"pids": reply.pids}
+        case Mask():
+            return {"events": ordered(reply.events, names.EVENTS)}
         case Handled():
-            return handled_members(reply)
-        case Stopped(lwp, number, flags):
-            return {"lwp": lwp, **signal(number), "flags": ordered(flags, names.FLAGS)}
-        case Caught(number):
-            return signal(number)
-        case Ended(word):
-            return status(word)
-        case Error(name):
-            return {"errno": name, "number": names.ERRORS[name]}
-    return {}
+            at = {
+                "lwp": reply.lwp,
+                **signal(reply.signal),
+                "flags": ordered(reply.flags, names.FLAGS),
+                "child": reply.child,
+                "code": reply.code,
+            }
+            return {"pid": reply.pid, **status(reply.status), "at": at, "by": reply.handler, **decided(reply)}
+        case Stopped():
+            return {"lwp": reply.lwp, **signal(reply.signal), "flags": ordered(reply.flags, names.FLAGS)}
+        case Caught():
+            return {**signal(reply.signal)}
+        case Ended():
+            return {**status(reply.status)}
+        case Held():
+            return {}
+        case Error():
+            return {**error(reply.error)}
+
+
+# end
 
 
 def signal(number: int) -> dict[str, object]:
@@ -139,28 +185,16 @@ def status(word: int) -> dict[str, object]:
     return {"word": word, **meaning}
 
 
-def info_members(info: Info) -> dict[str, object]:
-    return {
-        "lwp": info.lwp,
-        "event": "SIGNAL" if info.reports else "NONE",
-        "flags": ordered(info.flags, names.FLAGS),
-        "mask": [signal_name(number) for number in sorted(info.blocked)],
-        "pending": [signal_name(number) for number in sorted(info.pending)],
-        "child": info.child,
-        "code": info.code,
-    }
+def signal_names(signals: Iterable[int]) -> list[str]:
+    return [signal_name(number) for number in sorted(signals)]
 
 
-def handled_members(reply: Handled) -> dict[str, object]:
-    stop = reply.stop
-    at = {
-        "lwp": reply.lwp,
-        **signal(stop.signal),
-        "flags": ordered(stop.flags, names.FLAGS),
-        "child": stop.child,
-        "code": stop.code,
-    }
-    members = {"pid": reply.process, **status(reply.word), "at": at, "by": reply.handler, "decision": reply.decision}
+def decided(reply: Handled) -> dict[str, object]:
+    members: dict[str, object] = {"decision": reply.decision}
     if reply.decision in ("continue", "detach"):
         members["pass"] = signal(reply.passed) if reply.passed else None
     return members
+
+
+def error(name: str) -> dict[str, object]:
+    return {"errno": name, "number": names.ERRORS[name]}

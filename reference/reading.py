@@ -6,16 +6,13 @@ from collections.abc import Callable
 from typing import NamedTuple, NoReturn, TypeAlias, TypeVar
 
 from . import names
-from .requests import REQUESTS, WITH_DATA
+from .names import ACTIONS, ACTS, CALLS, DECISIONS, OPTIONS, REQUESTS, WITH_DATA
 from .rows import NO_NAMES, NONE, Names, Rule, Signals
 from .steps import Handle, Install, Kill, List, Ptrace, Sigaction, Spawn, Step, Turn, Wait
 
 LONGEST_TEXT, MOST_STEPS, DEEPEST = 4194304, 100000, 127
 WORD = range(4294967296)
 SIGNALS = range(1, names.LAST_SIGNAL + 1)
-CALLS = ("exit", "fork", "vfork", "exec", "thr_new", "thr_exit", "other")
-ACTS = ("compute", "raise", "block", "enter", "leave")
-OPTIONS = ("WNOHANG", "WUNTRACED", "WCONTINUED")
 MASKS = {name: frozenset({name}) for name in names.EVENTS} | {"PTRACE_SYSCALL": frozenset({names.ON_ENTRY, names.ON_EXIT})}
 
 Json: TypeAlias = object
@@ -210,12 +207,12 @@ def read_kill(keys: Keys) -> Step:
 
 def read_sigaction(keys: Keys) -> Step:
     caller, signal = caller_of(keys), keys.number("signal", WORD)
-    return Sigaction(caller, signal, keys.name("action", ("default", "ignore", "catch")))
+    return Sigaction(caller, signal, keys.name("action", ACTIONS))
 
 
 def read_install(keys: Keys) -> Step:
     caller, rules = caller_of(keys), keys.array("rules")
-    if len(rules) > names.RULES:
+    if len(rules) > names.MAX_RULES:
         raise Fault("TooManyRules")
     return Install(caller, tuple([read_rule(rule) for rule in rules]))
 
@@ -224,7 +221,7 @@ def read_rule(value: Json) -> Rule:
     keys = Keys(value)
     signal = keys.number("signal", SIGNALS, 0)
     flags = keys.items("flags", lambda item: known_name(item, names.FLAGS), True)
-    decision = keys.name("decision", ("decline", "leave", "continue", "detach", "kill"))
+    decision = keys.name("decision", DECISIONS)
     passed = keys.number("pass", range(32), 0) if decision in ("continue", "detach") else 0
     keys.nothing_else()
     return Rule(signal or None, flags, decision, passed)

@@ -4,12 +4,6 @@ from . import names, rules
 from .rows import Lwp, Process, Stop, TraceStop, View, find_lwp, find_process, lwps_of, put_lwp, put_process
 from .steps import Info, Lwps, Mask, Number, Ok, Ptrace, Reply, Refusal, Error, refuse_if
 
-WITH_DATA = (
-    "PT_ATTACH PT_CONTINUE PT_STEP PT_TO_SCE PT_TO_SCX PT_SYSCALL PT_DETACH PT_KILL PT_SUSPEND PT_RESUME "
-    "PT_GET_EVENT_MASK PT_FOLLOW_FORK PT_LWP_EVENTS PT_LWPINFO PT_GETNUMLWPS PT_GETLWPLIST"
-).split()
-REQUESTS = ("PT_TRACE_ME", "PT_SET_EVENT_MASK", *WITH_DATA)
-PASSING = frozenset({"PT_CONTINUE", "PT_STEP", "PT_TO_SCE", "PT_TO_SCX", "PT_SYSCALL", "PT_DETACH"})
 FROM_NOW_ON = {
     "PT_TO_SCE": frozenset({names.ON_ENTRY}),
     "PT_TO_SCX": frozenset({names.ON_EXIT}),
@@ -30,7 +24,7 @@ def ptrace(view: View, caller: Process, asked: Ptrace) -> tuple[View, Reply]:
         raise Refusal(Error("EBUSY"))
     lwp = find_lwp(view, target.state.lwp) if named is None else named
     assert lwp is not None
-    if asked.request in PASSING:
+    if asked.request in names.PASSING:
         refuse_if(asked.data > names.LAST_SIGNAL, "EINVAL")
         return pass_on(view, target, lwp, asked), Ok()
     if asked.request in ("PT_LWPINFO", "PT_GETNUMLWPS", "PT_GETLWPLIST", "PT_GET_EVENT_MASK"):

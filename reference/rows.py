@@ -130,11 +130,11 @@ class View(NamedTuple):
 
 
 def first_process(user: int) -> int:
-    return 1000 * (user - 1000)
+    return names.FIRST_PROCESS + names.PROCESS_NUMBERS * (user - names.FIRST_USER)
 
 
 def first_lwp(user: int) -> int:
-    return 100000 + 4000 * (user - names.FIRST_USER)
+    return names.FIRST_LWP + names.LWP_NUMBERS * (user - names.FIRST_USER)
 
 
 def new_view(user: int, kills_tracees: bool) -> View:
@@ -189,7 +189,7 @@ def next_free(used: set[int], cursor: int, first: int, size: int) -> tuple[int, 
 def add_process(view: View, parent: int, lwp: Lwp) -> tuple[View, Process, Lwp]:
     """Adds a process in its first state, with this LWP under new numbers."""
     used = {row.number for row in view.processes}
-    number, cursor = next_free(used, view.next_process, first_process(view.user), 1000)
+    number, cursor = next_free(used, view.next_process, first_process(view.user), names.PROCESS_NUMBERS)
     row = Process(number, parent)
     rows = tuple(sorted([*view.processes, row], key=lambda process: process.number))
     view, lwp = add_lwp(view._replace(processes=rows, next_process=cursor), lwp._replace(process=number))
@@ -198,6 +198,6 @@ def add_process(view: View, parent: int, lwp: Lwp) -> tuple[View, Process, Lwp]:
 
 def add_lwp(view: View, lwp: Lwp) -> tuple[View, Lwp]:
     used = {row.number for row in view.lwps}
-    number, cursor = next_free(used, view.next_lwp, first_lwp(view.user), 4000)
+    number, cursor = next_free(used, view.next_lwp, first_lwp(view.user), names.LWP_NUMBERS)
     row = lwp._replace(number=number)
     return view._replace(lwps=(*view.lwps, row), next_lwp=cursor), row

@@ -61,12 +61,13 @@ Called: TypeAlias = Ptrace | Wait | Kill | Sigaction | List | Install | Handle
 Step: TypeAlias = Spawn | Called | Turn
 
 
+# tools/format replies
 class Ok(NamedTuple):
     pass
 
 
 class New(NamedTuple):
-    process: int
+    pid: int
     lwp: int
 
 
@@ -75,8 +76,8 @@ class Number(NamedTuple):
 
 
 class Status(NamedTuple):
-    process: int
-    word: int
+    pid: int
+    status: int
 
 
 class Nothing(NamedTuple):
@@ -85,9 +86,9 @@ class Nothing(NamedTuple):
 
 class Info(NamedTuple):
     lwp: int
-    reports: bool
+    event: bool
     flags: Names
-    blocked: Signals
+    mask: Signals
     pending: Signals
     child: int
     code: int
@@ -97,8 +98,8 @@ class Lwps(NamedTuple):
     lwps: tuple[int, ...]
 
 
-class Processes(NamedTuple):
-    processes: tuple[int, ...]
+class Pids(NamedTuple):
+    pids: tuple[int, ...]
 
 
 class Mask(NamedTuple):
@@ -106,12 +107,13 @@ class Mask(NamedTuple):
 
 
 class Handled(NamedTuple):
-    """A stop given to handlers; without a handler all declined."""
-
-    process: int
-    word: int
+    pid: int
+    status: int
     lwp: int
-    stop: Stop
+    signal: int
+    flags: Names
+    child: int
+    code: int
     handler: int | None
     decision: str
     passed: int
@@ -128,7 +130,7 @@ class Caught(NamedTuple):
 
 
 class Ended(NamedTuple):
-    word: int
+    status: int
 
 
 class Held(NamedTuple):
@@ -136,12 +138,15 @@ class Held(NamedTuple):
 
 
 class Error(NamedTuple):
-    name: str
+    error: str
 
 
 Reply: TypeAlias = (
-    Ok | New | Number | Status | Nothing | Info | Lwps | Processes | Mask | Handled | Stopped | Caught | Ended | Held | Error
+    Ok | New | Number | Status | Nothing | Info | Lwps | Pids | Mask | Handled | Stopped | Caught | Ended | Held | Error
 )
+
+
+# end
 
 
 class Refusal(Exception):

@@ -26,8 +26,8 @@ from .steps import Caught, Ended, Error, Held, New, Ok, Refusal, Reply, Stopped,
 
 def need_room(view: View, process: bool) -> None:
     """Refuses a step that makes an LWP, or also a process, beyond the user's limits."""
-    refuse_if(process and len(view.processes) >= names.PROCESSES, "EAGAIN")
-    refuse_if(len(view.lwps) >= names.LWPS, "EAGAIN")
+    refuse_if(process and len(view.processes) >= names.MAX_PROCESSES, "EAGAIN")
+    refuse_if(len(view.lwps) >= names.MAX_LWPS, "EAGAIN")
 
 
 def turn(view: View, asked: Turn) -> tuple[View, Reply]:
@@ -121,7 +121,7 @@ def exit_of_call(
     """The stop of a call's exit, with its flags under its event, or under PTRACE_SCX; without one the call's answer."""
     child = 0
     if event in process.mask:
-        child = 0 if made is None else made.process
+        child = 0 if made is None else made.pid
     elif names.ON_EXIT in process.mask:
         flags = NO_NAMES
     else:

@@ -13,10 +13,17 @@ _ABSENT = object()
 NO_JSON = object()
 _MOST_SHOWN = 160
 
-SIGNALS = ["SIG" + name for name in (
-    "HUP INT QUIT ILL TRAP ABRT EMT FPE KILL BUS SEGV SYS PIPE ALRM TERM URG STOP TSTP CONT CHLD TTIN TTOU IO XCPU XFSZ"
-    " VTALRM PROF WINCH INFO USR1 USR2"
-).split()]  # fmt: skip
+# tools/format names
+SIGNALS = [
+    "SIGHUP", "SIGINT", "SIGQUIT", "SIGILL", "SIGTRAP", "SIGABRT", "SIGEMT", "SIGFPE", "SIGKILL", "SIGBUS",
+    "SIGSEGV", "SIGSYS", "SIGPIPE", "SIGALRM", "SIGTERM", "SIGURG", "SIGSTOP", "SIGTSTP", "SIGCONT", "SIGCHLD",
+    "SIGTTIN", "SIGTTOU", "SIGIO", "SIGXCPU", "SIGXFSZ", "SIGVTALRM", "SIGPROF", "SIGWINCH", "SIGINFO", "SIGUSR1",
+    "SIGUSR2",
+]  # fmt: skip
+FIRST_USER, LAST_USER, LAST_PROCESS = 1001, 1064, 99999
+# the requests that let their target go on
+RESUMES = ("PT_CONTINUE", "PT_STEP", "PT_DETACH", "PT_TO_SCE", "PT_TO_SCX", "PT_SYSCALL")
+# end
 
 
 def is_whole(value: Any) -> bool:
@@ -28,7 +35,7 @@ def is_word(value: Any) -> bool:
 
 
 def is_user(value: Any) -> bool:
-    return is_whole(value) and 1001 <= value <= 1064
+    return is_whole(value) and FIRST_USER <= value <= LAST_USER
 
 
 def is_signal(value: Any) -> bool:
@@ -64,55 +71,76 @@ def _rows_of(members: Mapping[str, Check]) -> Check:
     return _maybe(list_of(lambda row: is_object(row) and wrong_member(row, members) is None))
 
 
-_FLAGS: dict[str, Check] = {"flags": list_of(is_name), "child": is_word, "code": is_word}
 _STATUS: dict[str, Check] = {"word": is_word}
 _SIGNAL: dict[str, Check] = {"signal": is_signal, "number": is_word}
+_ERROR: dict[str, Check] = {"errno": is_name, "number": is_word}
 
 
-def _is_stop(value: Any) -> bool:
-    return is_object(value) and wrong_member(value, {"lwp": is_word, **_SIGNAL, **_FLAGS}) is None
+def _object_of(members: Mapping[str, Check]) -> Check:
+    return lambda value: is_object(value) and wrong_member(value, members) is None
 
 
-def _is_passed(value: Any) -> bool:
-    return value is _ABSENT or value is None or (is_object(value) and wrong_member(value, _SIGNAL) is None)
+def _or_null(check: Check) -> Check:
+    return lambda value: value is None or check(value)
 
 
+_is_passed = _maybe(_or_null(_object_of(_SIGNAL)))
+# tools/format replies
+_DECISION: dict[str, Check] = {"decision": one_of("decline", "leave", "continue", "detach", "kill"), "pass": _is_passed}
 # the members of each reply
 REPLIES: dict[str, dict[str, Check]] = {
     "ok": {},
-    "nothing": {},
-    "held": {},
     "new": {"pid": is_word, "lwp": is_word},
     "number": {"number": is_word},
     "status": {"pid": is_word, **_STATUS},
-    "info": {
-        "lwp": is_word, "event": one_of("SIGNAL", "NONE"), "mask": list_of(is_signal), "pending": list_of(is_signal), **_FLAGS,
-    },
+    "nothing": {},
+    "info": {"lwp": is_word, "event": one_of("SIGNAL", "NONE"), "flags": list_of(is_name), "mask": list_of(is_signal),
+        "pending": list_of(is_signal), "child": is_word, "code": is_word},
     "lwps": {"lwps": list_of(is_word)},
     "pids": {"pids": list_of(is_word)},
     "mask": {"events": list_of(is_name)},
-    "handled": {
-        "pid": is_word, **_STATUS, "at": _is_stop, "by": lambda by: by is None or is_word(by),
-        "decision": one_of("decline", "leave", "continue", "detach", "kill"), "pass": _is_passed,
-    },
+    "handled": {"pid": is_word, **_STATUS, "at": _object_of({"lwp": is_word, **_SIGNAL, "flags": list_of(is_name),
+        "child": is_word, "code": is_word}), "by": _or_null(is_word), **_DECISION},
     "stopped": {"lwp": is_word, **_SIGNAL, "flags": list_of(is_name)},
-    "caught": _SIGNAL,
-    "ended": _STATUS,
-    "error": {"errno": is_name, "number": is_word},
+    "caught": {**_SIGNAL},
+    "ended": {**_STATUS},
+    "held": {},
+    "error": {**_ERROR},
 }  # fmt: skip
-_SET, _NUMBER = _maybe(one_of(True)), _maybe(is_word)
-_SIGNALS, _NAMES = _maybe(list_of(is_signal)), _maybe(list_of(is_name))
+# end
+# tools/format rows
 _PROCESS: dict[str, Check] = {
-    "pid": is_word, "parent": is_word, "tracer": _NUMBER, "state": one_of("runs", "trace_stop", "job_stop", "zombie"),
-    "stop_signal": _maybe(is_signal), "reported": _SET, "stop_lwp": _NUMBER, "status": _NUMBER, "continued": _SET,
-    "events": _NAMES, "pending": _SIGNALS, "ignore": _SIGNALS, "catch": _SIGNALS,
-}  # fmt: skip
+    "pid": is_word,
+    "parent": is_word,
+    "tracer": _maybe(is_word),
+    "state": one_of("runs", "trace_stop", "job_stop", "zombie"),
+    "stop_lwp": _maybe(is_word),
+    "stop_signal": _maybe(is_signal),
+    "reported": _maybe(one_of(True)),
+    "status": _maybe(is_word),
+    "continued": _maybe(one_of(True)),
+    "events": _maybe(list_of(is_name)),
+    "pending": _maybe(list_of(is_signal)),
+    "ignore": _maybe(list_of(is_signal)),
+    "catch": _maybe(list_of(is_signal)),
+}
 _LWP: dict[str, Check] = {
-    "lwp": is_word, "pid": is_word, "mode": one_of("runs", "in_call", "waits_for_vfork"), "call": _maybe(is_name),
-    "argument": _NUMBER, "vfork_child": _NUMBER, "suspended": _SET, "stepping": _SET, "blocked": _SIGNALS,
-    "pending": _SIGNALS, "due": _maybe(one_of("born", "begun", "vfork_done")), "flags": _NAMES, "child": _NUMBER,
-    "code": _NUMBER,
-}  # fmt: skip
+    "lwp": is_word,
+    "pid": is_word,
+    "mode": one_of("runs", "in_call", "waits_for_vfork"),
+    "call": _maybe(is_name),
+    "argument": _maybe(is_word),
+    "vfork_child": _maybe(is_word),
+    "suspended": _maybe(one_of(True)),
+    "stepping": _maybe(one_of(True)),
+    "blocked": _maybe(list_of(is_signal)),
+    "pending": _maybe(list_of(is_signal)),
+    "due": _maybe(one_of("born", "begun", "vfork_done")),
+    "flags": _maybe(list_of(is_name)),
+    "child": _maybe(is_word),
+    "code": _maybe(is_word),
+}
+# end
 # the members of what a step changed
 ROWS: dict[str, Check] = {
     "processes": _rows_of(_PROCESS), "lwps": _rows_of(_LWP), "removed_processes": _maybe(list_of(is_word)),
@@ -169,7 +197,7 @@ def fault_of_reply(reply: Any) -> Optional[str]:
     if is_name(reply.get("refused")) and "reply" not in reply:
         return None
     if not is_user(reply.get("user")):
-        return "no user from 1001 to 1064"
+        return f"no user from {FIRST_USER} to {LAST_USER}"
     if not is_whole(reply.get("step")) or reply["step"] < 1:
         return "no number of a step"
     if type(reply.get("reply")) is not str or reply["reply"] not in REPLIES:
@@ -281,7 +309,7 @@ def fault_of_pair(lines: Read, scenario: Read) -> Optional[str]:
         answered = {(index,): step for index, step in enumerate(steps)}
         keys = [(index,) for index in range(len(lines.replies))]
     else:
-        answered, counts = {}, dict.fromkeys(range(1001, 1065), 0)
+        answered, counts = {}, dict.fromkeys(range(FIRST_USER, LAST_USER + 1), 0)
         for step in filter(is_object, steps):
             assert step is not None
             counts[step["user"]] += 1

@@ -6,12 +6,14 @@ import dataclasses
 from collections.abc import Iterable
 from typing import Any, Optional
 
+from reading import LAST_PROCESS, RESUMES
+
 Object = dict[str, Any]
 
-LAST_PROCESS = 99999
 # a user's own row has a number that no process and no LWP has
 USER_ROW = 1000000
-RESUMES = ("PT_CONTINUE", "PT_STEP", "PT_TO_SCE", "PT_TO_SCX", "PT_SYSCALL", "PT_DETACH", "PT_KILL")
+# the requests that end a stop
+ENDS_STOP = (*RESUMES, "PT_KILL")
 # Perfetto binds the end of an arrow to what the row has begun last: of one time, in this order
 ORDER = {"X stop": 0, "s": 1, "X": 2, "f": 3}
 
@@ -206,7 +208,7 @@ class EventsByReplies(Events):
         asked, reply = line["asked"], line["reply"]
         if reply in ("error", "held"):
             return
-        if asked.get("request") in RESUMES:
+        if asked.get("request") in ENDS_STOP:
             self.runs(self.process(asked["target"], line["user"]), at)
         elif reply == "handled" and line["decision"] in ("continue", "detach", "kill"):
             self.runs(line["pid"], at)

@@ -1,27 +1,42 @@
-/* What a test that fails leaves: the names of its files, and its page. failing.c says when. */
+/* What a test that fails leaves: its files, whose folder programs, tests and processes share. failing.c says when. */
 #define _POSIX_C_SOURCE 200809L
 
 #include "internal.h"
 
+#include <dirent.h>
 #include <fcntl.h>
 #include <poll.h>
-#include <signal.h>
-#include <spawn.h>
 #include <stdio.h>
 #include <stdlib.h>
 #include <string.h>
 #include <sys/file.h>
 #include <sys/stat.h>
-#include <sys/wait.h>
+#include <time.h>
 #include <unistd.h>
 
-enum { MOST_OF_A_NAME = 80, MOST_OF_ONE_NAME = 1000 };
+enum { MOST_OF_A_PROGRAM = 30, MOST_OF_A_TEST = 50, TRIES = 1000, MS_OF_A_TRY = 10 };
 
-#ifndef TH_SECONDS_FOR_A_PAGE /* a test has less */
-#define TH_SECONDS_FOR_A_PAGE 300
-#endif
+static const char *const file_kinds[] = {".json", ".out", ".html"};
 
-extern char **environ;
+/* A file of this program that an earlier run has left in the folder. */
+struct earlier {
+    struct earlier *next;
+    ino_t inode;
+    char name[];
+};
+
+/* The number of a name that a test has, while it runs, and if it has failed. */
+struct used {
+    struct used *next;
+    int nth;
+    char stem[];
+};
+
+static pthread_mutex_t files_lock = PTHREAD_MUTEX_INITIALIZER;
+static struct used *used_names;
+static struct earlier *earlier_files;
+static char earlier_folder[THP_PATH];
+static struct timespec began;
 
 /* ---------------------------------------------------------------- names */
 
@@ -30,21 +45,123 @@ static int is_plain(char c)
     return (c >= 'a' && c <= 'z') || (c >= 'A' && c <= 'Z') || (c >= '0' && c <= '9') || c == '_' || c == '-' || c == '.';
 }
 
-/* A file's name for a test's: with a digest of it (FNV-1a) if it has other characters, or is long. */
-static void file_name(const char *test, char *name, size_t size)
+/* At most so many characters of a name, with plain ones only. Returns how many. */
+static size_t add_plain(char *to, const char *name, size_t most)
 {
-    uint32_t digest = 2166136261u;
-    size_t length = 0, i;
-    int is_changed = test[0] == '.' || test[0] == '-' || test[0] == '\0';
-    for (i = 0; test[i] != '\0'; i++) {
-        digest = (digest ^ (unsigned char)test[i]) * 16777619u;
-        is_changed |= !is_plain(test[i]) || i >= MOST_OF_A_NAME;
-        if (i < MOST_OF_A_NAME)
-            name[length++] = (char)(is_plain(test[i]) && (i > 0 || (test[i] != '.' && test[i] != '-')) ? test[i] : '_');
+    size_t length;
+    for (length = 0; length < most && name[length] != '\0'; length++)
+        to[length] = (char)(is_plain(name[length]) ? name[length] : '_');
+    to[length] = '\0';
+    return length;
+}
+
+/* FNV-1a, of the bytes and the NUL after them */
+static uint64_t digest_of(uint64_t digest, const char *text)
+{
+    do {
+        digest = (digest ^ (unsigned char)*text) * 1099511628211u;
+    } while (*text++ != '\0');
+    return digest;
+}
+
+/* PROGRAM. and the digest of its path, which are the same for all tests */
+static char program_name[MOST_OF_A_PROGRAM + 2];
+static uint64_t program_digest;
+
+static void name_program(void)
+{
+    char path[THP_PATH];
+    ssize_t read = readlink("/proc/self/exe", path, sizeof path - 1);
+    path[read > 0 ? read : 0] = '\0';
+    const char *slash = strrchr(path, '/'), *program = slash == NULL || slash[1] == '\0' ? "program" : slash + 1;
+    size_t length = add_plain(program_name, program, MOST_OF_A_PROGRAM);
+    if (program_name[0] == '.' || program_name[0] == '-')
+        program_name[0] = '_';
+    strcpy(program_name + length, ".");
+    program_digest = digest_of(14695981039346656037u, path);
+}
+
+/* How the names of a test's files begin: PROGRAM.TEST-DIGEST, with a digest of the program's path and the test's name. */
+static void make_stem(const char *test, char stem[THP_STEM])
+{
+    static pthread_once_t once = PTHREAD_ONCE_INIT;
+    pthread_once(&once, name_program);
+    size_t length = strlen(strcpy(stem, program_name));
+    length += add_plain(stem + length, test, MOST_OF_A_TEST);
+    uint64_t digest = digest_of(program_digest, test);
+    stem[length++] = '-';
+    for (int shift = 44; shift >= 0; shift -= 4)
+        stem[length++] = "0123456789abcdef"[digest >> shift & 15];
+    stem[length] = '\0';
+}
+
+static int is_used(const char *stem, int nth)
+{
+    const struct used *one = used_names;
+    while (one != NULL && (one->nth != nth || strcmp(one->stem, stem) != 0))
+        one = one->next;
+    return one != NULL;
+}
+
+/* The lowest number that no test of this name has: it has it from now on; 0 if memory runs out. */
+static int use_name(const char *stem)
+{
+    struct used *made = malloc(sizeof *made + strlen(stem) + 1);
+    if (made == NULL)
+        return 0;
+    strcpy(made->stem, stem);
+    pthread_mutex_lock(&files_lock);
+    for (made->nth = 1; is_used(stem, made->nth);)
+        made->nth++;
+    made->next = used_names;
+    used_names = made;
+    pthread_mutex_unlock(&files_lock);
+    return made->nth;
+}
+
+static void leave_name(const char *stem, int nth)
+{
+    pthread_mutex_lock(&files_lock);
+    struct used **at = &used_names;
+    while (*at != NULL && ((*at)->nth != nth || strcmp((*at)->stem, stem) != 0))
+        at = &(*at)->next;
+    if (*at != NULL) {
+        struct used *one = *at;
+        *at = one->next;
+        free(one);
     }
-    name[length] = '\0';
-    if (is_changed)
-        snprintf(name + length, size - length, "-%08x", (unsigned)digest);
+    pthread_mutex_unlock(&files_lock);
+}
+
+static int add_path(char path[THP_PATH], const char *folder, const char *name, const char *kind, const char *more)
+{
+    const char *const parts[] = {folder, "/", name, kind, more};
+    size_t end = 0;
+    for (size_t i = 0; i < COUNT(parts); i++) {
+        size_t length = strlen(parts[i]);
+        if (end + length >= THP_PATH)
+            return -1;
+        memcpy(path + end, parts[i], length + 1);
+        end += length;
+    }
+    return 0;
+}
+
+/* The names of the files, while the test runs and afterwards; -1 with errno if one is too long. */
+static int name_files(struct thp_artifacts *a)
+{
+    char number[16] = "", name[THP_STEM + 16], process[24];
+    if (a->nth > 1)
+        snprintf(number, sizeof number, "-%d", a->nth);
+    strcat(strcpy(name, a->stem), number);
+    snprintf(process, sizeof process, ".%ld", (long)getpid());
+    if (add_path(a->scenario, a->folder, name, file_kinds[0], "") == 0 &&
+        add_path(a->lines, a->folder, name, file_kinds[1], "") == 0 && add_path(a->page, a->folder, name, file_kinds[2], "") == 0 &&
+        add_path(a->scenario_now, a->folder, name, file_kinds[0], process) == 0 &&
+        add_path(a->lines_now, a->folder, name, file_kinds[1], process) == 0)
+        return 0;
+    errno = ENAMETOOLONG;
+    return -1;
 }
 
 /* ---------------------------------------------------------------- the folder */
@@ -85,66 +202,185 @@ static int open_folder(struct thp_artifacts *a, const char *name)
     return make_folders(a->folder);
 }
 
-/* ---------------------------------------------------------------- the files */
-
-/* The names of the files of the nth test of this name; -1 with errno if one is too long. */
-static int name_files(struct thp_artifacts *a, const char *name, int nth)
+/*
+ * Locks the folder, so that nobody else renames or removes its files: a descriptor, or -1 with errno, EWOULDBLOCK if somebody has
+ * it for a long time. A signal's handler may call it.
+ */
+static int lock_folder(const char *folder, int tries)
 {
-    static const char *const ends[] = {".json", ".out", ".html"};
-    char *const paths[] = {a->scenario, a->lines, a->page};
-    char number[16] = "";
-    if (nth > 1)
-        snprintf(number, sizeof number, "-%d", nth);
-    for (size_t i = 0; i < COUNT(paths); i++) {
-        int length = snprintf(paths[i], THP_PATH, "%s/%s%s%s", a->folder, name, number, ends[i]);
-        if (length < 0 || length >= THP_PATH) {
-            errno = ENAMETOOLONG;
-            return -1;
+    int number = open(folder, O_RDONLY | O_DIRECTORY | O_CLOEXEC), error = errno;
+    while (number >= 0 && flock(number, LOCK_EX | LOCK_NB) != 0) {
+        error = errno;
+        if (error == EWOULDBLOCK && --tries > 0) {
+            poll(NULL, 0, MS_OF_A_TRY);
+        } else {
+            close(number);
+            number = -1;
         }
     }
-    return 0;
+    errno = error;
+    return number;
 }
 
-/*
- * Opens the scenario, and locks it: while a test runs, and after a failure until the program ends, another test of its name takes
- * other files. -1 with EWOULDBLOCK if it is locked.
- */
-static int open_locked(const char *path)
+static void unlock_folder(int number)
 {
-    struct stat status;
-    for (;;) {
-        int file = open(path, O_RDWR | O_CREAT | O_CLOEXEC | O_NOFOLLOW, 0666);
-        if (file < 0)
-            return -1;
-        int is_locked = flock(file, LOCK_EX | LOCK_NB) == 0;
-        if (is_locked && fstat(file, &status) == 0 && status.st_nlink > 0 && ftruncate(file, 0) == 0)
-            return file;
-        int error = is_locked && status.st_nlink == 0 ? EAGAIN : errno;
-        close(file);
-        errno = error;
-        if (!is_locked || error != EAGAIN) /* else its test has just removed it */
-            return -1;
+    if (number < 0)
+        return;
+    flock(number, LOCK_UN); /* a child that was forked meanwhile has it too */
+    close(number);
+}
+
+/* ---------------------------------------------------------------- earlier runs */
+
+/* when the program began, by the clock of files */
+#if defined(__GNUC__)
+__attribute__((constructor))
+#endif
+static void
+note_beginning(void)
+{
+    clock_gettime(CLOCK_REALTIME_COARSE, &began);
+}
+
+static int is_older(const struct stat *status)
+{
+    return status->st_ctim.tv_sec < began.tv_sec ||
+           (status->st_ctim.tv_sec == began.tv_sec && status->st_ctim.tv_nsec < began.tv_nsec);
+}
+
+/* Whether a name ends as a file of a test does, of one that runs if `running` is set. */
+static int is_of_a_test(const char *name, int running)
+{
+    const char *dot = strrchr(name, '.');
+    if (dot == NULL || dot == name)
+        return 0;
+    if (!running)
+        return strcmp(dot, file_kinds[0]) == 0 || strcmp(dot, file_kinds[1]) == 0 || strcmp(dot, file_kinds[2]) == 0;
+    size_t front = (size_t)(dot - name);
+    int is_number = dot[1] != '\0' && dot[1 + strspn(dot + 1, "0123456789")] == '\0';
+    return is_number &&
+           ((front > 5 && strncmp(dot - 5, file_kinds[0], 5) == 0) || (front > 4 && strncmp(dot - 4, file_kinds[1], 4) == 0));
+}
+
+static void note_earlier(const char *name, ino_t inode)
+{
+    struct earlier *made = malloc(sizeof *made + strlen(name) + 1);
+    if (made == NULL)
+        return; /* it stays */
+    made->inode = inode;
+    strcpy(made->name, name);
+    made->next = earlier_files;
+    earlier_files = made;
+}
+
+/* Notes which files of this program are in the folder, before its first test. */
+static void find_earlier(const char *folder, const char *stem)
+{
+    size_t length = (size_t)(strchr(stem, '.') - stem) + 1;
+    if (strcmp(folder, earlier_folder) == 0)
+        return;
+    strcpy(earlier_folder, folder);
+    while (earlier_files != NULL) {
+        struct earlier *next = earlier_files->next;
+        free(earlier_files);
+        earlier_files = next;
     }
+    DIR *files = opendir(folder);
+    for (struct dirent *one; files != NULL && (one = readdir(files)) != NULL;)
+        if (strncmp(one->d_name, stem, length) == 0 && (is_of_a_test(one->d_name, 0) || is_of_a_test(one->d_name, 1)))
+            note_earlier(one->d_name, one->d_ino);
+    if (files != NULL)
+        closedir(files);
+}
+
+/* Whether the process of this record is alive: it has locked its scenario. */
+static int is_in_use(const char *path)
+{
+    int file = open(path, O_RDONLY | O_CLOEXEC | O_NOFOLLOW);
+    if (file < 0)
+        return errno != ENOENT;
+    int is_free = flock(file, LOCK_EX | LOCK_NB) == 0;
+    close(file);
+    return !is_free;
+}
+
+/* Whether a file's name is that of a test with this stem, or with a number after it. */
+static int has_stem(const char *name, const char *stem)
+{
+    size_t length = strlen(stem);
+    return strncmp(name, stem, length) == 0 && (name[length] == '.' || name[length] == '-');
+}
+
+/* The scenario's path, of which this may be the path of the lines; -1 if it is too long. */
+static int scenario_of(char path[THP_PATH], const char *folder, const char *name)
+{
+    char front[THP_STEM + 32];
+    const char *dot = strrchr(name, '.');
+    size_t length = (size_t)(dot - name);
+    if (!is_of_a_test(name, 1) || strncmp(dot - 4, file_kinds[1], 4) != 0)
+        return add_path(path, folder, name, "", "");
+    if (length >= sizeof front)
+        return -1;
+    memcpy(front, name, length - 4);
+    front[length - 4] = '\0';
+    return add_path(path, folder, front, file_kinds[0], dot);
+}
+
+/* Removes what an earlier run of the test has left, or tells of what it left when its process died. */
+static void for_earlier(const struct thp_artifacts *a, int removes)
+{
+    char path[THP_PATH], scenario[THP_PATH];
+    struct stat status;
+    int lock = -1;
+    for (struct earlier *one = earlier_files; one != NULL; one = one->next) {
+        if (!has_stem(one->name, a->stem) || add_path(path, a->folder, one->name, "", "") != 0 ||
+            scenario_of(scenario, a->folder, one->name) != 0)
+            continue;
+        if (lock < 0)
+            lock = lock_folder(a->folder, TRIES);
+        int runs = is_of_a_test(one->name, 1);
+        if (lstat(path, &status) != 0 || status.st_ino != one->inode || !is_older(&status) || (runs && is_in_use(scenario)))
+            continue;
+        if (removes)
+            unlink(path);
+        else if (runs && strcmp(path, scenario) == 0)
+            fprintf(stderr, "tracehost: left by a test that ended its process: %s\n", path);
+    }
+    unlock_folder(lock);
+}
+
+/* ---------------------------------------------------------------- the files */
+
+static int open_mine(const char *path) { return open(path, O_RDWR | O_CREAT | O_TRUNC | O_CLOEXEC | O_NOFOLLOW, 0666); }
+
+static void look_for_earlier(struct thp_artifacts *a)
+{
+    if (a->is_own_folder)
+        return;
+    pthread_mutex_lock(&files_lock);
+    find_earlier(a->folder, a->stem);
+    for_earlier(a, 0);
+    pthread_mutex_unlock(&files_lock);
 }
 
 int thp_open_artifacts(struct thp_artifacts *a, const char *test, int *scenario, int *lines)
 {
-    char name[MOST_OF_A_NAME + 16];
-    file_name(test, name, sizeof name);
-    a->scenario[0] = '\0';
+    char name[MOST_OF_A_TEST + 1];
+    add_plain(name, test, MOST_OF_A_TEST);
+    a->scenario[0] = a->scenario_now[0] = '\0';
+    a->nth = 0;
     if (open_folder(a, name) != 0)
         return -1;
-    for (int nth = 1; nth <= MOST_OF_ONE_NAME; nth++) {
-        if (name_files(a, name, nth) != 0)
-            return -1;
-        *scenario = open_locked(a->scenario);
-        if (*scenario >= 0 || errno != EWOULDBLOCK)
-            break;
-    }
+    make_stem(test, a->stem);
+    a->nth = use_name(a->stem);
+    if (a->nth == 0 || name_files(a) != 0)
+        return -1;
+    look_for_earlier(a);
+    *scenario = open_mine(a->scenario_now);
     if (*scenario < 0)
         return -1;
-    unlink(a->page); /* of an earlier run */
-    *lines = open(a->lines, O_WRONLY | O_CREAT | O_TRUNC | O_CLOEXEC | O_NOFOLLOW, 0666);
+    (void)!flock(*scenario, LOCK_EX | LOCK_NB);
+    *lines = open_mine(a->lines_now);
     if (*lines >= 0)
         return 0;
     int error = errno;
@@ -153,80 +389,40 @@ int thp_open_artifacts(struct thp_artifacts *a, const char *test, int *scenario,
     return -1;
 }
 
-void thp_remove_artifacts(const struct thp_artifacts *a)
+int thp_keep_artifacts(const struct thp_artifacts *a, int in_handler)
 {
-    unlink(a->page);
-    unlink(a->lines);
-    unlink(a->scenario);
+    int lock = lock_folder(a->folder, in_handler ? TRIES / 10 : TRIES);
+    if (lock < 0 && errno == EWOULDBLOCK)
+        return -1;
+    int result = rename(a->scenario_now, a->scenario), error = errno;
+    if (result == 0) {
+        (void)!rename(a->lines_now, a->lines);
+        unlink(a->page); /* of an earlier run */
+    }
+    unlock_folder(lock);
+    errno = error;
+    return result;
+}
+
+static void remove_earlier(const struct thp_artifacts *a)
+{
     if (a->is_own_folder)
+        return;
+    pthread_mutex_lock(&files_lock);
+    for_earlier(a, 1);
+    pthread_mutex_unlock(&files_lock);
+}
+
+void thp_end_artifacts(const struct thp_artifacts *a, int failed)
+{
+    if (a->nth == 0)
+        return;
+    if (!failed) {
+        unlink(a->lines_now);
+        unlink(a->scenario_now);
+        leave_name(a->stem, a->nth);
+    }
+    remove_earlier(a);
+    if (!failed && a->is_own_folder)
         rmdir(a->folder);
-}
-
-/* ---------------------------------------------------------------- the page */
-
-/* Its arguments: the scenario, the page, the test, the message, and the number of the step. */
-static const char make_page[] =
-    "for program in \"${TRACEHOST:=tracehost}\" \"${TRACEHOST_VIEW:=tracehost-view}\"; do\n"
-    "  command -v \"$program\" >/dev/null || { echo \"tracehost: there is no $program for the page\"; exit 1; }\n"
-    "done\n"
-    "trace=$(\"$TRACEHOST\" --json=trace+rows -- \"$1\") && printf '%s\\n' \"$trace\" |\n"
-    "  \"$TRACEHOST_VIEW\" -o \"$2\" --title=\"$3\" --failed=\"$3\" --message=\"$4\" --at=\"$5\" -\n";
-
-void thp_page_command(
-    const char *argv[THP_PAGE_WORDS], const struct thp_artifacts *a, const char *test, const char *message, const char *step)
-{
-    const char *const words[THP_PAGE_WORDS] = {"/bin/sh", "-c", make_page, "sh", a->scenario, a->page, test, message, step, NULL};
-    for (size_t i = 0; i < COUNT(words); i++)
-        argv[i] = words[i];
-}
-
-void thp_wait_for_page(pid_t child)
-{
-    int status;
-    for (int times = 0; times < TH_SECONDS_FOR_A_PAGE * 100; times++) {
-        pid_t ended = waitpid(child, &status, WNOHANG);
-        if (ended > 0 || (ended < 0 && errno != EINTR)) /* a program that ignores SIGCHLD gets no status */
-            return;
-        poll(NULL, 0, 10);
-    }
-    kill(-child, SIGKILL);
-    while (waitpid(child, &status, 0) < 0 && errno == EINTR)
-        continue;
-}
-
-/* Runs the command with standard error as its output, as a group of processes; its first one, or -1. */
-static pid_t spawn_page(const char *const argv[])
-{
-    posix_spawn_file_actions_t files;
-    posix_spawnattr_t attributes;
-    pid_t child = -1;
-    if (posix_spawn_file_actions_init(&files) != 0)
-        return -1;
-    if (posix_spawnattr_init(&attributes) == 0) {
-        int error = posix_spawn_file_actions_addopen(&files, STDIN_FILENO, "/dev/null", O_RDONLY, 0);
-        if (error == 0)
-            error = posix_spawn_file_actions_adddup2(&files, STDERR_FILENO, STDOUT_FILENO);
-        if (error == 0)
-            error = posix_spawnattr_setflags(&attributes, POSIX_SPAWN_SETPGROUP);
-        if (error != 0 || posix_spawn(&child, argv[0], &files, &attributes, (char *const *)argv, environ) != 0)
-            child = -1;
-        posix_spawnattr_destroy(&attributes);
-    }
-    posix_spawn_file_actions_destroy(&files);
-    return child;
-}
-
-int thp_make_page(const struct thp_artifacts *a, const char *test, const char *message, size_t step)
-{
-    const char *argv[THP_PAGE_WORDS];
-    char number[24];
-    if (step == 0)
-        return -1;
-    snprintf(number, sizeof number, "%zu", step);
-    thp_page_command(argv, a, test, message, number);
-    pid_t child = spawn_page(argv);
-    if (child < 0)
-        return -1;
-    thp_wait_for_page(child);
-    return access(a->page, F_OK);
 }

@@ -35,8 +35,14 @@ static int lwp_info(th_host *h, const struct thp_step *step, void *addr, size_t 
     struct thp_reply reply;
     if (thp_call(h, step, KIND(INFO), &reply, NULL) != 0)
         return -1;
+    /* tools/format lwpinfo */
+    /* clang-format off */
     struct th_lwpinfo info = {
-        reply.lwp, reply.event, reply.flags, (th_sigset)reply.mask, (th_sigset)reply.pending, reply.child, reply.code};
+        reply.lwp, reply.event, reply.flags, (th_sigset)reply.mask, (th_sigset)reply.pending, reply.child,
+        reply.code
+    };
+    /* clang-format on */
+    /* end */
     memcpy(addr, &info, size);
     return 0;
 }
@@ -46,7 +52,7 @@ static int get_event_mask(th_host *h, const struct thp_step *step, int *mask)
     struct thp_reply reply;
     if (thp_call(h, step, KIND(MASK), &reply, NULL) != 0)
         return -1;
-    *mask = reply.flags;
+    *mask = reply.events;
     return 0;
 }
 
@@ -193,16 +199,15 @@ static th_pid handle_call(th_host *h, th_caller caller, struct th_handled *handl
     if (thp_call(h, &step, kinds, &reply, timeout) != 0)
         return -1;
     if (handled != NULL && reply.kind != THP_NOTHING) {
-        struct th_handled told = {.stopped = reply.kind == THP_HANDLED,
-            .status = reply.status,
-            .lwp = reply.lwp,
-            .signal = reply.signal,
-            .flags = reply.flags,
-            .child = reply.child,
-            .code = reply.code,
-            .handler = reply.handler,
-            .decision = (enum th_decision)reply.decision,
-            .pass = reply.pass};
+        /* tools/format handled */
+        /* clang-format off */
+        struct th_handled told = {
+            .stopped = reply.kind == THP_HANDLED, .status = reply.status, .lwp = reply.lwp, .signal = reply.signal,
+            .flags = reply.flags, .child = reply.child, .code = reply.code, .handler = reply.handler,
+            .decision = (enum th_decision)reply.decision, .pass = reply.pass
+        };
+        /* clang-format on */
+        /* end */
         *handled = told;
     }
     return reply.pid;

@@ -4,7 +4,7 @@
 #include <stdlib.h>
 #include <tracehost.h>
 
-enum { ANSWER = 4096, RULES = 16 }; /* room for most answers; the most rules of a handler */
+enum { ANSWER = 4096 }; /* room for most answers */
 
 /* the enums of internal.h are the library's */
 typedef char same_kinds[(int)THP_ERROR == TRACEHOST_ERROR && (int)THP_HANDLED == TRACEHOST_HANDLED ? 1 : -1];
@@ -33,8 +33,8 @@ static int flags_of(uint32_t bits)
 
 static uint32_t install(tracehost *library, const struct thp_step *step, tracehost_reply *reply)
 {
-    tracehost_rule rules[RULES];
-    if (step->rule_count > RULES)
+    tracehost_rule rules[TRACEHOST_MAX_RULES];
+    if (step->rule_count > TRACEHOST_MAX_RULES)
         return TRACEHOST_INVALID;
     for (size_t i = 0; i < step->rule_count; i++) {
         const struct th_rule *rule = &step->rules[i];
@@ -83,13 +83,14 @@ static uint32_t call_library(tracehost *library, const struct thp_step *step, tr
 static void take_reply(tracehost *library, const tracehost_reply *told, const struct thp_step *step, struct thp_reply *reply)
 {
     reply->kind = (enum thp_kind)told->kind;
+    /* tools/format reply */
     reply->pid = (int)told->pid;
     reply->lwp = (int)told->lwp;
     reply->number = (int)told->number;
     reply->status = (int)told->status;
     reply->signal = (int)told->signal;
     reply->event = (int)told->event;
-    reply->flags = reply->kind == THP_MASK ? (int)told->mask : flags_of(told->flags);
+    reply->flags = flags_of(told->flags);
     reply->mask = (int)told->mask;
     reply->pending = (int)told->pending;
     reply->child = (int)told->child;
@@ -98,7 +99,9 @@ static void take_reply(tracehost *library, const tracehost_reply *told, const st
     reply->decision = (int)told->decision;
     reply->pass = (int)told->pass;
     reply->error = thp_errno_numbered(told->error);
+    reply->events = (int)told->mask;
     reply->count = told->count;
+    /* end */
     size_t length, kept = step->size < reply->count ? step->size : reply->count;
     if (kept > 0)
         tracehost_numbers(library, (uint32_t *)step->numbers, kept, &length);

@@ -5,6 +5,7 @@
 #include "tracehost_client.h"
 
 #include <pthread.h>
+#include <signal.h>
 #include <stddef.h>
 #include <stdint.h>
 #include <sys/types.h>
@@ -61,6 +62,7 @@ struct thp_step {
     size_t size;
 };
 
+/* tools/format kinds of replies */
 enum thp_kind { /* up to THP_ERROR in the order of tracehost.h */
     THP_DONE,
     THP_NEW,
@@ -80,17 +82,30 @@ enum thp_kind { /* up to THP_ERROR in the order of tracehost.h */
     THP_REFUSED,
     THP_NO_REPLY
 };
+/* end */
 
-/* A reply has the fields of its kind; the others are 0, and -1 is no handler. */
+/* tools/format reply */
+/* A reply has the fields of its kind; the others are 0, and -1 is no handler. The error has the host system's number. */
 struct thp_reply {
     enum thp_kind kind;
-    int pid, lwp, number, status, signal, event, child, handler, decision, pass;
-    int flags; /* of a stop; of THP_MASK the events */
-    int error; /* the host system's number */
-    int mask, pending; /* sets of signals */
+    int pid;
+    int lwp;
+    int number;
+    int status;
+    int signal;
+    int event;
+    int flags;
+    int mask;
+    int pending;
+    int child;
     unsigned code;
+    int handler;
+    int decision, pass;
+    int error;
+    int events;
     size_t count; /* of a list */
 };
+/* end */
 
 /* ---- why a step was refused: refusals.c, and rows.c by the user's rows */
 
@@ -222,18 +237,41 @@ void thp_close_file(struct thp_file *file);
 /* Begins a record in files that are empty; -1 with errno, and the session isn't recorded. */
 int thp_begin_record(th_host *h, int scenario, int lines);
 
-/* ---- tests: failing.c, and their files: artifacts.c */
+/* ---- tests: failing.c; their files: artifacts.c; their pages: pages.c; signals that end them: crashes.c */
 
-enum { THP_PATH = 4096, THP_PAGE_WORDS = 10 };
+enum { THP_PATH = 4096, THP_STEM = 112, THP_PAGE_WORDS = 10 };
 
 struct thp_artifacts {
     char folder[THP_PATH], scenario[THP_PATH], lines[THP_PATH], page[THP_PATH];
+    char scenario_now[THP_PATH], lines_now[THP_PATH]; /* while the test runs */
+    char stem[THP_STEM]; /* how the names begin */
+    int nth; /* of the tests with this stem that have names; 0 for none */
     int is_own_folder; /* of this test only */
 };
 
+struct thp_test {
+    struct thp_test *next;
+    volatile sig_atomic_t is_open;
+    th_host *host;
+    pid_t owner;
+    struct thp_file file; /* the scenario, which is locked */
+    struct thp_artifacts artifacts;
+    char name[256], message[1024];
+    int has_failed;
+    size_t step; /* at which it failed */
+};
+
+/* All tests, also those that have ended: they are used again and never freed, so that a signal's handler may read them. */
+extern struct thp_test *volatile thp_tests;
+
 /* Makes the files of a test of this name, and opens two of them; -1 with errno. */
 int thp_open_artifacts(struct thp_artifacts *a, const char *test, int *scenario, int *lines);
-void thp_remove_artifacts(const struct thp_artifacts *a);
+/* The test has failed, and the files get their last names; -1 with errno. A signal's handler may call it. */
+int thp_keep_artifacts(const struct thp_artifacts *a, int in_handler);
+/* The test has ended: the files of one that has passed go, and those that an earlier run of it has left. */
+void thp_end_artifacts(const struct thp_artifacts *a, int failed);
+/* Handles signals that end the program, from now on. */
+void thp_watch_signals(void);
 /* The command that makes the page, which the other arguments are for. */
 void thp_page_command(
     const char *argv[THP_PAGE_WORDS], const struct thp_artifacts *a, const char *test, const char *message, const char *step);

@@ -89,11 +89,14 @@ const struct thp_table thp_decisions = {DECISIONS, COUNT(DECISIONS)};
 const struct thp_table thp_calls = {CALLS, COUNT(CALLS)};
 
 /* the model's errno: its name, the host system's number, FreeBSD's, and the words of FreeBSD's strerror(3) */
-static const struct {
+struct error {
     const char *name;
     int host, freebsd;
     const char *words;
-} ERRORS[] = {
+};
+
+/* tools/format errors and signals */
+static const struct error ERRORS[] = {
     {"EPERM", EPERM, TH_EPERM, "Operation not permitted"},
     {"ESRCH", ESRCH, TH_ESRCH, "No such process"},
     {"ECHILD", ECHILD, TH_ECHILD, "No child processes"},
@@ -103,9 +106,14 @@ static const struct {
     {"EAGAIN", EAGAIN, TH_EAGAIN, "Resource temporarily unavailable"},
 };
 
-static const char *const SIGNALS[] = {"SIGHUP", "SIGINT", "SIGQUIT", "SIGILL", "SIGTRAP", "SIGABRT", "SIGEMT", "SIGFPE", "SIGKILL",
-    "SIGBUS", "SIGSEGV", "SIGSYS", "SIGPIPE", "SIGALRM", "SIGTERM", "SIGURG", "SIGSTOP", "SIGTSTP", "SIGCONT", "SIGCHLD", "SIGTTIN",
-    "SIGTTOU", "SIGIO", "SIGXCPU", "SIGXFSZ", "SIGVTALRM", "SIGPROF", "SIGWINCH", "SIGINFO", "SIGUSR1", "SIGUSR2"};
+/* clang-format off */
+static const char *const SIGNALS[] = {
+    "SIGHUP", "SIGINT", "SIGQUIT", "SIGILL", "SIGTRAP", "SIGABRT", "SIGEMT", "SIGFPE", "SIGKILL", "SIGBUS", "SIGSEGV",
+    "SIGSYS", "SIGPIPE", "SIGALRM", "SIGTERM", "SIGURG", "SIGSTOP", "SIGTSTP", "SIGCONT", "SIGCHLD", "SIGTTIN", "SIGTTOU",
+    "SIGIO", "SIGXCPU", "SIGXFSZ", "SIGVTALRM", "SIGPROF", "SIGWINCH", "SIGINFO", "SIGUSR1", "SIGUSR2",
+};
+/* clang-format on */
+/* end */
 
 const char *th_signame(int sig) { return sig >= 1 && (size_t)sig <= COUNT(SIGNALS) ? SIGNALS[sig - 1] : NULL; }
 

@@ -5,7 +5,7 @@
 #include <stdio.h>
 #include <string.h>
 
-enum { LAST_SIGNAL = 31, MOST_CONDITIONS = 32 };
+enum { MOST_CONDITIONS = 32 };
 
 struct condition {
     const char *answer, *words;
@@ -154,8 +154,9 @@ static struct thp_asked asked_of(const struct thp_step *step)
 
 static void write_signal(char *text, size_t size, int64_t number)
 {
-    if (number >= 1 && number <= LAST_SIGNAL)
-        snprintf(text, size, "%s", th_signame((int)number));
+    const char *name = number == (int)number ? th_signame((int)number) : NULL;
+    if (name != NULL)
+        snprintf(text, size, "%s", name);
     else
         snprintf(text, size, "%" PRId64, number);
 }

@@ -4,7 +4,7 @@
 #include <stdlib.h>
 #include <tracehost.h>
 
-enum { LAST_PID = 99999, ZOMBIE = 3, IN_CALL = 1 };
+enum { ZOMBIE = 3, IN_CALL = 1 };
 
 struct rows {
     tracehost_process *processes;
@@ -41,7 +41,7 @@ static int64_t owner(const struct rows *r, int64_t lwp) { return lwp_row(r, lwp)
 /* the process that a target of ptrace(2) names, by its number or an LWP's */
 static int64_t process_of(const struct rows *r, int64_t number)
 {
-    return number <= LAST_PID ? process_row(r, number)->pid : owner(r, number);
+    return number <= TRACEHOST_LAST_PROCESS ? process_row(r, number)->pid : owner(r, number);
 }
 
 static int64_t state(const struct rows *r, int64_t pid) { return process_row(r, pid)->state; }

@@ -248,22 +248,26 @@ static int take_field(const char **at, char field, const struct thp_step *step, 
     static const struct thp_name events[] = {{"NONE", TH_PL_EVENT_NONE}, {"SIGNAL", TH_PL_EVENT_SIGNAL}};
     static const struct thp_table lwp_events = {events, 2};
     switch (field) {
-    case 'p': return take_int(at, &reply->pid);
-    case 'l': return take_int(at, &reply->lwp);
-    case 'n': return take_int(at, &reply->number);
-    case 'w': return take_int(at, &reply->status);
-    case 's': return take_int(at, &reply->signal);
-    case 'e': return take_name(at, &lwp_events, &reply->event);
-    case 'f': return take_set(at, &thp_stop_flags, &reply->flags);
-    case 'c': return take_int(at, &reply->child);
-    case 'o': return take_number(at, &reply->code);
-    case 'b': return take_set(at, NULL, &reply->mask);
-    case 'q': return take_set(at, NULL, &reply->pending);
-    case 'm': return take_set(at, &thp_events, &reply->flags);
-    case 'h': return take_handler(at, &reply->handler);
-    case 'd': return take_decision(at, reply);
-    case 'x': return take_error(at, &reply->error);
-    default: return take_list(at, step, &reply->count);
+    /* tools/format fields of replies */
+    case 'a': return take_int(at, &reply->pid);
+    case 'b': return take_int(at, &reply->lwp);
+    case 'c': return take_int(at, &reply->number);
+    case 'd': return take_int(at, &reply->status);
+    case 'e': return take_int(at, &reply->signal);
+    case 'f': return take_name(at, &lwp_events, &reply->event);
+    case 'g': return take_set(at, &thp_stop_flags, &reply->flags);
+    case 'h': return take_set(at, NULL, &reply->mask);
+    case 'i': return take_set(at, NULL, &reply->pending);
+    case 'j': return take_int(at, &reply->child);
+    case 'k': return take_number(at, &reply->code);
+    case 'l': return take_handler(at, &reply->handler);
+    case 'm': return take_decision(at, reply);
+    case 'n': return take_error(at, &reply->error);
+    case 'o': return take_list(at, step, &reply->count);
+    case 'p': return take_list(at, step, &reply->count);
+    case 'q': return take_set(at, &thp_events, &reply->events);
+    /* end */
+    default: return -1;
     }
 }
 
@@ -279,21 +283,23 @@ static int is_of(const char *at, const char *form, const struct thp_step *step, 
 
 /* the replies as docs/FORMAT.md has them; the letters are those of take_field */
 static const char *const FORMS[] = {
+    /* tools/format replies */
     [THP_DONE] = "ok",
-    [THP_NEW] = "new %p %l",
-    [THP_NUMBER] = "number %n",
-    [THP_STATUS] = "status %p %w",
+    [THP_NEW] = "new %a %b",
+    [THP_NUMBER] = "number %c",
+    [THP_STATUS] = "status %a %d",
     [THP_NOTHING] = "nothing",
-    [THP_INFO] = "info %l %e flags=%f mask=%b pending=%q child=%c code=%o",
-    [THP_LWPS] = "lwps%*",
-    [THP_PIDS] = "pids%*",
-    [THP_MASK] = "mask %m",
-    [THP_HANDLED] = "handled %p %w at %l signal=%s flags=%f child=%c code=%o by %h %d",
-    [THP_STOPPED] = "stopped %l %s flags=%f",
-    [THP_CAUGHT] = "caught %s",
-    [THP_ENDED] = "ended %w",
+    [THP_INFO] = "info %b %f flags=%g mask=%h pending=%i child=%j code=%k",
+    [THP_LWPS] = "lwps%o",
+    [THP_PIDS] = "pids%p",
+    [THP_MASK] = "mask %q",
+    [THP_HANDLED] = "handled %a %d at %b signal=%e flags=%g child=%j code=%k by %l %m",
+    [THP_STOPPED] = "stopped %b %e flags=%g",
+    [THP_CAUGHT] = "caught %e",
+    [THP_ENDED] = "ended %d",
     [THP_HELD] = "held",
-    [THP_ERROR] = "error %x",
+    [THP_ERROR] = "error %n",
+    /* end */
 };
 
 void thp_read_reply(const th_host *h, const struct thp_step *step, struct thp_reply *reply)

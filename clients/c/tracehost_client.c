@@ -4,6 +4,8 @@
 #include "steps.c"
 #include "record.c"
 #include "artifacts.c"
+#include "pages.c"
+#include "crashes.c"
 #include "failing.c"
 #include "refusals.c"
 #include "session.c"

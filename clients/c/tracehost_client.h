@@ -105,6 +105,7 @@ typedef uint32_t th_sigset; /* signal n has bit n - 1 */
 /* end */
 
 /* the fields of FreeBSD's struct ptrace_lwpinfo that the model has */
+/* tools/format lwpinfo */
 struct th_lwpinfo {
     th_lwpid pl_lwpid;
     int pl_event;
@@ -114,11 +115,14 @@ struct th_lwpinfo {
     th_pid pl_child_pid;
     unsigned pl_syscall_code;
 };
+/* end */
 
 /* wait(2): options, and what a status contains */
+/* tools/format options */
 #define TH_WNOHANG 1
 #define TH_WUNTRACED 2
 #define TH_WCONTINUED 4
+/* end */
 #define TH_WSTATUS_(status) ((status)&0177)
 #define TH_WIFSTOPPED(status) (TH_WSTATUS_(status) == 0177)
 #define TH_WSTOPSIG(status) ((status) >> 8)
@@ -129,6 +133,7 @@ struct th_lwpinfo {
 #define TH_WEXITSTATUS(status) ((status) >> 8)
 
 /* signals */
+/* tools/format signals */
 #define TH_SIGHUP 1
 #define TH_SIGINT 2
 #define TH_SIGQUIT 3
@@ -160,6 +165,7 @@ struct th_lwpinfo {
 #define TH_SIGINFO 29
 #define TH_SIGUSR1 30
 #define TH_SIGUSR2 31
+/* end */
 
 /* the name of a signal, as "SIGHUP"; NULL if there is none */
 const char *th_signame(int sig);
@@ -173,6 +179,7 @@ int th_flagnames(int flags, char *text, size_t size);
 int th_eventnames(int mask, char *text, size_t size);
 
 /* FreeBSD's errno numbers */
+/* tools/format errors */
 #define TH_EPERM 1
 #define TH_ESRCH 3
 #define TH_ECHILD 10
@@ -180,6 +187,7 @@ int th_eventnames(int mask, char *text, size_t size);
 #define TH_EBUSY 16
 #define TH_EINVAL 22
 #define TH_EAGAIN 35
+/* end */
 
 /* FreeBSD's number of a host system's errno that a call has set; 0 for one that isn't the model's */
 int th_freebsd_errno(int error);
@@ -253,13 +261,17 @@ int th_record(th_host *h, const char *scenario, const char *lines);
 int th_record_error(const th_host *h);
 
 /*
- * A test, before the first step of its session, -1 with EBUSY after it. If the test fails it leaves NAME.json, a scenario with the
- * steps, NAME.out, their lines, and NAME.html, a page ($TRACEHOST names the program that it is made by, else tracehost, and
- * $TRACEHOST_VIEW the viewer, else tracehost-view). They are in the folder that $TRACEHOST_ARTIFACTS names, else in a new one below
- * $TMPDIR, and standard error says where. A name that is in use gets a number. A test that passes leaves nothing, and so does a
- * forked child. What can't be recorded is told on standard error, and changes neither a call nor the test.
+ * A test, before the first step of its session, -1 with EBUSY after it. If the test fails it leaves PROGRAM.NAME-DIGEST.json, a
+ * scenario with the steps, with .out their lines, and with .html a page ($TRACEHOST names the program that it is made by, else
+ * tracehost, and $TRACEHOST_VIEW the viewer, else tracehost-view). They are in the folder that $TRACEHOST_ARTIFACTS names, else in a
+ * new one below $TMPDIR, and standard error says where. A further test of the name in this process gets a number. A test that passes
+ * leaves nothing, and removes what it left in an earlier run; a forked child does neither. What can't be recorded is told on standard
+ * error, and changes neither a call nor the test.
  *
- * By abort(3) and assert(3) a test has failed too, unless the program handles SIGABRT itself.
+ * A signal that ends the program while the test is open, as by abort(3), assert(3) and Ctrl-C, is a failure too. If the program
+ * handles the signal itself, or by SIGKILL, the files keep the names that they have while the test runs, with the process's number
+ * at the end: PROGRAM.NAME-DIGEST.json.1234. The first are named before the program's handler is called, the others by the test's
+ * next run.
  */
 int th_test_begin(th_host *h, const char *name);
 
@@ -342,6 +354,7 @@ struct th_rule {
 int th_install(th_host *h, th_caller caller, const struct th_rule *rules, size_t count);
 
 /* What a trace stop shows, and what the caller's handlers decided. */
+/* tools/format handled */
 struct th_handled {
     int stopped; /* 1: a trace stop, and all that follows holds; 0: only a status */
     int status;
@@ -354,6 +367,7 @@ struct th_handled {
     enum th_decision decision;
     int pass;
 };
+/* end */
 
 /* Waits for any child, and gives a trace stop to the caller's handlers. Returns the process, or 0 for nothing. */
 th_pid th_handle(th_host *h, th_caller caller, struct th_handled *handled);

@@ -21,6 +21,16 @@ SECONDS = 300
 EMBEDDED = re.compile(r'<script type="application/json" id="embedded">(.*?)</script>', re.DOTALL)
 
 
+def stem_of(program: Path, test: str) -> str:
+    """PROGRAM.TEST-DIGEST: plain characters, not too many, and 48 bits of an FNV-1a of the program's path and the test's name."""
+    digest = 14695981039346656037
+    for byte in os.fsencode(program) + b"\0" + os.fsencode(test) + b"\0":
+        digest = (digest ^ byte) * 1099511628211 % 2**64
+    names = (os.fsencode(name)[:most] for name, most in ((program.name, 30), (test, 50)))
+    plain = [re.sub(rb"[^A-Za-z0-9_.-]", b"_", name).decode() for name in names]
+    return f"{plain[0]}.{plain[1]}-{digest % 2**48:012x}"
+
+
 class Ran(NamedTuple):
     status: int
     said: str
@@ -30,9 +40,13 @@ class Ran(NamedTuple):
 class Failing:
     """A test program: the command for a case, and for one with another name."""
 
-    def __init__(self, name: str, command: Callable[[str, str | None], list[str]], stem: Callable[[str], str]) -> None:
-        self.name, self._command, self.stem = name, command, stem
+    def __init__(self, name: str, program: Path, command: Callable[[str, str | None], list[str]]) -> None:
+        self.name, self.program, self._command = name, program, command
         self.environment: Mapping[str, str] = {}
+
+    def stem(self, test: str) -> str:
+        """How the names of a test's files begin."""
+        return stem_of(self.program, test)
 
     def command(self, case: str) -> list[str]:
         return self._command(case, None)
@@ -58,13 +72,13 @@ def in_c(room: Path, library: Path, program: Path, way: str, *more_flags: str) -
     flags: list[Word] = ["-std=c11", *WARNINGS, "-Wconversion", "-g", "-pthread", *sanitized(), "-I", CLIENT, *more_flags]
     more: list[Word] = [*IN_PROCESS, SOURCE, library / "libtracehost.a"] if way == "in process" else [SOURCE]
     made = compiled(room / f"c-{way.replace(' ', '-')}", *flags, CLIENT / "tests/failing.c", *more)
-    return Failing(f"c {way}", lambda case, named: [str(made), str(program), case, *([named] if named else [])], lambda case: case)
+    return Failing(f"c {way}", made, lambda case, named: [str(made), str(program), case, *([named] if named else [])])
 
 
 def in_cpp(room: Path, library: Path, *more_flags: str) -> Failing:
     flags: list[Word] = ["-std=c++17", *STRICT, "-g", "-pthread", *sanitized(), *HEADERS, *more_flags]
     made = compiled(room / "cpp", *flags, CPP / "failing.cpp", library / "libtracehost.a", compiler="c++")
-    return Failing("cpp", lambda case, named: [str(made), case, *([named] if named else [])], lambda case: case)
+    return Failing("cpp", made, lambda case, named: [str(made), case, *([named] if named else [])])
 
 
 def in_gtest(room: Path, library: Path) -> Failing:
@@ -73,7 +87,7 @@ def in_gtest(room: Path, library: Path) -> Failing:
     words: list[Word] = ["-std=c++17", *STRICT, "-g", "-pthread", *sanitized(), *HEADERS, CPP / "failing_gtest.cpp"]
     words += [library / "libtracehost.a", "-lgtest_main", "-lgtest"]
     made = compiled(room / "gtest", *words, compiler="c++")
-    return Failing("gtest", lambda case, named: [str(made), f"--gtest_filter={case}"], lambda case: case)
+    return Failing("gtest", made, lambda case, named: [str(made), f"--gtest_filter={case}"])
 
 
 def in_catch2(room: Path, library: Path) -> Failing:
@@ -83,7 +97,7 @@ def in_catch2(room: Path, library: Path) -> Failing:
     words: list[Word] = ["-std=c++17", *STRICT, "-g", "-pthread", *sanitized(), *HEADERS, CPP / "failing_catch2.cpp"]
     words += [library / "libtracehost.a", *(["-lCatch2Main", "-lCatch2"] if three.exists() else [])]
     made = compiled(room / "catch2", *words, compiler="c++")
-    return Failing("catch2", lambda case, named: [str(made), case], lambda case: case)
+    return Failing("catch2", made, lambda case, named: [str(made), case])
 
 
 def in_rust(room: Path, library: Path) -> Failing:
@@ -92,7 +106,8 @@ def in_rust(room: Path, library: Path) -> Failing:
     said = output(*words, "--no-run", "--message-format=json", cwd=TOP / "clients/rust", environment=environment)
     found = [json.loads(line).get("executable") for line in said.splitlines()]
     made = next(path for path in found if path)
-    return Failing("rust", lambda case, named: [made, "--ignored", "--exact", case], lambda case: case)
+    program = Path(re.sub(r"-[0-9a-f]{16}$", "", made))
+    return Failing("rust", program, lambda case, named: [made, "--ignored", "--exact", case])
 
 
 def page_of(path: Path) -> dict[str, object]:

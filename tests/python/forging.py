@@ -18,6 +18,9 @@ from contextlib import suppress
 from pathlib import Path
 from typing import NamedTuple
 
+from forged_numbers import FIELDS, HELLOS, LONG, REFUSED, Edge, Lines, edges, is_last
+from forged_numbers import question as question_of
+
 BROKER = Path(__file__).resolve().parents[2] / "clients/posix/broker"
 SECONDS = 120
 """A run that takes longer hangs."""
@@ -51,6 +54,12 @@ _ENDING = (
 ENDS = [form for form in FORMS if form.name in _ENDING]
 """Few messages come after these."""
 GOES_ON = [form for form in FORMS if form not in ENDS]
+_LAST: list[Edge | str] = [*REFUSED, *HELLOS, *filter(is_last, edges())]
+"""The last of a script of ends."""
+ENDS_THAT_GO_ON = [edge for edge in edges() if not is_last(edge)]
+random.Random(65).shuffle(ENDS_THAT_GO_ON)
+OF_A_SCRIPT = 12
+"""Ends that go on; some 50 scripts have all."""
 TEXTS = ("remark", "refused", "outside", "broken", "ended", "filter")
 ANSWERS = ("handled", "at 1", "done", "anew 0", "anew 1", "at 140737488347136")
 KINDS = ("read", "write", "poll", "kevent", "semaphore", "mutex", "rwlock", "")
@@ -99,6 +108,9 @@ class Hostile:
         if form.name == "hello":
             real = self.draw.choice(("$P $T", "$P $P", "0 0", "1 1", f"{2**32 - 1} {2**32 - 1}", f"$P{self.numbers(1)}"))
             return f"hello {real} {self.draw.randrange(2**48):x} {self.draw.randrange(2)}"
+        if self.draw.random() < 0.5:
+            numbers = [str(self.draw.choice((kind.usual, kind.usual, *kind.ends()))) for kind in FIELDS[form.name]]
+            return question_of(form.name, numbers, self.draw.choice(KINDS[:5]) if form.name in ("enter", "again") else "")
         if form.name == "enter":
             return f"enter {abs(self.number())} {self.draw.choice(KINDS[:4])} {self.number()}"
         if form.name == "again":
@@ -156,6 +168,7 @@ class Hostile:
             (8, lambda: f"call {draw.randrange(9)}"),
             (0.3, lambda: "call 9"),
             (0.3, lambda: draw.choice(("shut", "close", "cover"))),
+            (0.05, lambda: "deaf"),
             (0.5, lambda: f"rest {draw.choice((1, 100, 1500))}"),
             (0.5, lambda: f"exit {draw.randrange(3)}"),
         ]
@@ -170,6 +183,21 @@ class Hostile:
             message = draw.choice(TO_SERVER)
             lines.append(draw.choice(("control", "control_later 3", "control_later 3000")) + f" {message.hex()}")
         return "\n".join(lines) + "\n"
+
+
+def at_ends(number: int) -> str:
+    """A script of numbers at their ends, in questions that are otherwise as the runtime's."""
+    lines, last = Lines(), _LAST[number % len(_LAST)]
+    for place in range(number * OF_A_SCRIPT, (number + 1) * OF_A_SCRIPT):
+        lines.ask(ENDS_THAT_GO_ON[place % len(ENDS_THAT_GO_ON)])
+    lines.say_all(f"ask {LONG}")
+    if isinstance(last, Edge):
+        lines.ask(last)
+    elif last in HELLOS:
+        lines.hello(last)
+    else:
+        lines.say_all(f"ask {last}")
+    return lines.text()
 
 
 def script(seed: int) -> str:

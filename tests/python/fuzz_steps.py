@@ -5,8 +5,8 @@ from collections.abc import Sequence
 from typing import Any, TypeVar
 
 from reference import names
-from reference.reading import CALLS, MASKS, OPTIONS
-from reference.requests import REQUESTS
+from reference.names import CALLS, OPTIONS, REQUESTS
+from reference.reading import MASKS
 from reference.rows import InCall, Lwp, Process, Run, TraceStop, View, lwps_of
 
 Step = dict[str, Any]

@@ -51,7 +51,7 @@ def by_pytest(room: Path, program: Path) -> Path:
         [sys.executable, "-m", "pytest", *words, "test_debugger.py"], cwd=room, env=environment, check=False, stdout=subprocess.PIPE
     )
     assert ran.returncode == 1, ran.stdout
-    (scenario,) = (room / "left").glob("*/session.json")
+    (scenario,) = (room / "left").glob("*.json")
     return scenario
 
 
@@ -74,7 +74,7 @@ def records(library: Path, program: Path, tmp_path_factory: pytest.TempPathFacto
         failing.environment = {"TRACEHOST": str(program), "TRACEHOST_VIEW": str(TOP / "viewer/make")}
         ran = failing(case, room / "left" / name)
         assert ran.status not in (0, 2), (name, ran)
-        left[name] = room / "left" / name / f"{case}.json"
+        left[name] = room / "left" / name / f"{failing.stem(case)}.json"
     return left
 
 

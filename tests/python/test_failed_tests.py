@@ -5,15 +5,22 @@ A full disk, odd names, two tests of a name, threads, forks, aborts and a missin
 
 from __future__ import annotations
 
+import fcntl
 import os
+import pty
+import re
+import signal
 import subprocess
+import termios
+import time
 from collections.abc import Callable
 from concurrent.futures import ThreadPoolExecutor
 from pathlib import Path
 
 import pytest
+from c_programs import sanitized
 from checking import TOP, needs, run
-from failing_programs import Failing, in_c, in_catch2, in_cpp, in_gtest, in_rust, page_of
+from failing_programs import Failing, in_c, in_catch2, in_cpp, in_gtest, in_rust, page_of, stem_of
 
 pytestmark = [needs("cc"), needs("c++")]
 VIEWER = TOP / "viewer/make"
@@ -30,6 +37,7 @@ PASSES = {"gtest": "debugger.passes"}
 FAILS = {"gtest": "debugger.fails"}
 C = ["c", "c over a pipe"]
 STEPS = 8
+TICK = 0.05  # seconds, by which a file's time may be behind
 
 
 @pytest.fixture(scope="module")
@@ -94,12 +102,13 @@ def test_one_that_fails(failing: Failing, tmp_path: Path, program: Path) -> None
     """In a folder that isn't there yet. Its files are named, and the assertion is on the page."""
     folder, case = tmp_path / "a b" / "left", FAILS.get(key(failing), "fails")
     ran = failing(case, folder)
-    assert ran.status != 0 and ran.left == files(case), ran.said
-    check_record(folder, case, program)
+    stem = failing.stem(case)
+    assert ran.status != 0 and ran.left == files(stem), ran.said
+    check_record(folder, stem, program)
     said = {"c": "TH_WSTOPSIG(status) == wanted", "rust": "assertion `left == right` failed"}.get(
         key(failing), "signal_after_step(test)"
     )
-    check_page(folder, case, case, said)
+    check_page(folder, stem, case, said)
     for file in ran.left:
         assert str(folder / file) in ran.said
 
@@ -111,9 +120,9 @@ def test_without_a_folder(failing: Failing, tmp_path: Path, program: Path) -> No
     ran = failing(case, None, environment={"TMPDIR": str(tmp_path)})
     (folder,) = tmp_path.iterdir()
     assert ran.status != 0 and folder.name.startswith(f"tracehost-{case}-")
-    assert sorted(path.name for path in folder.iterdir()) == files(case)
+    assert sorted(path.name for path in folder.iterdir()) == files(failing.stem(case))
     assert folder.stat().st_mode & 0o77 == 0
-    check_record(folder, case, program)
+    check_record(folder, failing.stem(case), program)
     assert failing(PASSES.get(key(failing), "passes"), None, environment={"TMPDIR": str(tmp_path)}).status == 0
     assert [*tmp_path.iterdir()] == [folder]
 
@@ -121,24 +130,45 @@ def test_without_a_folder(failing: Failing, tmp_path: Path, program: Path) -> No
 @languages("c", "cpp", "rust")
 def test_a_later_run_takes_the_place_of_an_earlier_one(failing: Failing, tmp_path: Path, program: Path) -> None:
     case = FAILS.get(key(failing), "fails")
-    for file in files(case):
+    stem = failing.stem(case)
+    for file in [*files(stem, f"{stem}-2"), f"{stem}.json.1", f"{stem}.out.1"]:
         (tmp_path / file).write_text("an earlier run\n" * 1000)
-    assert failing(case, tmp_path).left == files(case)
-    check_record(tmp_path, case, program)
-    check_page(tmp_path, case, case, "")
+    time.sleep(TICK)
+    ran = failing(case, tmp_path)
+    assert ran.left == files(stem), ran.said
+    assert f"tracehost: left by a test that ended its process: {tmp_path / stem}.json.1\n" in ran.said
+    check_record(tmp_path, stem, program)
+    check_page(tmp_path, stem, case, "")
+
+
+@languages(*MADE)
+def test_one_that_passes_removes_what_it_has_left(failing: Failing, tmp_path: Path) -> None:
+    """No other test's, no other program's of this name, and none that somebody has."""
+    test = PASSES.get(key(failing), "passes")
+    stem, others = failing.stem(test), ["mine.txt", f"{failing.stem('passes_too')}.json", f"{failing.program.name}.{test}.json"]
+    others += files(stem_of(Path("/another") / failing.program.name, test))
+    for file in [*others, *files(stem, f"{stem}-2"), f"{stem}.json.1", f"{stem}.out.1", f"{stem}.json.2"]:
+        (tmp_path / file).write_text("an earlier run\n")
+    with open(tmp_path / f"{stem}.json.2", encoding="utf-8") as running:
+        fcntl.flock(running, fcntl.LOCK_EX)  # by a process that is alive
+        time.sleep(TICK)
+        ran = failing(test, tmp_path)
+    assert (ran.status, ran.left) == (0, sorted([*others, f"{stem}.json.2"])), ran.said
 
 
 @languages("c", "cpp", "rust")
 def test_two_of_the_same_name(failing: Failing, tmp_path: Path, program: Path) -> None:
     ran = failing("twice", tmp_path)
-    assert ran.left == files("twice", "twice-2"), ran.said
-    check_record(tmp_path, "twice", program)
-    check_record(tmp_path, "twice-2", program)
+    stems = [failing.stem("twice"), f"{failing.stem('twice')}-2"]
+    assert ran.left == files(*stems), ran.said
+    for stem in stems:
+        check_record(tmp_path, stem, program)
 
 
 @languages("c", "cpp", "rust")
 def test_eight_threads(failing: Failing, tmp_path: Path, program: Path) -> None:
-    stems = ["threads", *(f"threads-{number}" for number in range(2, 9))]
+    stem = failing.stem("threads")
+    stems = [stem, *(f"{stem}-{number}" for number in range(2, 9))]
     assert failing("threads", tmp_path).left == files(*stems)
     for stem in stems:
         check_record(tmp_path, stem, program)
@@ -147,22 +177,20 @@ def test_eight_threads(failing: Failing, tmp_path: Path, program: Path) -> None:
 
 @languages("c", "cpp", "rust")
 def test_processes_at_once(failing: Failing, tmp_path: Path, program: Path) -> None:
-    """Four times the same test: each takes names that no other one has, while it runs."""
+    """Four times the same test: the files that stay are of one of them."""
     with ThreadPoolExecutor(4) as pool:
         assert all(ran.status != 0 for ran in pool.map(lambda _: failing("fails", tmp_path), range(4)))
-    left = sorted(path.name for path in tmp_path.iterdir())
-    stems = sorted({name.rsplit(".", 1)[0] for name in left})
-    assert left == files(*stems) and 1 <= len(stems) <= 4
-    for stem in stems:
-        check_record(tmp_path, stem, program)
+    stem = failing.stem("fails")
+    assert sorted(path.name for path in tmp_path.iterdir()) == files(stem)
+    check_record(tmp_path, stem, program)
 
 
 ODD = {
-    "a/b \u00e9": "a_b___-e322b27b",
-    "..": "_.-",
-    "-x": "_x-",
+    "a/b \u00e9": "a_b___-",
+    "..": "..-",
+    "-x": "-x-",
     "a\nb": "a_b-",
-    "x" * 300: "x" * 80 + "-",
+    "x" * 300: "x" * 50 + "-",
     "a;$(touch y)'\"": "a___touch_y___-",
 }
 
@@ -174,7 +202,8 @@ def test_odd_names(failing: Failing, tmp_path: Path, program: Path) -> None:
         folder = tmp_path / str(number)
         ran = failing("fails", folder, name, environment={"TEST_NAME": name})
         (stem,) = {file.rsplit(".", 1)[0] for file in ran.left}
-        assert stem.startswith(wanted) and len(stem) <= 89 and ran.left == files(stem)
+        assert stem == failing.stem(name) and stem.startswith(f"{failing.program.name}.{wanted}")
+        assert len(stem) <= 94 and ran.left == files(stem)
         check_record(folder, stem, program)
         check_page(folder, stem, name[:255] if failing.name.startswith("c ") else name, "")
 
@@ -183,7 +212,7 @@ def test_odd_names(failing: Failing, tmp_path: Path, program: Path) -> None:
 def test_a_name_that_is_no_text(failing: Failing, tmp_path: Path) -> None:
     ran = failing("fails", tmp_path, os.fsdecode(b"a\xff\xfeb"))
     (stem,) = {file.rsplit(".", 1)[0] for file in ran.left}
-    assert stem.startswith("a__b-") and ran.left == files(stem)
+    assert stem.startswith(f"{failing.program.name}.a__b-") and ran.left == files(stem)
 
 
 @languages(*MADE)
@@ -196,11 +225,12 @@ def test_a_full_disk(failing: Failing, tmp_path: Path, program: Path, room: int)
     case = FAILS.get(key(failing), "fails")
     failed = failing(case, tmp_path, room=room)
     assert failed.status not in (0, -25) and "not recorded" in failed.said
-    assert f"{case}.html" not in failed.left
+    stem = failing.stem(case)
+    assert f"{stem}.html" not in failed.left
     if room > 100:
-        lines = len((tmp_path / f"{case}.out").read_text().splitlines())
+        lines = len((tmp_path / f"{stem}.out").read_text().splitlines())
         assert 1 <= lines < STEPS
-        check_record(tmp_path, case, program, lines)
+        check_record(tmp_path, stem, program, lines)
 
 
 @languages(*MADE)
@@ -215,13 +245,28 @@ def test_a_folder_that_cannot_be_made(failing: Failing, tmp_path: Path) -> None:
 
 
 @languages("c", "cpp", "rust")
-def test_a_link_in_place_of_the_scenario(failing: Failing, tmp_path: Path) -> None:
+def test_a_link_in_place_of_the_scenario(failing: Failing, tmp_path: Path, program: Path) -> None:
+    """The record takes the link's name, and nothing is written to what it leads to."""
     case = FAILS.get(key(failing), "fails")
     (tmp_path / "precious").write_text("precious")
-    (tmp_path / f"{case}.json").symlink_to(tmp_path / "precious")
+    (tmp_path / f"{failing.stem(case)}.json").symlink_to(tmp_path / "precious")
     failed = failing(case, tmp_path)
-    assert failed.status != 0 and "not recorded" in failed.said
+    assert failed.status != 0 and failed.left == sorted([*files(failing.stem(case)), "precious"])
+    assert not (tmp_path / f"{failing.stem(case)}.json").is_symlink()
+    check_record(tmp_path, failing.stem(case), program)
     assert (tmp_path / "precious").read_text() == "precious"
+
+
+@languages("c", "cpp", "rust")
+def test_a_folder_in_place_of_the_scenario(failing: Failing, tmp_path: Path) -> None:
+    """The record keeps the name that it has while the test runs, and that is told."""
+    case = FAILS.get(key(failing), "fails")
+    (tmp_path / f"{failing.stem(case)}.json").mkdir()
+    failed = failing(case, tmp_path)
+    folder, scenario, lines = [name for name in failed.left if ".html." not in name]  # in Rust the page is made by then
+    assert failed.status != 0 and re.fullmatch(r"\d+", scenario.removeprefix(f"{folder}."))
+    assert f"tracehost: the record stays {tmp_path / scenario}: Is a directory" in failed.said
+    assert lines == scenario.replace(".json.", ".out.")
 
 
 @languages("c", "cpp", "rust")
@@ -229,9 +274,9 @@ def test_a_link_in_place_of_the_scenario(failing: Failing, tmp_path: Path) -> No
 def test_without_the_program_or_the_viewer(failing: Failing, tmp_path: Path, program: Path, missing: str) -> None:
     case = FAILS.get(key(failing), "fails")
     ran = failing(case, tmp_path, environment={missing: "/nowhere/program"})
-    assert ran.status != 0 and ran.left == files(case)[1:]
+    assert ran.status != 0 and ran.left == files(failing.stem(case))[1:]
     assert "there is no /nowhere/program" in ran.said and "page:     none" in ran.said
-    check_record(tmp_path, case, program)
+    check_record(tmp_path, failing.stem(case), program)
 
 
 @languages("c", "cpp", "rust")
@@ -252,7 +297,9 @@ def test_a_viewer_that_hangs(language: str, library: Path, program: Path, tmp_pa
     viewer.chmod(0o700)
     case = "aborts" if "aborts" in language else "fails"
     ran = failing(case, tmp_path / "left", environment={"TRACEHOST": str(program), "TRACEHOST_VIEW": str(viewer)})
-    assert ran.status == (-6 if case == "aborts" else 1) and ran.left == files(case)[1:] and "page:     none" in ran.said
+    assert (
+        ran.status == (-6 if case == "aborts" else 1) and ran.left == files(failing.stem(case))[1:] and "page:     none" in ran.said
+    )
     number = (tmp_path / "number").read_text().strip()
     shown = run("ps", "-o", "stat=", "-p", number).out  # a zombie if nobody collects orphans here
     assert not shown or shown.startswith("Z")
@@ -277,11 +324,21 @@ def test_files_that_a_test_closes(failing: Failing, tmp_path: Path) -> None:
 @languages("c", "cpp", "rust")
 def test_a_test_without_a_step(failing: Failing, tmp_path: Path, program: Path) -> None:
     ran = failing("no_step", tmp_path)
-    assert ran.left == ["no_step.json", "no_step.out"] and "page:     none" in ran.said
-    check_record(tmp_path, "no_step", program, 0)
+    stem = failing.stem("no_step")
+    assert ran.left == [f"{stem}.json", f"{stem}.out"] and "page:     none" in ran.said
+    check_record(tmp_path, stem, program, 0)
 
 
 # ---- C
+
+
+@languages(*C, "cpp")
+def test_abort_by_assert(failing: Failing, tmp_path: Path, program: Path) -> None:
+    ran = failing("aborts", tmp_path)
+    stem = failing.stem("aborts")
+    assert ran.status == -6 and ran.left == files(stem), ran.said
+    check_record(tmp_path, stem, program)
+    check_page(tmp_path, stem, "aborts", "SIGABRT")
 
 
 @languages(*C)
@@ -289,17 +346,22 @@ def test_a_test_without_a_step(failing: Failing, tmp_path: Path, program: Path) 
 def test_abort(failing: Failing, tmp_path: Path, program: Path, case: str) -> None:
     """By assert(3), in any thread, while a test is open."""
     ran = failing(case, tmp_path)
-    assert ran.status == -6 and ran.left == files(case), ran.said
+    stem = failing.stem(case)
+    assert ran.status == -6 and ran.left == files(stem), ran.said
     assert "Assertion `h" in ran.said
-    check_record(tmp_path, case, program)
-    check_page(tmp_path, case, case, "SIGABRT")
+    check_record(tmp_path, stem, program)
+    check_page(tmp_path, stem, case, "SIGABRT")
 
 
 @languages(*C)
 def test_a_program_that_handles_abort(failing: Failing, tmp_path: Path, program: Path) -> None:
+    """It may go on, so the files keep the names of a test that runs. Its handler is called, once they are told."""
     ran = failing("handles_abort", tmp_path)
-    assert (ran.status, ran.left) == (9, ["handles_abort.json", "handles_abort.out"])
-    check_record(tmp_path, "handles_abort", program)
+    scenario, lines = ran.left
+    assert ran.status == 9 and re.fullmatch(r"\d+", scenario.removeprefix(f"{failing.stem('handles_abort')}.json."))
+    assert f"tracehost: scenario: {tmp_path / scenario}\ntracehost: lines:    {tmp_path / lines}\n" in ran.said
+    replayed = run(program, tmp_path / scenario, "--expect", tmp_path / lines)
+    assert (replayed.status, replayed.err) == (0, "")
 
 
 @languages("c")
@@ -311,8 +373,8 @@ def test_a_child_that_aborts(failing: Failing, tmp_path: Path) -> None:
 @languages(*C)
 def test_a_session_that_is_closed_in_a_test(failing: Failing, tmp_path: Path) -> None:
     ran = failing("closes", tmp_path)
-    assert ran.left == files("closes")
-    check_page(tmp_path, "closes", "closes", "th_close came before th_test_end")
+    assert ran.left == files(failing.stem("closes"))
+    check_page(tmp_path, failing.stem("closes"), "closes", "th_close came before th_test_end")
 
 
 @languages(*C)
@@ -321,22 +383,94 @@ def test_what_begins_too_late(failing: Failing, tmp_path: Path) -> None:
     assert (ran.status, ran.left) == (0, []), ran.said
 
 
+# ---- signals that end the program
+
+WITHOUT_ASAN = {"ASAN_OPTIONS": "handle_segv=0:handle_sigbus=0:handle_sigfpe=0:allow_user_segv_handler=1"}
+CASE = "is_signalled"
+
+
+@languages(*C, "cpp")
+@pytest.mark.parametrize("how", [*map(str, [signal.SIGINT, signal.SIGTERM, signal.SIGALRM, signal.SIGBUS]), "fault"])
+def test_a_signal_ends_the_program(failing: Failing, tmp_path: Path, program: Path, how: str) -> None:
+    """The files have their last names, they are told, and the signal ends the program."""
+    ran = failing(CASE, tmp_path, environment={**WITHOUT_ASAN, "TEST_SIGNAL": how})
+    number = signal.SIGSEGV if how == "fault" else signal.Signals(int(how))
+    stem = failing.stem(CASE)
+    assert ran.status == -number and ran.left == files(stem), ran.said
+    check_record(tmp_path, stem, program)
+    check_page(tmp_path, stem, CASE, number.name)
+    page, scenario, lines = ran.left
+    files_told = {"page:     ": page, "scenario: ": scenario, "lines:    ": lines, "to go on from here: tracehost-debug ": scenario}
+    for label, file in files_told.items():
+        assert ran.said.count(f"tracehost: {label}{tmp_path / file}\n") == 1
+
+
+@languages(*C, "cpp")
+def test_a_handler_that_was_there_before(failing: Failing, tmp_path: Path) -> None:
+    """That of the address sanitizer is called with what the fault brings, once the files are told."""
+    if not sanitized():
+        pytest.skip("no sanitizer is here")
+    ran = failing(CASE, tmp_path, environment={"TEST_SIGNAL": "fault"})
+    scenario, lines = ran.left
+    told, sanitizer = ran.said.split("AddressSanitizer", 1)
+    assert ran.status == 1 and "SEGV on unknown address 0x000000000008" in sanitizer
+    assert scenario.startswith(f"{failing.stem(CASE)}.json.")
+    assert f"tracehost: scenario: {tmp_path / scenario}\ntracehost: lines:    {tmp_path / lines}\n" in told
+
+
+@languages(*C, "cpp")
+def test_control_c_of_a_terminal(failing: Failing, tmp_path: Path, program: Path) -> None:
+    """It comes from the kernel."""
+    ours, theirs = pty.openpty()
+    environment = {**os.environ, **failing.environment, "TRACEHOST_ARTIFACTS": str(tmp_path), "TEST_SIGNAL": "wait"}
+    process = subprocess.Popen(
+        failing.command(CASE), env=environment, stdin=theirs, stdout=subprocess.PIPE, stderr=subprocess.PIPE, text=True,
+        start_new_session=True, preexec_fn=lambda: fcntl.ioctl(theirs, termios.TIOCSCTTY, 0),
+    )  # fmt: skip
+    assert process.stdout and process.stdout.readline() == "waits\n"
+    os.write(ours, b"\x03")
+    _, said = process.communicate(timeout=300)
+    for number in (ours, theirs):
+        os.close(number)
+    stem = failing.stem(CASE)
+    assert process.returncode == -signal.SIGINT and f"tracehost: scenario: {tmp_path / stem}.json\n" in said
+    assert sorted(path.name for path in tmp_path.iterdir()) == files(stem)
+    check_record(tmp_path, stem, program)
+
+
+@languages(*C, "cpp")
+def test_a_program_that_is_killed(failing: Failing, tmp_path: Path, program: Path) -> None:
+    """The test's next run tells of its record, and takes it away."""
+    ran = failing(CASE, tmp_path, environment={"TEST_SIGNAL": str(int(signal.SIGKILL))})
+    scenario, lines = ran.left
+    assert ran.status == -signal.SIGKILL and scenario.startswith(f"{failing.stem(CASE)}.json.")
+    replayed = run(program, tmp_path / scenario, "--expect", tmp_path / lines)
+    assert (replayed.status, replayed.err) == (0, "")
+    assert failing("passes", tmp_path).left == ran.left
+    time.sleep(TICK)
+    again = failing(CASE, tmp_path)
+    assert (again.status, again.left) == (0, [])
+    assert again.said == f"tracehost: left by a test that ended its process: {tmp_path / scenario}\n"
+
+
 # ---- C++
 
 
 @languages("cpp", "gtest", "catch2")
 def test_an_exception(failing: Failing, tmp_path: Path, program: Path) -> None:
     case = "debugger.throws" if failing.name == "gtest" else "throws"
-    assert failing(case, tmp_path).left == files(case)
-    check_record(tmp_path, case, program)
-    check_page(tmp_path, case, case, "an exception")
+    stem = failing.stem(case)
+    assert failing(case, tmp_path).left == files(stem)
+    check_record(tmp_path, stem, program)
+    check_page(tmp_path, stem, case, "an exception")
 
 
 @languages("gtest", "catch2")
 def test_a_check_that_goes_on(failing: Failing, tmp_path: Path, program: Path) -> None:
     """The page is of the first failure, and of its step."""
-    case, stem = ("debugger.goes_on", "debugger.goes_on") if failing.name == "gtest" else ("goes on", "goes_on-")
-    (stem,) = {file.rsplit(".", 1)[0] for file in failing(case, tmp_path).left if file.startswith(stem)}
+    case = "debugger.goes_on" if failing.name == "gtest" else "goes on"
+    stem = failing.stem(case)
+    assert failing(case, tmp_path).left == files(stem)
     check_record(tmp_path, stem, program, STEPS + 1)
     check_page(tmp_path, stem, case, "signal_after_step(test)", STEPS)
 
@@ -345,27 +479,30 @@ def test_a_check_that_goes_on(failing: Failing, tmp_path: Path, program: Path) -
 def test_a_stream_that_throws(failing: Failing, tmp_path: Path, program: Path) -> None:
     """Standard error is full. The program goes on."""
     ran = failing("loses_standard_error", tmp_path)
-    assert (ran.status, ran.left) == (0, files("loses_standard_error"))
-    check_record(tmp_path, "loses_standard_error", program)
+    stem = failing.stem("loses_standard_error")
+    assert (ran.status, ran.left) == (0, files(stem))
+    check_record(tmp_path, stem, program)
 
 
 @languages("gtest")
 def test_googletest(failing: Failing, tmp_path: Path) -> None:
-    assert failing("debugger.asserts", tmp_path / "1").left == files("debugger.asserts")
-    assert failing("debugger.failed_before", tmp_path / "2").left == files("debugger.failed_before")
-    assert failing("fixture.*", tmp_path / "3").left == files("fixture.fails")
-    failing("debugger.fails_in_a_thread", tmp_path / "6")
-    check_page(tmp_path / "6", "debugger.fails_in_a_thread", "debugger.fails_in_a_thread", "Expected equality", None)
+    for number, (tests, fails) in enumerate(
+        {"debugger.asserts": "", "debugger.failed_before": "", "fixture.*": "fixture.fails"}.items()
+    ):
+        assert failing(tests, tmp_path / str(number)).left == files(failing.stem(fails or tests))
+    test = "debugger.fails_in_a_thread"
+    failing(test, tmp_path / "6")
+    check_page(tmp_path / "6", failing.stem(test), test, "Expected equality", None)
     dies = failing("debugger.dies", tmp_path / "4")
-    assert dies.left == files("debugger.dies"), dies.said
-    stems = {file.rsplit(".", 1)[0] for file in failing("all/numbered.*", tmp_path / "5").left}
-    assert len(stems) == 3 and all(stem.startswith(f"all_numbered.fails_{n}-") for n, stem in enumerate(sorted(stems)))
+    assert dies.left == files(failing.stem("debugger.dies")), dies.said
+    assert failing("all/numbered.*", tmp_path / "5").left == files(*(failing.stem(f"all/numbered.fails/{n}") for n in range(3)))
 
 
 @languages("catch2")
 def test_catch2(failing: Failing, tmp_path: Path) -> None:
-    assert failing("requires", tmp_path / "1").left == files("requires")
-    assert failing("sections", tmp_path / "2").left == files("sections", "sections-2")
+    assert failing("requires", tmp_path / "1").left == files(failing.stem("requires"))
+    stem = failing.stem("sections")
+    assert failing("sections", tmp_path / "2").left == files(stem, f"{stem}-2")
     allowed = failing("may fail", tmp_path / "3")
     assert (allowed.status, allowed.left) == (0, [])
 
@@ -376,10 +513,61 @@ def test_catch2(failing: Failing, tmp_path: Path) -> None:
 @languages("rust")
 def test_a_test_that_returns_an_error(failing: Failing, tmp_path: Path, program: Path) -> None:
     case = "returns_an_error"
-    assert failing(case, tmp_path).left == files(case)
-    check_record(tmp_path, case, program)
-    check_page(tmp_path, case, case, "stopped by Some(SIGSEGV)")
+    stem = failing.stem(case)
+    assert failing(case, tmp_path).left == files(stem)
+    check_record(tmp_path, stem, program)
+    check_page(tmp_path, stem, case, "stopped by Some(SIGSEGV)")
     assert failing("returns_no_error", tmp_path / "passed").left == []
+
+
+@languages("rust")
+@pytest.mark.parametrize("case", ["question_mark", "question_mark_of_a_box"])
+def test_a_test_that_returns_what_a_call_returns(failing: Failing, tmp_path: Path, program: Path, case: str) -> None:
+    """By `?`: its last step was refused, and libtest shows the error."""
+    stem = failing.stem(case)
+    ran = failing(case, tmp_path)
+    assert (ran.status, ran.left) == (101, files(stem)), ran.said
+    check_record(tmp_path, stem, program, 3)
+    check_page(tmp_path, stem, case, "error EPERM", 3)
+    assert f"tracehost: scenario: {tmp_path / stem}.json\n" in ran.said
+
+
+@languages("rust")
+@pytest.mark.parametrize("case", ["ends_with_a_refusal", "should_panic"])
+def test_what_looks_as_a_failure_and_passes(failing: Failing, tmp_path: Path, case: str) -> None:
+    """A last step that is refused, as the test expects; a panic that has to come."""
+    ran = failing(case, tmp_path)
+    assert (ran.status, ran.left) == (0, []), ran.said
+    assert "tracehost:" not in ran.said
+
+
+@languages("rust")
+def test_another_panic_than_the_one_that_has_to_come(failing: Failing, tmp_path: Path, program: Path) -> None:
+    stem = failing.stem("should_panic_otherwise")
+    ran = failing("should_panic_otherwise", tmp_path)
+    assert (ran.status, ran.left) == (101, files(stem)), ran.said
+    check_record(tmp_path, stem, program, 3)
+
+
+@languages("rust")
+def test_a_test_that_passes_beside_one_that_fails(failing: Failing, tmp_path: Path) -> None:
+    """If it ends with a refusal, too."""
+    command = failing.command("ends_with_a_refusal") + ["question_mark"]
+    environment = {**os.environ, **failing.environment, "TRACEHOST_ARTIFACTS": str(tmp_path)}
+    ran = subprocess.run(command, env=environment, stdout=subprocess.PIPE, text=True, timeout=300, check=False)
+    assert "1 passed; 1 failed" in ran.stdout
+    assert sorted(path.name for path in tmp_path.iterdir()) == files(failing.stem("question_mark"))
+
+
+@languages("rust")
+def test_a_program_that_dies(failing: Failing, tmp_path: Path, program: Path) -> None:
+    ran = failing("dies", tmp_path)
+    scenario, lines = ran.left
+    assert ran.status == -6 and scenario.startswith(f"{failing.stem('dies')}.json.")
+    replayed = run(program, tmp_path / scenario, "--expect", tmp_path / lines)
+    assert (replayed.status, replayed.err) == (0, "")
+    time.sleep(TICK)
+    assert f"tracehost: left by a test that ended its process: {tmp_path / scenario}\n" in failing("dies", tmp_path).said
 
 
 @languages("rust")
@@ -396,4 +584,4 @@ def test_a_full_standard_error(failing: Failing, tmp_path: Path, program: Path) 
         words = [*failing.command("fails"), "--nocapture"]
         ran = subprocess.run(words, env=environment, stdout=subprocess.PIPE, stderr=full, text=True, timeout=300, check=False)
     assert ran.returncode == 101 and "test result: FAILED. 0 passed; 1 failed" in ran.stdout
-    check_record(tmp_path, "fails", program)
+    check_record(tmp_path, failing.stem("fails"), program)

@@ -70,10 +70,10 @@ def test_the_header_has_what_the_last_release_had(tmp_path: pathlib.Path) -> Non
 @pytest.mark.parametrize(
     ("was", "now"),
     [
-        ("    uint32_t number;\n", "    uint64_t number;\n"),
+        ("    uint32_t number; ", "    uint64_t number; "),
         ("    uint32_t stop_pid;", "    uint32_t stop_pid, more;"),
         ("uint64_t tag;", "uint32_t tag;"),
-        ("    uint32_t lwp, pid;\n", "    uint32_t pid, lwp;\n"),
+        ("    uint32_t lwp;\n    uint32_t pid;\n", "    uint32_t pid;\n    uint32_t lwp;\n"),
     ],
 )
 def test_a_changed_struct_is_found(was: str, now: str, tmp_path: pathlib.Path) -> None:

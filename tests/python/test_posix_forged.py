@@ -1,7 +1,7 @@
 """A hostile program forges messages on the runtime's sockets: the run ends in time, in a status and in words of ours, and
 nothing is left of it. No sanitizer finds anything in the broker or the runtime meanwhile.
 
-A number draws each script (forging.py). Each runs in a namespace of processes of its own, so that a broker that is misled
+A number draws each script (forging.py), or names those that say numbers at their ends (forged_numbers.py). Each runs in a namespace of processes of its own, so that a broker that is misled
 can't signal anybody else. TRACEHOST_TEST_SCALE multiplies the scripts.
 """
 
@@ -10,14 +10,17 @@ from __future__ import annotations
 import json
 import os
 import re
+import shutil
 import subprocess
 import sys
+import tempfile
 from pathlib import Path
 
 import pytest
-from c_programs import SANITIZERS, sanitized
+from c_programs import HEADERS, SANITIZERS, output, sanitized
 from checking import Checks, needs
-from forging import SECONDS, Ended, options, script
+from forged_numbers import FIELDS, HELLOS, REFUSED, Lines, asked, edges, is_near, is_refused
+from forging import ENDS_THAT_GO_ON, FORMS, OF_A_SCRIPT, SECONDS, Ended, at_ends, options, script
 from posix_kit import CC, POSIX, RUN, SCALE, Posix, once, shared_folder
 
 pytestmark = needs("unshare")
@@ -28,6 +31,8 @@ FORGING = Path(__file__).with_name("forging.py")
 SOURCE = POSIX / "tests" / "forged.c"
 EACH = 20
 """Scripts of a test."""
+OF_ENDS = 50
+"""Scripts that say numbers at their ends, each of which has all that matter at once."""
 NOISE = re.compile(
     r"^==\d+==WARNING: ASan (doesn't fully support makecontext|is ignoring requested __asan_handle_no_return).*\n"
     r"|^False positive error reports may follow\n|^For details see https://github.com/google/sanitizers/issues/189\n",
@@ -41,7 +46,7 @@ FAULTS = (
     r"process \d+ remarks on more than it asks",
     r"process \d+: .*",  # a forged fault of the runtime's
     r"\d+/\d+ doesn't answer .*",
-    r"LWP \d+ has ended unseen",  # of questions in an order that the runtime hasn't: a call that is entered and never left
+    r"process \d+ has set a filter of seccomp\(2\) itself, .*",  # said of the runtime's own, if its server's message is forged
     r"another one than the runtime has written on the socket of the program's server",
     r"the program's server has (ended|said nothing for \S+ s)",
 )
@@ -128,6 +133,104 @@ def test_forged_messages(request: pytest.FixtureRequest, checks: Checks, kind: s
     seeds = range(first, first + EACH)
     for seed, ended in zip(seeds, runs(request.getfixturevalue(kind), [(options(seed), script(seed)) for seed in seeds])):
         checks.check(not fault(ended), f"script {seed}, {ended.seconds:.1f} s: {fault(ended)}")
+
+
+# ---- numbers at their ends
+
+
+def test_each_number_of_a_question_has_its_ends() -> None:
+    """Those of `hello` and the words beside numbers are of their own forms."""
+    assert FIELDS.keys() == {form.name for form in FORMS}
+    own = ("hello", "enter", "again")
+    assert {name: len(kinds) for name, kinds in FIELDS.items() if name not in own} == {
+        form.name: form.most for form in FORMS if form.name not in own
+    }
+    assert len(ENDS_THAT_GO_ON) <= OF_A_SCRIPT * OF_ENDS
+
+
+@pytest.mark.parametrize("chunk", range(5 * SCALE))
+@pytest.mark.parametrize("kind", ["plain", "checked"])
+def test_numbers_at_their_ends(request: pytest.FixtureRequest, checks: Checks, kind: str, chunk: int) -> None:
+    numbers = range(chunk * OF_ENDS // 5, (chunk + 1) * OF_ENDS // 5)
+    for number, ended in zip(numbers, runs(request.getfixturevalue(kind), [(options(n), at_ends(n)) for n in numbers])):
+        checks.check(not fault(ended), f"script {number} of ends, {ended.seconds:.1f} s: {fault(ended)}")
+
+
+WRONG_COUNTS = ("getppid 1", "call", "stat 1000 0 0", "wait 1000", "ptrace 13 1000", "ptrace 13 1000 0 0 0", "action 28 0 0 0")
+
+
+def test_what_the_runtime_never_says_is_refused(plain: tuple[Path, Path], checks: Checks) -> None:
+    """With these words, and nothing that comes after them is heard."""
+    scripts = {}
+    for edge in filter(is_refused, edges()):
+        if SCALE == 1 and not is_near(edge):
+            continue
+        lines = Lines()
+        lines.ask(edge)
+        scripts[asked(edge, lines.children)] = lines
+    for said in (*WRONG_COUNTS, *REFUSED):
+        scripts[said] = Lines()
+        scripts[said].say_all(f"ask {said}")
+    for words, refused in HELLOS.items():
+        if refused:
+            scripts[f"hello {words}"] = Lines()
+            scripts[f"hello {words}"].hello(words)
+    for said, ended in zip(scripts, runs(plain, [([], lines.text()) for lines in scripts.values()])):
+        words = re.escape(said[:36]).replace(r"\$P", r"\d+").replace(r"\$T", r"\d+")
+        told = re.search(rf"process 1000 has written '(0 )?{words}", ended.said)
+        checks.check(ended.status == 3 and not fault(ended) and told is not None, f"{said}: {ended.status} {ended.said}")
+
+
+PLANTED = {  # a check of the broker's that is taken away
+    "the place of a thread": ("process_calls.c", "int tid = place < count ?", "int tid = p != NULL ?"),
+    "how a mask is set": ("signal_calls.c", "to[arguments[0] & 3]", "to[arguments[0]]"),
+    "the request of ptrace(2)": ("model.c", "number >= 0 && (size_t)number < sizeof requests / sizeof requests[0] && ", ""),
+}
+BROKER_FLAGS = ["-O0", "-g", "-w", "-std=gnu11", "-D_GNU_SOURCE", "-fPIE", *SANITIZERS, *HEADERS]
+BUILT = "lib/tracehost-posix/build/tracehost-broker"
+
+
+@pytest.fixture(scope="module")
+def objects(checked: tuple[Path, Path]) -> Path:
+    """The broker's, with the sanitizers."""
+    folder = checked[1].parent / "objects"
+
+    def make() -> None:
+        with tempfile.TemporaryDirectory(dir=folder.parent) as room:
+            output("cc", *BROKER_FLAGS, "-c", *(POSIX / "broker").glob("*.c"), cwd=Path(room))
+            shutil.copytree(room, folder)
+
+    return once(folder, make)
+
+
+def planted(build: tuple[Path, Path], objects: Path, library: Path, room: Path, change: tuple[str, str, str]) -> tuple[Path, Path]:
+    """The same programs, but for a change of the broker's source."""
+    name, old, new = change
+    shutil.copytree(POSIX / "broker", room / "posix/broker")
+    shutil.copytree(POSIX / "runtime", room / "posix/runtime")
+    source, made = room / "posix/broker" / name, room / Path(name).with_suffix(".o")
+    assert source.read_text().count(old) == 1, f"{name} has no check {old!r} any more"
+    source.write_text(source.read_text().replace(old, new))
+    output("cc", *BROKER_FLAGS, "-c", "-o", made, source)
+    shutil.copytree(build[0].parents[1], room / "prefix", symlinks=True)
+    others = [path for path in objects.glob("*.o") if path.name != made.name]
+    output("cc", *BROKER_FLAGS, "-pie", "-o", room / "prefix" / BUILT, made, *others, library / "libtracehost.a")
+    return room / "prefix/bin" / build[0].name, build[1]
+
+
+@pytest.mark.parametrize("check", PLANTED)
+def test_a_check_that_is_taken_away_is_found(
+    checked: tuple[Path, Path], objects: Path, library: Path, tmp_path: Path, check: str
+) -> None:
+    build = planted(checked, objects, library, tmp_path, PLANTED[check])
+    for first in range(0, OF_ENDS, 10):
+        ends = runs(build, [(options(number), at_ends(number)) for number in range(first, first + 10)])
+        if any("runtime error: " in ended.said or "ERROR: AddressSanitizer" in ended.said for ended in ends):
+            return
+    pytest.fail(f"none of {OF_ENDS} scripts finds it")
+
+
+# ---- a message, and what the run says
 
 
 def hexed(*lines: tuple[str, str | bytes]) -> str:

@@ -5,11 +5,13 @@ A search that is killed, and started again until it ends, leaves the same bytes 
 
 from __future__ import annotations
 
+import fcntl
 import json
 import os
 import random
 import re
 import resource
+import shutil
 import signal
 import subprocess
 import sys
@@ -422,6 +424,51 @@ def test_the_numbers_of_runs_are_the_same_in_every_process(posix: Posix, name: s
         finally:
             broker.close()
     assert found[0] == found[1]
+
+
+EXECS = """
+#include <sys/wait.h>
+#include <unistd.h>
+
+int
+main(int argc, char **argv)
+{
+	int status;
+	pid_t child = fork();
+
+	if (child == 0 && argc > 1)
+		execl(argv[1], "true", (char *)NULL);
+	return (child <= 0 || waitpid(child, &status, 0) != child || status != 0);
+}
+"""
+
+
+def numbers_of(errors: str) -> list[str]:
+    return re.findall(r"1 runs, (\d+) questions, (\d+) steps", errors)
+
+
+def test_the_numbers_of_a_run_are_the_same_however_long_the_host_takes(posix: Posix, tmp_path: Path) -> None:
+    """An exec's file can't be opened as long as it has a lease."""
+    source, program, file = tmp_path / "execs.c", tmp_path / "execs", tmp_path / "file"
+    source.write_text(EXECS)
+    assert posix.execute(CC, "-o", program, source).returncode == 0
+    shutil.copy("/bin/true", file)
+    wanted = numbers_of(posix.run("--figures", program, file).stderr)
+    before = signal.signal(signal.SIGIO, lambda number, frame: None)
+    lease = os.open(file, os.O_RDONLY)
+    try:
+        fcntl.fcntl(lease, fcntl.F_SETLEASE, fcntl.F_WRLCK)
+        words = [sys.executable, str(RUN), "--figures", str(program), str(file)]
+        with subprocess.Popen(words, stderr=subprocess.PIPE, text=True) as run:
+            while run.poll() is None and fcntl.fcntl(lease, fcntl.F_GETLEASE) == fcntl.F_WRLCK:
+                time.sleep(0.01)
+            time.sleep(0.5)  # three looks at a thread that sleeps, and more
+            fcntl.fcntl(lease, fcntl.F_SETLEASE, fcntl.F_UNLCK)
+            errors = run.communicate()[1]
+    finally:
+        os.close(lease)
+        signal.signal(signal.SIGIO, before)
+    assert wanted and numbers_of(errors) == wanted, errors
 
 
 def test_the_share_of_new_is_that_of_the_last_runs() -> None:

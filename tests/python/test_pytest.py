@@ -41,9 +41,9 @@ class Suite:
 
     def left(self, base: str, test: str) -> None:
         """A failed test has left a page, and a scenario with its lines."""
-        folder = self.room / base / f"tracehost_{test}0"
-        assert (folder / "session.html").stat().st_size > 0
-        assert run(self.program, folder / "session.json", "--expect", folder / "session.out").status == 0
+        (scenario,) = (self.room / base / "tracehost").glob(f"*.{test}-*.json")
+        assert scenario.with_suffix(".html").stat().st_size > 0
+        assert run(self.program, scenario, "--expect", scenario.with_suffix(".out")).status == 0
 
     def change(self, name: str, old: str, new: str) -> None:
         text = (self.room / name).read_text()

@@ -51,8 +51,8 @@ def test_the_tutorial(clone: pathlib.Path, tmp_path: pathlib.Path) -> None:
     assert page is not None
     made = pathlib.Path(page[1])
     assert made.read_text(encoding="utf-8").rstrip().endswith("</html>")
-    replayed = reader.types(f"tracehost {made.parent}/session.json --expect {made.parent}/session.out")
-    back = reader.types(f"tracehost-debug {made.parent}/session.json --batch 'reverse is new'")
+    replayed = reader.types(f"tracehost {made.with_suffix('.json')} --expect {made.with_suffix('.out')}")
+    back = reader.types(f"tracehost-debug {made.with_suffix('.json')} --batch 'reverse is new'")
     assert "process 1002 is new: parent 1001, state runs\n" in back.text
     assert (replayed.status, replayed.text) == (0, "")
 

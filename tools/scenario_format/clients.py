@@ -9,6 +9,7 @@ import re
 import subprocess
 import textwrap
 
+from . import constants
 from .tables import Entry, Format, by_number, wrapped
 
 
@@ -31,6 +32,10 @@ def library_names(form: Format) -> str:
         library_enum("requests of ptrace(2), by their numbers in <sys/ptrace.h>", by_number(form.requests))
         + library_enum("events: the data of PT_SET_EVENT_MASK", single)
         + library_enum(flags, list(form.stop_flags))
+        + library_enum("dispositions", [dataclasses.replace(action, name=action.name.upper()) for action in form.actions])
+        + library_enum("options of wait4; no wait blocks", list(form.options))
+        + library_enum("decisions of a rule", [dataclasses.replace(one, name=one.name.upper()) for one in form.decisions])
+        + constants.library_limits(form)
     )
 
 

@@ -47,7 +47,7 @@ def case(entry: Entry, kinds: dict[str, str]) -> str:
 
 
 def cases(name: str, entries: tuple[Entry, ...], form: Format) -> str:
-    kinds = {key.name: key.kind for key in form.keys}
+    kinds: dict[str, str] = {key.name: key.kind for key in form.keys}
     lines = "".join(case(entry, kinds) for entry in entries)
     return f"pub(crate) const {name}: [Case; {len(entries)}] = [\n{lines}];\n"
 
@@ -67,7 +67,7 @@ def all_keys(form: Format) -> list[str]:
         "request": form.requests,
         "act": form.acts,
         "call": form.calls,
-        "rules": (Entry(name="rule", keys=tuple(Key(name, False) for name in ("signal", "flags", "decision", "pass"))),),
+        "rules": (Entry(name="rule", keys=tuple(Key(f"[{name}]") for name in ("signal", "flags", "decision", "pass"))),),
     }
 
     def add(entries: tuple[Entry, ...]) -> None:

@@ -1,75 +1,15 @@
-"""The tables of format/refusals.toml: why a step is refused, for the clients in Python, C, C++ and Rust."""
+"""Why a step is refused, in the clients in Python, C, C++ and Rust: what is written from format/refusals.toml."""
 
 from __future__ import annotations
 
 import ast
 import dataclasses
 import json
-import pathlib
-import tomllib
 from collections.abc import Iterator
 from typing import NamedTuple
 
-from .tables import Format, wrapped
-
-
-@dataclasses.dataclass(frozen=True)
-class Condition:
-    """A condition. format/refusals.toml says what its fields are."""
-
-    name: str
-    answer: str
-    words: str
-    possible: str = ""
-    holds: str = ""
-    unseen: str = ""
-    never: str = ""
-
-
-@dataclasses.dataclass(frozen=True)
-class Call:
-    """A call, and its conditions in order."""
-
-    op: str
-    text: str
-    order: tuple[str, ...]
-    only: str = ""
-
-    def request(self, refusals: Refusals) -> int:
-        """The number of its request; -1 for any."""
-        return refusals.numbers[self.only] if self.only else -1
-
-
-@dataclasses.dataclass(frozen=True)
-class Refusals:
-    """All calls and conditions, and the numbers that expressions name."""
-
-    calls: tuple[Call, ...]
-    conditions: tuple[Condition, ...]
-    requests: dict[str, int]
-    numbers: dict[str, int]
-    sets: dict[str, tuple[int, ...]]
-
-    @classmethod
-    def read(cls, path: pathlib.Path, form: Format) -> Refusals:
-        with path.open("rb") as file:
-            found = tomllib.load(file)
-        groups: dict[str, list[str]] = found["groups"]
-        calls = []
-        for row in found["call"]:
-            order = [name for entry in row["order"] for name in groups.get(entry, [entry])]
-            calls.append(Call(row["op"], row["text"], tuple(order), row.get("request", "")))
-        conditions = tuple(Condition(**row) for row in found["condition"])
-        named = {condition.name for condition in conditions}
-        asked = {name for call in calls for name in call.order}
-        requests = {request.name: request.bit for request in form.requests}
-        assert named == asked, f"conditions and orders differ in {sorted(named ^ asked)}"
-        assert {call.only for call in calls} <= {"", *requests}, f"{path.name} names a request that isn't there"
-        sets = {
-            "SIGNAL_REQUESTS": tuple(request.bit for request in form.requests if request.data == "signal"),
-            "DATA_REQUESTS": tuple(request.bit for request in form.requests if request.data not in (None, "ignored")),
-        }
-        return cls(tuple(calls), conditions, requests, {**found["numbers"], **requests}, sets)
+from .conditions import Condition, Refusals
+from .tables import wrapped
 
 
 @dataclasses.dataclass(frozen=True)
@@ -153,7 +93,7 @@ def python_calls(refusals: Refusals) -> str:
     calls = ""
     for call in refusals.calls:
         order = ", ".join(map(json.dumps, call.order))
-        calls += f'    Call("{call.op}", {call.request(refusals)}, "{call.text}", ({order},)),\n'
+        calls += f'    Call("{call.op}", {call.number(refusals)}, "{call.text}", ({order},)),\n'
     return f"CALLS = (\n{calls})\n"
 
 
@@ -204,7 +144,7 @@ def c_calls(refusals: Refusals) -> str:
     for n, call in enumerate(refusals.calls):
         names = ", ".join(f"THP_{name.upper()}" for name in call.order)
         orders += f"static const enum thp_condition ORDER_{n}[] = {{{names}}};\n"
-        calls += f'    {{THP_{call.op.upper()}, {call.request(refusals)}, "{call.text}", ORDER_{n}, COUNT(ORDER_{n})}},\n'
+        calls += f'    {{THP_{call.op.upper()}, {call.number(refusals)}, "{call.text}", ORDER_{n}, COUNT(ORDER_{n})}},\n'
     return as_it_is(f"{orders}static const struct call ASKED_CALLS[] = {{\n{calls}}};\n")
 
 
@@ -250,7 +190,7 @@ def cpp_tables(refusals: Refusals) -> str:
             f"        [](const asked &{argument}, const rows &{rows}) {{ return {holds}; }}}};\n"
         )
     calls = "".join(
-        f'        {{"{call.op}", {call.request(refusals)}, "{call.text}", {{{", ".join(f"&{name}" for name in call.order)}}}}},\n'
+        f'        {{"{call.op}", {call.number(refusals)}, "{call.text}", {{{", ".join(f"&{name}" for name in call.order)}}}}},\n'
         for call in refusals.calls
     )
     return f"{conditions}    static const std::vector<call> made = {{\n{calls}    }};\n"
@@ -289,5 +229,5 @@ def rust_tables(refusals: Refusals) -> str:
     calls = ""
     for call in refusals.calls:
         order = ", ".join(f"&{name.upper()}" for name in call.order)
-        calls += f'    Call {{ op: "{call.op}", request: {call.request(refusals)}, text: "{call.text}", order: &[{order}] }},\n'
+        calls += f'    Call {{ op: "{call.op}", request: {call.number(refusals)}, text: "{call.text}", order: &[{order}] }},\n'
     return f"{conditions}\npub static CALLS: &[Call] = &[\n{calls}];\n"

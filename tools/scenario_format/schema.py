@@ -11,7 +11,6 @@ from .tables import Data, Entry, Format
 Object = dict[str, Any]
 WIDTH = 130
 CALLER = "The process that makes the call: a live process of the user that isn't stopped."
-TARGET = "A process (up to 99999) or an LWP (greater)."
 
 
 def laid_out(value: Any, indent: int = 0, before: int = 0) -> str:
@@ -80,7 +79,7 @@ def op_keys(form: Format, op: Entry) -> Object:
         "options": array("Options", "No wait blocks: WNOHANG changes nothing.", {"enum": [option.name for option in form.options]}),
         "signal": reference("word", "The signal, 0 for none." if op.name == "kill" else "The signal."),
         "action": {"title": "Action", "enum": [action.name for action in form.actions]},
-        "rules": array("Rules", "The handler's policy.", reference("rule"), maxItems=16),
+        "rules": array("Rules", "The handler's policy.", reference("rule"), maxItems=form.limits["rules"]),
     }
     return {key.name: found[key.name] for key in op.keys}
 
@@ -103,8 +102,12 @@ def step(form: Format) -> Object:
     }
 
 
-def with_data(requests: list[Entry], data: Data) -> Object:
-    own = {"target": reference("word", TARGET), "data": reference("word", data.key, default=0)}
+def target(form: Format) -> Object:
+    return reference("word", f"A process (up to {form.numbers['LAST_PROCESS']}) or an LWP (greater).")
+
+
+def with_data(form: Format, requests: list[Entry], data: Data) -> Object:
+    own = {"target": target(form), "data": reference("word", data.key, default=0)}
     title, about = data.title or requests[0].name, data.about or requests[0].about
     names = [request.name for request in requests]
     return case("request", names, keys(title, about, ["user", "op", "caller", "request"], own, ["target"]))
@@ -118,10 +121,10 @@ def request_cases(form: Format) -> list[Object]:
             own: Object = {}
             if request.keys:
                 mask = array("Mask", "The events, by name.", reference("event"))
-                own = {"target": reference("word", TARGET), "mask": mask}
+                own = {"target": target(form), "mask": mask}
             found.append(case("request", [request.name], keys(request.name, request.about, above, own, list(own))))
     for kind, data in form.data.items():
-        found.append(with_data([request for request in form.requests if request.data == kind], data))
+        found.append(with_data(form, [request for request in form.requests if request.data == kind], data))
     return found
 
 
@@ -221,7 +224,7 @@ def schema(form: Format) -> str:
         "title": "Steps",
         "description": "They are made in this order.",
         "type": "array",
-        "maxItems": 100000,
+        "maxItems": form.limits["steps"],
         "items": reference("step"),
     }
     found = {

@@ -1,10 +1,10 @@
 /** The forms of values in files, and of the rows in lines of `--json=trace+rows`. */
 
-import { SIGNALS } from "./names.mjs";
+import { FIRST_USER, LAST_USER, SIGNALS } from "./names.mjs";
 
 export const isWhole = (value) => Number.isInteger(value);
 export const isWord = (value) => isWhole(value) && value >= 0 && value < 2 ** 32;
-export const isUser = (value) => isWhole(value) && value >= 1001 && value <= 1064;
+export const isUser = (value) => isWhole(value) && value >= FIRST_USER && value <= LAST_USER;
 export const isSignal = (value) => SIGNALS.indexOf(value) > 0;
 /** @type {Set<unknown>} the names so far: there are few, in many lines */
 const names = new Set();
@@ -24,20 +24,39 @@ export function wrongMember(object, members) {
   return undefined;
 }
 
-const isSet = maybe(oneOf(true));
-const isSignals = maybe(listOf(isSignal));
-const isNames = maybe(listOf(isName));
+// tools/format rows
 const PROCESS = {
-  pid: isWord, parent: isWord, tracer: maybe(isWord), state: oneOf("runs", "trace_stop", "job_stop", "zombie"),
-  stop_signal: maybe(isSignal), reported: isSet, stop_lwp: maybe(isWord), status: maybe(isWord), continued: isSet,
-  events: isNames, pending: isSignals, ignore: isSignals, catch: isSignals,
+  pid: isWord,
+  parent: isWord,
+  tracer: maybe(isWord),
+  state: oneOf("runs", "trace_stop", "job_stop", "zombie"),
+  stop_lwp: maybe(isWord),
+  stop_signal: maybe(isSignal),
+  reported: maybe(oneOf(true)),
+  status: maybe(isWord),
+  continued: maybe(oneOf(true)),
+  events: maybe(listOf(isName)),
+  pending: maybe(listOf(isSignal)),
+  ignore: maybe(listOf(isSignal)),
+  catch: maybe(listOf(isSignal)),
 };
 const LWP = {
-  lwp: isWord, pid: isWord, mode: oneOf("runs", "in_call", "waits_for_vfork"), call: maybe(isName),
-  argument: maybe(isWord), vfork_child: maybe(isWord), suspended: isSet, stepping: isSet, blocked: isSignals,
-  pending: isSignals, due: maybe(oneOf("born", "begun", "vfork_done")), flags: isNames, child: maybe(isWord),
+  lwp: isWord,
+  pid: isWord,
+  mode: oneOf("runs", "in_call", "waits_for_vfork"),
+  call: maybe(isName),
+  argument: maybe(isWord),
+  vfork_child: maybe(isWord),
+  suspended: maybe(oneOf(true)),
+  stepping: maybe(oneOf(true)),
+  blocked: maybe(listOf(isSignal)),
+  pending: maybe(listOf(isSignal)),
+  due: maybe(oneOf("born", "begun", "vfork_done")),
+  flags: maybe(listOf(isName)),
+  child: maybe(isWord),
   code: maybe(isWord),
 };
+// end
 const rowsOf = (members) => maybe(listOf((row) => isObject(row) && !wrongMember(row, members)));
 
 /** The members of `rows`. */

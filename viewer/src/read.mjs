@@ -1,34 +1,41 @@
 /** Reading of files: lines of `--json`, scenarios, and which step each line answers. */
 
 import { isName, isObject, isSignal, isUser, isWhole, isWord, listOf, oneOf, ROWS, wrongMember } from "./forms.mjs";
+import { FIRST_USER, LAST_USER } from "./names.mjs";
 
-const FLAGS = { flags: listOf(isName), child: isWord, code: isWord };
 const STATUS = { word: isWord };
 const SIGNAL = { signal: isSignal, number: isWord };
+const ERROR = { errno: isName, number: isWord };
+const objectOf = (members) => (value) => isObject(value) && !wrongMember(value, members);
+const orNull = (check) => (value) => value === null || check(value);
+const isPassed = (pass) => pass === undefined || orNull(objectOf(SIGNAL))(pass);
+// tools/format replies
+const DECISION = { decision: oneOf("decline", "leave", "continue", "detach", "kill"), pass: isPassed };
 /**
  * The members of each reply, with their forms.
  *
  * @type {Map<string, Record<string, (value: any) => boolean>>}
  */
 const REPLIES = new Map(Object.entries({
-  ok: {}, nothing: {}, held: {},
+  ok: {},
   new: { pid: isWord, lwp: isWord },
   number: { number: isWord },
   status: { pid: isWord, ...STATUS },
-  info: { lwp: isWord, event: oneOf("SIGNAL", "NONE"), mask: listOf(isSignal), pending: listOf(isSignal), ...FLAGS },
+  nothing: {},
+  info: { lwp: isWord, event: oneOf("SIGNAL", "NONE"), flags: listOf(isName), mask: listOf(isSignal),
+    pending: listOf(isSignal), child: isWord, code: isWord },
   lwps: { lwps: listOf(isWord) },
   pids: { pids: listOf(isWord) },
   mask: { events: listOf(isName) },
-  handled: {
-    pid: isWord, ...STATUS, at: (at) => isObject(at) && !wrongMember(at, { lwp: isWord, ...SIGNAL, ...FLAGS }),
-    by: (by) => by === null || isWord(by), decision: oneOf("decline", "leave", "continue", "detach", "kill"),
-    pass: (pass) => pass === undefined || pass === null || (isObject(pass) && !wrongMember(pass, SIGNAL)),
-  },
+  handled: { pid: isWord, ...STATUS, at: objectOf({ lwp: isWord, ...SIGNAL, flags: listOf(isName), child: isWord,
+    code: isWord }), by: orNull(isWord), ...DECISION },
   stopped: { lwp: isWord, ...SIGNAL, flags: listOf(isName) },
-  caught: SIGNAL,
-  ended: STATUS,
-  error: { errno: isName, number: isWord },
+  caught: { ...SIGNAL },
+  ended: { ...STATUS },
+  held: {},
+  error: { ...ERROR },
 }));
+// end
 /** The members of a status; one of them says what its word means. */
 const MEANINGS = { exited: isWord, signaled: isSignal, stopped: isSignal, continued: oneOf(true) };
 // tools/format ops
@@ -81,7 +88,7 @@ function faultInTrace(reply) {
 function faultOfReply(reply) {
   if (!isObject(reply)) return "no object";
   if (isName(reply.refused) && reply.reply === undefined) return undefined;
-  if (!isUser(reply.user)) return "no user from 1001 to 1064";
+  if (!isUser(reply.user)) return `no user from ${FIRST_USER} to ${LAST_USER}`;
   if (!isWhole(reply.step) || reply.step < 1) return "no number of a step";
   if (!REPLIES.has(reply.reply)) return "no reply that is known";
   const members = REPLIES.get(reply.reply);

@@ -19,31 +19,34 @@ export function decisionText(reply) {
   return reply.pass ? `${reply.decision} ${reply.pass.signal}` : reply.decision;
 }
 
+const decidedWords = ({ decision, pass }) => (pass === undefined ? decision : `${decision} ${pass ? pass.number : 0}`);
+const errorWords = ({ errno, number }) => `${errno} ${number}`;
+// tools/format words
+/** @type {Map<string, (reply: any) => string>} */
+const WORDS = new Map(Object.entries({
+  ok: () => `ok`,
+  new: (reply) => `new ${reply.pid} ${reply.lwp}`,
+  number: (reply) => `number ${reply.number}`,
+  status: (reply) => `status ${reply.pid} ${reply.word}`,
+  nothing: () => `nothing`,
+  info: (reply) => `info ${reply.lwp} ${reply.event} flags=${joined(reply.flags)} mask=${numbers(reply.mask)} `
+    + `pending=${numbers(reply.pending)} child=${reply.child} code=${reply.code}`,
+  lwps: (reply) => ["lwps", ...reply.lwps].join(" "),
+  pids: (reply) => ["pids", ...reply.pids].join(" "),
+  mask: (reply) => `mask ${joined(reply.events)}`,
+  handled: (reply) => `handled ${reply.pid} ${reply.word} at ${reply.at.lwp} signal=${reply.at.number} `
+    + `flags=${joined(reply.at.flags)} child=${reply.at.child} code=${reply.at.code} by `
+    + `${reply.by ?? "none"} ${decidedWords(reply)}`,
+  stopped: (reply) => `stopped ${reply.lwp} ${reply.number} flags=${joined(reply.flags)}`,
+  caught: (reply) => `caught ${reply.number}`,
+  ended: (reply) => `ended ${reply.word}`,
+  held: () => `held`,
+  error: (reply) => `error ${errorWords(reply)}`,
+}));
+// end
+
 /** The reply as a line of the plain text has it. */
-export function plainText(reply) {
-  const shown = (stop) => `flags=${joined(stop.flags)} child=${stop.child} code=${stop.code}`;
-  switch (reply.reply) {
-    case undefined: return `refused ${reply.refused}`;
-    case "new": return `new ${reply.pid} ${reply.lwp}`;
-    case "number": return `number ${reply.number}`;
-    case "status": return `status ${reply.pid} ${reply.word}`;
-    case "info": return `info ${reply.lwp} ${reply.event} flags=${joined(reply.flags)} mask=${numbers(reply.mask)} `
-      + `pending=${numbers(reply.pending)} child=${reply.child} code=${reply.code}`;
-    case "lwps": return ["lwps", ...reply.lwps].join(" ");
-    case "pids": return ["pids", ...reply.pids].join(" ");
-    case "mask": return `mask ${joined(reply.events)}`;
-    case "handled": {
-      const pass = reply.pass === undefined ? "" : ` ${reply.pass ? reply.pass.number : 0}`;
-      return `handled ${reply.pid} ${reply.word} at ${reply.at.lwp} signal=${reply.at.number} ${shown(reply.at)} `
-        + `by ${reply.by ?? "none"} ${reply.decision}${pass}`;
-    }
-    case "stopped": return `stopped ${reply.lwp} ${reply.number} flags=${joined(reply.flags)}`;
-    case "caught": return `caught ${reply.number}`;
-    case "ended": return `ended ${reply.word}`;
-    case "error": return `error ${reply.errno} ${reply.number}`;
-    default: return reply.reply;
-  }
-}
+export const plainText = (reply) => (reply.reply === undefined ? `refused ${reply.refused}` : WORDS.get(reply.reply)(reply));
 
 /** What a reply means, if its line doesn't say it. */
 export function meaning(reply) {

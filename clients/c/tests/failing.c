@@ -12,6 +12,7 @@
 #include <assert.h>
 #include <pthread.h>
 #include <signal.h>
+#include <stdint.h>
 #include <stdio.h>
 #include <stdlib.h>
 #include <string.h>
@@ -143,6 +144,64 @@ static int handles_abort(const char *name)
     return aborts(name);
 }
 
+/* $TEST_SIGNAL ends it: a number, or "fault"; it waits for one by "wait", and without it, it passes. */
+static int is_signalled(const char *name)
+{
+    th_host *h = begin(name);
+    const char *how = getenv("TEST_SIGNAL");
+    int passed = attaches(h, TH_SIGSEGV);
+    if (how != NULL && strcmp(how, "fault") == 0)
+        *(volatile char *)(uintptr_t)8 = 1;
+    else if (how != NULL && strcmp(how, "wait") == 0)
+        while (puts("waits") < 0 || fflush(stdout) != 0 || pause() == -1)
+            continue;
+    else if (how != NULL)
+        kill(getpid(), atoi(how));
+    int failed = th_test_end(h, passed);
+    return th_close(h) != 0 || failed;
+}
+
+/* The test PREFIX.N makes 1 to 5 steps, and fails if N is even, or if $ALL_FAIL is set. */
+static int numbered(const char *prefix, int number)
+{
+    char name[64];
+    snprintf(name, sizeof name, "%s.%d", prefix, number);
+    th_host *h = begin(name);
+    for (int i = 0; i <= number % 5; i++)
+        th_spawn(h, USER, NULL, NULL);
+    int failed = th_test_end(h, number % 2 != 0 && getenv("ALL_FAIL") == NULL);
+    return th_close(h) != 0 || failed;
+}
+
+static int one(const char *number) { return numbered("one", atoi(number)); }
+
+struct share {
+    int first, count;
+};
+
+static void *run_share(void *given)
+{
+    const struct share *share = given;
+    for (int i = share->first; i < share->count; i += THREADS)
+        numbered("many", i);
+    return NULL;
+}
+
+/* So many tests, in threads. */
+static int many(const char *count)
+{
+    pthread_t all[THREADS];
+    struct share shares[THREADS];
+    for (int i = 0; i < THREADS; i++) {
+        shares[i] = (struct share){i, atoi(count)};
+        if (pthread_create(&all[i], NULL, run_share, &shares[i]) != 0)
+            abort();
+    }
+    for (int i = 0; i < THREADS; i++)
+        pthread_join(all[i], NULL);
+    return 1;
+}
+
 static int closes(const char *name)
 {
     th_host *h = begin(name);
@@ -195,8 +254,8 @@ int main(int argc, char **argv)
         int (*run)(const char *name);
     } cases[] = {{"passes", passes}, {"fails", fails}, {"twice", twice}, {"threads", threads}, {"forks", forks},
         {"forks_and_aborts", forks_and_aborts}, {"aborts", aborts}, {"aborts_elsewhere", aborts_elsewhere},
-        {"handles_abort", handles_abort}, {"closes", closes}, {"closes_files", closes_files}, {"no_step", no_step},
-        {"misuse", misuse}};
+        {"handles_abort", handles_abort}, {"is_signalled", is_signalled}, {"one", one}, {"many", many}, {"closes", closes},
+        {"closes_files", closes_files}, {"no_step", no_step}, {"misuse", misuse}};
     program = argc > 2 ? argv[1] : "";
     for (size_t i = 0; argc > 2 && i < sizeof cases / sizeof cases[0]; i++)
         if (strcmp(cases[i].name, argv[2]) == 0)

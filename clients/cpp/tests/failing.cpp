@@ -98,6 +98,54 @@ int loses_standard_error(const std::string &name)
     return fails(name) + passes("another") == 1 ? 0 : 1;
 }
 
+// By abort(3), while another test has ended.
+int aborts(const std::string &name)
+{
+    tracehost_test test(name);
+    signal_after_step(test);
+    {
+        tracehost_test other("other");
+        signal_after_step(other);
+    }
+    std::abort();
+}
+
+// $TEST_SIGNAL ends it: a number, or "fault"; it waits for one by "wait", and without it, it passes.
+int is_signalled(const std::string &name)
+{
+    tracehost_test test(name);
+    const char *given = std::getenv("TEST_SIGNAL");
+    const std::string how = given == nullptr ? "" : given;
+    signal_after_step(test);
+    if (how == "fault")
+        *reinterpret_cast<volatile char *>(8) = 1;
+    else if (how == "wait")
+        for (std::puts("waits"), std::fflush(stdout);;)
+            pause();
+    else if (!how.empty())
+        kill(getpid(), std::stoi(how));
+    return 0;
+}
+
+// So many tests, in threads. The test many.N makes 1 to 5 steps, and fails if N is even, or if $ALL_FAIL is set.
+int many(const std::string &count)
+{
+    std::vector<std::thread> all;
+    for (int first = 0; first < 8; first++)
+        all.emplace_back([first, count = std::stoi(count)] {
+            for (int number = first; number < count; number += 8) {
+                tracehost_test test("many." + std::to_string(number));
+                for (int step = 0; step <= number % 5; step++)
+                    test.call(tracehost_spawn, 1001);
+                if (number % 2 == 0 || std::getenv("ALL_FAIL") != nullptr)
+                    test.fail("it is to fail");
+            }
+        });
+    for (std::thread &thread : all)
+        thread.join();
+    return 1;
+}
+
 int no_step(const std::string &name)
 {
     tracehost_test test(name);
@@ -111,6 +159,6 @@ int main(int argc, char **argv)
 {
     const std::map<std::string, std::function<int(const std::string &)>> cases = {{"passes", passes}, {"fails", fails},
         {"twice", twice}, {"throws", throws}, {"threads", threads}, {"forks", forks}, {"no_step", no_step},
-        {"closes_files", closes_files}, {"loses_standard_error", loses_standard_error}};
+        {"aborts", aborts}, {"many", many}, {"is_signalled", is_signalled}, {"closes_files", closes_files}, {"loses_standard_error", loses_standard_error}};
     return argc < 2 ? 2 : cases.at(argv[1])(argv[argc > 2 ? 2 : 1]);
 }

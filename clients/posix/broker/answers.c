@@ -40,7 +40,9 @@ void say_reply(const reply *r)
 /* struct ptrace_lwpinfo, in numbers; what is known of the signal comes last. */
 static void say_information(const reply *r, const struct info *info)
 {
+	/* tools/format stop flags */
 	static const uint16_t flags[] = {4, 8, 16, 64, 128, 256, 512, 1024, 2048}; /* FreeBSD's, by the model's bits */
+	/* end */
 	uint32_t bits = 0;
 	for (size_t i = 0; i < sizeof flags / sizeof flags[0]; i++)
 		bits |= r->flags >> i & 1 ? flags[i] : 0;

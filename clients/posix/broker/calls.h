@@ -79,6 +79,6 @@ void tell_fork(const struct process *p, const struct process *child);
 /* of more than one file */
 int send_to_lwp(struct lwp *l, int64_t tid, int64_t signal);
 void ring(struct lwp *timer);
-int find_described(const struct process *p, int pid);
+int find_described(const struct process *p, int64_t pid);
 void bare_call(struct lwp *l, int code); /* into a call that never waits, and out of it */
 #endif

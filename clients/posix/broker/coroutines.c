@@ -18,6 +18,7 @@ static LIST(struct {
 }) owned;
 static struct info deeper; /* what a handler's new stack begins with */
 static struct lwp *running, *leaving; /* leaving: its stack is in use until the switch is made */
+static struct lwp *renewed; /* the same, of its former stacks */
 static void (*life_of)(struct lwp *l);
 
 static char *new_stack(void)
@@ -46,14 +47,19 @@ static size_t place_of(const char *stack)
 	return place;
 }
 
-/* All of its stacks. */
-static void give_back(struct lwp *l)
+/* Its stacks, except one that it keeps. */
+static void give_back_but(struct lwp *l, const char *kept)
 {
 	for (size_t i = owned.count; i-- > 0;)
-		if (owned.at[i].of == l) {
+		if (owned.at[i].of == l && owned.at[i].stack != kept) {
 			APPEND(&unused, owned.at[i].stack);
 			TAKE_OUT(&owned, i);
 		}
+}
+
+static void give_back(struct lwp *l)
+{
+	give_back_but(l, NULL);
 	l->stack = NULL;
 }
 
@@ -62,6 +68,9 @@ static void arrive(void)
 	if (leaving != NULL && leaving != running && leaving->stack != NULL)
 		give_back(leaving);
 	leaving = NULL;
+	if (renewed != NULL)
+		give_back_but(renewed, renewed->stack);
+	renewed = NULL;
 }
 
 static void begin(void)
@@ -85,6 +94,17 @@ static void prepare(struct lwp *l)
 	l->started = true;
 	l->stack = stack_for(l);
 	prepare_context(&l->context, l->stack, begin, NULL);
+}
+
+/* By contexts and not by a jump: those of each stack have a shadow stack of their own. */
+void begin_anew(struct lwp *l)
+{
+	static ucontext_t nowhere;
+	l->renewed = true;
+	prepare(l);
+	renewed = l;
+	swapcontext(&nowhere, &l->context);
+	abort();
 }
 
 void switch_to(struct lwp *from, struct lwp *to)
@@ -126,7 +146,7 @@ void retire(struct lwp *l)
 /* The run is over: what its LWPs stood in is forgotten. */
 void coroutines_end(void)
 {
-	leaving = NULL;
+	leaving = renewed = NULL;
 	while (owned.count > 0)
 		give_back(owned.at[owned.count - 1].of);
 }

@@ -120,7 +120,7 @@ void wait_for_events(struct lwp *l, int64_t end)
 
 /* ---- process descriptors */
 
-int find_described(const struct process *p, int pid)
+int find_described(const struct process *p, int64_t pid)
 {
 	for (size_t i = 0; i < p->lists.described.count; i++)
 		if (p->lists.described.at[i].pid == pid)
@@ -134,7 +134,7 @@ static struct step killing(int caller, int pid) { return (struct step){.op = SEN
 BODY(undescribed)
 {
 	struct process *p = l->process, *child = live_process(arguments[0]);
-	int pid = arguments[0], place = find_described(p, pid);
+	int pid = arguments[0], place = find_described(p, arguments[0]);
 	(void)call;
 	if (place < 0)
 		foreign_question(l);

@@ -1,5 +1,4 @@
 /* What a thread says, and what it is answered. */
-#undef _FORTIFY_SOURCE /* whose longjmp(3) goes to no other stack */
 #include <errno.h>
 #include <string.h>
 #include <sys/socket.h>
@@ -101,6 +100,20 @@ static _Noreturn void foreign_text(const struct process *p, const char *line, si
 
 /* The runtime never asks this. */
 void foreign_question(const struct lwp *l) { foreign_text(l->process, l->asked, strlen(l->asked)); }
+
+int int_of(const struct lwp *l, int64_t number)
+{
+	if (number < INT32_MIN || number > INT32_MAX)
+		foreign_question(l);
+	return (int)number;
+}
+
+int code_of(const struct lwp *l, int64_t number)
+{
+	if (number < 0)
+		foreign_question(l);
+	return int_of(l, number);
+}
 
 /* What isn't asked, and has no answer: a remark, another filter of the runtime's, or PID STATUS of a process of the host's. */
 static void take_aside(struct process *p, enum reading reading, const char *words)
@@ -313,7 +326,7 @@ static bool reply_to(struct lwp *l)
 	}
 	if (l->born) { /* its exec: the image that comes says hello */
 		meet(l);
-		longjmp(l->base, 1);
+		begin_anew(l);
 	}
 	bool asks = hear(l, born != NULL || (l->entered >= 0 && !l->begun) || lands);
 	if (born != NULL)
@@ -391,11 +404,8 @@ void live(struct lwp *l)
 		meet(l);
 		give_way(l);
 	}
-	char *stack = l->stack;
-	if (setjmp(l->base) != 0) {
-		l->stack = stack;
+	if (l->renewed)
 		give_way(l);
-	}
 	for (;;) {
 		act(l);
 		if (!reply_to(l))

@@ -103,10 +103,14 @@ static const char *const requests[] = {
 	[TRACEHOST_PT_SET_EVENT_MASK] = "PT_SET_EVENT_MASK",
 };
 /* end */
+/* tools/format names */
+/* clang-format off */
 static const char *const call_names[] = {"fork", "vfork", "exec", "thr_new", "thr_exit", "exit", "other"};
 static const char *const actions[] = {"default", "ignore", "catch"};
 static const char *const option_names[] = {"WNOHANG", "WUNTRACED", "WCONTINUED"};
 static const char *const events[] = {"PTRACE_EXEC", "PTRACE_SCE", "PTRACE_SCX", "PTRACE_FORK", "PTRACE_LWP", "PTRACE_VFORK"};
+/* clang-format on */
+/* end */
 
 /* Whether the model has this request. */
 bool is_request(int64_t number)

@@ -181,36 +181,16 @@ static _Noreturn void outside(const struct process *p, int tid, const char *call
 /* FreeBSD's number of a signal of the host's; -1 if there is none. */
 static int signal_of(int64_t host)
 {
+	/* tools/format signals */
+	/* clang-format off */
 	static const int signals[] = {[0] = 0,
-		[SIGHUP] = 1,
-		[SIGINT] = 2,
-		[SIGQUIT] = 3,
-		[SIGILL] = 4,
-		[SIGTRAP] = 5,
-		[SIGABRT] = 6,
-		[SIGBUS] = 10,
-		[SIGFPE] = 8,
-		[SIGKILL] = 9,
-		[SIGUSR1] = 30,
-		[SIGSEGV] = 11,
-		[SIGUSR2] = 31,
-		[SIGPIPE] = 13,
-		[SIGALRM] = 14,
-		[SIGTERM] = 15,
-		[SIGCHLD] = 20,
-		[SIGCONT] = 19,
-		[SIGSTOP] = 17,
-		[SIGTSTP] = 18,
-		[SIGTTIN] = 21,
-		[SIGTTOU] = 22,
-		[SIGURG] = 16,
-		[SIGXCPU] = 24,
-		[SIGXFSZ] = 25,
-		[SIGVTALRM] = 26,
-		[SIGPROF] = 27,
-		[SIGWINCH] = 28,
-		[SIGIO] = 23,
-		[SIGSYS] = 12};
+		[SIGHUP] = 1, [SIGINT] = 2, [SIGQUIT] = 3, [SIGILL] = 4, [SIGTRAP] = 5, [SIGABRT] = 6, [SIGFPE] = 8,
+		[SIGKILL] = 9, [SIGBUS] = 10, [SIGSEGV] = 11, [SIGSYS] = 12, [SIGPIPE] = 13, [SIGALRM] = 14, [SIGTERM] = 15,
+		[SIGURG] = 16, [SIGSTOP] = 17, [SIGTSTP] = 18, [SIGCONT] = 19, [SIGCHLD] = 20, [SIGTTIN] = 21, [SIGTTOU] = 22,
+		[SIGIO] = 23, [SIGXCPU] = 24, [SIGXFSZ] = 25, [SIGVTALRM] = 26, [SIGPROF] = 27, [SIGWINCH] = 28, [SIGUSR1] = 30,
+		[SIGUSR2] = 31};
+	/* clang-format on */
+	/* end */
 	const int count = sizeof signals / sizeof signals[0];
 	return host >= 0 && host < count && (host == 0 || signals[host] != 0) ? signals[host] : -1;
 }

@@ -4,7 +4,6 @@
 #include "calls.h"
 
 enum { COMPUTED = 50000000 }; /* nanoseconds that a thread has computed that asks `poke` */
-enum { MAX_PROCESSES = 250, MAX_LWPS = 1000 }; /* of a user: docs/internals/MACHINE.md */
 
 /* A new thread, process or image: it goes on once it may run. An image learns which signals it ignores. One that is in a
  * call, and traced, asks again as that returns. */
@@ -57,9 +56,9 @@ static bool has_no_room(struct lwp *l, int code, bool forks, int64_t most)
 	size_t lwps = 0;
 	for (EACH_PROCESS(p))
 		lwps += table.processes.at[p_at]->lists.lwps.count;
-	bool full = lwps >= MAX_LWPS;
-	if (most <= 0 || most > MAX_PROCESSES)
-		most = MAX_PROCESSES;
+	bool full = lwps >= TRACEHOST_MAX_LWPS;
+	if (most <= 0 || most > TRACEHOST_MAX_PROCESSES)
+		most = TRACEHOST_MAX_PROCESSES;
 	if (forks && table.made >= most) /* zombies count */
 		full = full || all_of_user(l->process, &numbers) >= (size_t)most;
 	if (!full)

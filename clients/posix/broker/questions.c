@@ -177,7 +177,7 @@ static bool read_again(const char *at, struct question *q)
 static bool read_enter(const char *at, struct question *q)
 {
 	int64_t number;
-	if (!take_number(&at, &q->arguments[0]) || q->arguments[0] < 0 || *at != ' ')
+	if (!take_number(&at, &q->arguments[0]) || *at != ' ')
 		return false;
 	const char *end = after_letters(at + 1);
 	return end != at + 1 && memchr(at, '_', end - at) == NULL && take_number(&end, &number) && *end == 0;

@@ -6,7 +6,7 @@ BODY(begin_call)
 {
 	(void)call;
 	l->begins = true;
-	enter(l, arguments[0], NULL);
+	enter(l, code_of(l, arguments[0]), NULL);
 	l->begins = false, l->begun = true;
 	say("ok");
 }

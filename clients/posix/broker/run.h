@@ -61,6 +61,7 @@ void run_once(void);
 void switch_to(struct lwp *from, struct lwp *to); /* NULL is the loop of runs */
 void start_with(struct lwp *first, void (*life)(struct lwp *l));
 void retire(struct lwp *l); /* it never goes on again */
+_Noreturn void begin_anew(struct lwp *l); /* its life, on another stack: an exec forgets what it stood in */
 void coroutines_end(void);
 bool ran_on_another_stack(struct lwp *l, struct info info);
 _Noreturn void leave_run(void);
@@ -97,6 +98,8 @@ void run_handler(struct lwp *l, struct info info);
 const char *aside(struct lwp *l, const char *line);
 void close_socket(struct lwp *l);
 _Noreturn void foreign_question(const struct lwp *l);
+int int_of(const struct lwp *l, int64_t number); /* which is an int in the runtime */
+int code_of(const struct lwp *l, int64_t number); /* of a call that the LWP stays in */
 void count_ring(const struct lwp *timer);
 int64_t ask_for(struct lwp *l, const char *format, ...) __attribute__((format(printf, 2, 3)));
 

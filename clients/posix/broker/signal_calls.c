@@ -28,7 +28,7 @@ static void posted(struct lwp *l, struct process *const *targets, size_t count, 
 BODY(kill_call)
 {
 	struct process *targets[PROCESSES];
-	int64_t which = arguments[0], signal = arguments[1];
+	int which = int_of(l, arguments[0]), signal = int_of(l, arguments[1]);
 	size_t count = 0;
 	enter(l, call->code, NULL);
 	reply r = step_of_call(l, (struct step){.op = SEND, .actor = l->process->pid, .a = signal, .which = which}, true);
@@ -191,7 +191,7 @@ BODY(masked)
 	struct met met = {0};
 	l->former = l->mask, l->polling = NEVER;
 	mask_for_call(l, arguments[1], &met);
-	enter(l, arguments[0], &met);
+	enter(l, code_of(l, arguments[0]), &met);
 	if (met.all == 0) {
 		say("ok");
 		return;

@@ -17,7 +17,8 @@ typedef uint32_t signals; /* signal n is bit n; in the model's sets it is bit n 
 	number++
 
 enum { TRAP = 5, KILL = 9, SEGV = 11, STOP = 17, CONT = 19, CHLD = 20 };
-enum { USER = 1001, FIRST_PROCESS = 1000, PROCESSES = 1000, FIRST_LWP = 100000, LWPS = 4000 };
+enum { USER = TRACEHOST_FIRST_USER, FIRST_PROCESS = TRACEHOST_FIRST_PROCESS, PROCESSES = TRACEHOST_PROCESS_NUMBERS };
+enum { FIRST_LWP = TRACEHOST_FIRST_LWP, LWPS = TRACEHOST_LWP_NUMBERS };
 
 /* Topics: a process's number (news for it), its negative (it may run again), an LWP's number (it has ended), and these. */
 enum { IO = 1, SYNC = 2 };
@@ -161,10 +162,9 @@ struct lwp {
 	uint64_t changed;
 	/* its coroutine */
 	char *stack;
-	bool started;
+	bool started, renewed; /* renewed: by an exec */
 	ucontext_t context;
-	jmp_buf base; /* an exec comes back here */
-	jmp_buf *act; /* and a void question here */
+	jmp_buf *act; /* a void question comes back here, on the same stack: a shadow stack has no other frames to leave */
 };
 
 struct table {

@@ -2,14 +2,20 @@
 #include <errno.h>
 #include "calls.h"
 
-static const uint32_t events = TRACEHOST_PTRACE_EXEC | TRACEHOST_PTRACE_SCE | TRACEHOST_PTRACE_SCX | TRACEHOST_PTRACE_FORK |
-							   TRACEHOST_PTRACE_LWP | TRACEHOST_PTRACE_VFORK;
+/* tools/format classes of requests */
+/* clang-format off */
+static const uint32_t events =
+	TRACEHOST_PTRACE_EXEC | TRACEHOST_PTRACE_SCE | TRACEHOST_PTRACE_SCX | TRACEHOST_PTRACE_FORK |
+	TRACEHOST_PTRACE_LWP | TRACEHOST_PTRACE_VFORK;
 
 static bool resumes(int64_t request)
 {
-	return request == TRACEHOST_PT_CONTINUE || request == TRACEHOST_PT_STEP || request == TRACEHOST_PT_DETACH ||
-		   (request >= TRACEHOST_PT_TO_SCE && request <= TRACEHOST_PT_SYSCALL);
+	return
+		request == TRACEHOST_PT_CONTINUE || request == TRACEHOST_PT_STEP || request == TRACEHOST_PT_DETACH ||
+		request == TRACEHOST_PT_TO_SCE || request == TRACEHOST_PT_TO_SCX || request == TRACEHOST_PT_SYSCALL;
 }
+/* clang-format on */
+/* end */
 
 struct request {
 	int64_t number, target, data;
@@ -106,7 +112,7 @@ static void changed_by(struct process *caller, const struct request *asked, cons
 /* A request that the model has. The last argument: the target is to go on at address 0. */
 BODY(ptrace_call)
 {
-	struct request asked = {arguments[0], arguments[1], arguments[2], arguments[3]}, made = made_of(l, asked);
+	struct request asked = {arguments[0], int_of(l, arguments[1]), int_of(l, arguments[2]), arguments[3]}, made = made_of(l, asked);
 	struct numbers numbers = {0};
 	reply r = {.kind = TRACEHOST_ERROR, .error = EINVAL};
 	struct step s = step_of(l, made.number, made.target, made.data);

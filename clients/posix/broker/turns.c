@@ -356,7 +356,10 @@ void enter_call(struct lwp *l, int call, uint32_t argument, struct met *met)
 	if (is_in)
 		return;
 	l->replaced = 0;
-	if (turn(l, entry_of(l, call, argument), (struct how){.done = at_entry, .met = met}).kind == TRACEHOST_STOPPED)
+	reply r = turn(l, entry_of(l, call, argument), (struct how){.done = at_entry, .met = met});
+	if (r.kind == TRACEHOST_ERROR) /* it is in another one */
+		foreign_question(l);
+	if (r.kind == TRACEHOST_STOPPED)
 		stay_at_entry(l);
 }
 

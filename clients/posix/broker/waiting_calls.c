@@ -117,7 +117,7 @@ BODY(wait_call)
 BODY(enter_only)
 {
 	(void)call;
-	enter(l, arguments[0], NULL);
+	enter(l, code_of(l, arguments[0]), NULL);
 	l->polling = NEVER;
 	say("ok");
 }

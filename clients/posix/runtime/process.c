@@ -126,24 +126,46 @@ static size_t bytes_of(char *const words[])
 	return bytes;
 }
 
-/* 0, or the errno of an exec that fails. */
-static int why_not(const char *path, char *const argv[], char *const envp[])
+static int may_execute(const char *path) { return access(path, X_OK) == 0; }
+
+static int why_no_file(const char *path)
 {
 	struct stat st;
-	char head[4] = "";
-	enum { ARGUMENT_BYTES = 512 * 1024 /* FreeBSD's ARG_MAX */ };
-	if (access(path, X_OK) != 0 || stat(path, &st) != 0)
+	if (!may_execute(path) || stat(path, &st) != 0)
 		return errno;
-	if (!S_ISREG(st.st_mode))
-		return EACCES;
-	if (bytes_of(argv) + bytes_of(envp) > ARGUMENT_BYTES)
-		return E2BIG;
+	return S_ISREG(st.st_mode) ? 0 : EACCES;
+}
+
+static int why_no_program(const char *path)
+{
+	char head[4] = "";
 	int fd = open(path, O_RDONLY | O_CLOEXEC);
 	if (fd < 0)
 		return 0; /* it may be executed, and not read */
 	ssize_t got = read(fd, head, sizeof head);
 	close(fd);
 	return got >= 2 && (memcmp(head, "#!", 2) == 0 || memcmp(head, "\177ELF", sizeof head) == 0) ? 0 : ENOEXEC;
+}
+
+/* The host may take its time for a look at a file. No poke comes between, so that no run depends on how long that is. */
+static int look_at_file(int (*look)(const char *path), const char *path)
+{
+	own.busy = 1;
+	int found = look(path);
+	own.busy = 0;
+	return found;
+}
+
+/* 0, or the errno of an exec that fails. */
+static int why_not(const char *path, char *const argv[], char *const envp[])
+{
+	enum { ARGUMENT_BYTES = 512 * 1024 /* FreeBSD's ARG_MAX */ };
+	int error = look_at_file(why_no_file, path);
+	if (error != 0)
+		return error;
+	if (bytes_of(argv) + bytes_of(envp) > ARGUMENT_BYTES)
+		return E2BIG;
+	return look_at_file(why_no_program, path);
 }
 
 static int has_runtime(const char *path)
@@ -224,7 +246,7 @@ static int replace_lifted(const void *where, const char *path, char *const argv[
 		errno = error;
 		return -1;
 	}
-	int known = has_runtime(path);
+	int known = look_at_file(has_runtime, path);
 	fflush(stderr);
 	tracehost_ask(where, "exec");
 	if (!known)
@@ -276,7 +298,7 @@ static int replace_in(const void *where, const char *file, const char *all, char
 		return -1;
 	for (folder = strtok_r(copy, ":", &save); folder != NULL; folder = strtok_r(NULL, ":", &save)) {
 		snprintf(path, sizeof path, "%s/%s", folder, file);
-		if (access(path, X_OK) == 0)
+		if (look_at_file(may_execute, path))
 			break;
 	}
 	free(copy);

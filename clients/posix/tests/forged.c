@@ -8,10 +8,12 @@
  *   flood N HEX the same message so many times
  *   pass HEX    with descriptors
  *   hear        an answer is read, if there is one
+ *   deaf        it doesn't end any more when it is told to
  *   use N       from now on another one of the sockets: the last is the newest
  *   shut, close, cover   no more is said on it; it is closed, or another file gets its number
  *   fork, clone, thread  the rest is said twice: by a child, by one that the runtime knows nothing of, by a thread
  *   trace       the rest is said by a child that this process debugs
+ *   child       a child that waits, and says nothing; described: one with a process descriptor
  *   exec        the rest is said by another image
  *   call N      a call of the program's
  *   rest MS     nothing
@@ -19,6 +21,7 @@
  *   control HEX  the server of all runs says it on its socket, before the runtime begins
  *   control_later N HEX  a child of that server says it N times */
 #include <sys/types.h>
+#include <sys/procdesc.h>
 #include <sys/ptrace.h>
 #include <sys/socket.h>
 #include <sys/wait.h>
@@ -33,12 +36,13 @@
 #include <unistd.h>
 
 enum { LINES = 1024, LINE = 1 << 18, FIRST = 1000, LAST = 4096, ANSWER_MS = 300 };
-enum { HOST_CLOSE = 3, HOST_POLL = 7, HOST_DUP2 = 33, HOST_GETPID = 39, HOST_CLONE = 56, HOST_GETTID = 186 };
+enum { HOST_CLOSE = 3, HOST_POLL = 7, HOST_DUP2 = 33, HOST_GETPID = 39, HOST_CLONE = 56, HOST_GETTID = 186, HOST_EXIT_GROUP = 231 };
 
 static char *lines[LINES];
 static int n_lines;
 static char *program, *script;
 static __thread int chosen = -1; /* of the sockets; -1 for the newest */
+static int deaf;
 
 /* ---- calls of the host's kernel, past the runtime and its filter */
 
@@ -136,8 +140,13 @@ hear(int fd, int patience)
 	char text[16384];
 	struct pollfd ready = {fd, POLLIN, 0};
 
-	if (host(HOST_POLL, (long)&ready, 1, patience) > 0 && recv(fd, text, sizeof(text), MSG_DONTWAIT) == 0)
+	if (host(HOST_POLL, (long)&ready, 1, patience) <= 0)
+		return;
+	ssize_t got = recv(fd, text, sizeof(text), MSG_DONTWAIT);
+	if (got == 0)
 		_exit(3); /* the broker has left */
+	if (!deaf && got == 3 && (memcmp(text, "die", 3) == 0 || memcmp(text, "end", 3) == 0))
+		host(HOST_EXIT_GROUP, 0, 0, 0);
 }
 
 /* ---- what else a script does */
@@ -159,6 +168,16 @@ begin_thread(int line)
 
 	if (pthread_create(&thread, NULL, in_thread, (void *)(long)line) == 0)
 		pthread_detach(thread);
+}
+
+static void
+begin_child(int is_described)
+{
+	int fd;
+
+	if ((is_described ? pdfork(&fd, 0) : fork()) == 0)
+		for (;;)
+			pause();
 }
 
 /* The child's stops are looked at, as far as the model allows it. */
@@ -228,6 +247,8 @@ do_line(const char *line, int next)
 		say(fd, rest, 1, 1);
 	else if (strcmp(word, "hear") == 0)
 		hear(fd, 0);
+	else if (strcmp(word, "deaf") == 0)
+		deaf = 1;
 	else if (strcmp(word, "use") == 0)
 		chosen = atoi(rest);
 	else if (strcmp(word, "shut") == 0)
@@ -238,6 +259,8 @@ do_line(const char *line, int next)
 		host(HOST_DUP2, open("/dev/null", O_RDWR), fd, 0);
 	else if (strcmp(word, "fork") == 0)
 		fork();
+	else if (strcmp(word, "child") == 0 || strcmp(word, "described") == 0)
+		begin_child(*word == 'd');
 	else if (strcmp(word, "clone") == 0)
 		host_fork();
 	else if (strcmp(word, "thread") == 0)

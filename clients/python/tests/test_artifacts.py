@@ -1,4 +1,4 @@
-"""What failed tests leave: a folder for each, with any name, in one process and under xdist.
+"""What failed tests leave: files for each, with any name, in one process and under xdist.
 
     python3 -m pytest -p tracehost.pytest_plugin test_artifacts.py
 """
@@ -50,14 +50,22 @@ def runs(tmp_path: pathlib.Path) -> Runs:
     return run
 
 
-def folders(tmp_path: pathlib.Path) -> list[pathlib.Path]:
+def files(tmp_path: pathlib.Path) -> list[pathlib.Path]:
     return sorted(path for path in (tmp_path / "left").iterdir() if path.name != ".hypothesis")
 
 
-def steps(folder: pathlib.Path) -> int:
+def scenarios(tmp_path: pathlib.Path) -> list[pathlib.Path]:
+    return [path for path in files(tmp_path) if path.suffix == ".json"]
+
+
+def kinds(tmp_path: pathlib.Path) -> list[str]:
+    """What the files of the only test are called after its name."""
+    return [re.sub(r"^test_suite\.test_one-[0-9a-f]{12}", "", path.name) for path in files(tmp_path)]
+
+
+def steps(scenario: pathlib.Path) -> int:
     """How many steps are left; the program prints their lines again."""
-    scenario = folder / "session.json"
-    subprocess.run([named_program(), scenario, "--expect", folder / "session.out"], check=True)
+    subprocess.run([named_program(), scenario, "--expect", scenario.with_suffix(".out")], check=True)
     return len(json.loads(scenario.read_text())["steps"])
 
 
@@ -77,7 +85,7 @@ class TestFollowForkThroughSeveralGenerationsOfProcessesThatAreTracedByOneDebugg
 def test_64_tests_whose_names_begin_alike(runs: Runs, tmp_path: pathlib.Path, words: tuple[str, ...]) -> None:
     name = "integration/debuggers/of/some/deep/folder/test_follow_forks_of_a_debugger_with_threads.py"
     text = runs(LONG, *words, name=name)
-    assert sorted(map(steps, folders(tmp_path))) == list(range(1, 65))
+    assert sorted(map(steps, scenarios(tmp_path))) == list(range(1, 65))
     assert len({line for line in text.splitlines() if line.startswith("scenario: ")}) == 64
 
 
@@ -94,9 +102,9 @@ def test_s(tracehost, name):
 @pytest.mark.parametrize("words", workers)
 def test_odd_names(runs: Runs, tmp_path: pathlib.Path, words: tuple[str, ...]) -> None:
     text = runs(ODD, *words)
-    assert [steps(folder) for folder in folders(tmp_path)] == [1] * 11
-    assert text.count("session.html") == 11
-    assert all(name.name.isascii() and len(name.name) <= 100 for name in folders(tmp_path))
+    assert [steps(scenario) for scenario in scenarios(tmp_path)] == [1] * 11
+    assert len(re.findall(r"^page: .*\.html$", text, re.MULTILINE)) == 11
+    assert all(file.name.isascii() and len(file.name) <= 100 for file in files(tmp_path))
 
 
 def test_odd_names_without_artifacts(tmp_path: pathlib.Path) -> None:
@@ -105,7 +113,7 @@ def test_odd_names_without_artifacts(tmp_path: pathlib.Path) -> None:
     environment = {**os.environ, "PYTHONPATH": str(CLIENT)}
     base = tmp_path / "base"
     subprocess.run([*command, f"--basetemp={base}"], cwd=tmp_path, env=environment, stdout=subprocess.DEVNULL)
-    assert len({path.resolve() for path in base.glob("*/session.html")}) == 11
+    assert len({path.resolve() for path in base.glob("tracehost/test_suite.test_s*.html")}) == 11
 
 
 def test_failures_of_fixtures(runs: Runs, tmp_path: pathlib.Path) -> None:
@@ -131,22 +139,23 @@ def test_teardown(tidied):
     tidied.user(1001).spawn()
 """
     )
-    by_name = {folder.name.rsplit("test_", 1)[1]: steps(folder) for folder in folders(tmp_path)}
+    by_name = {path.name.split("test_")[2].split("-")[0]: steps(path) for path in scenarios(tmp_path)}
     assert by_name == {"setup": 1, "teardown": 2}
-    assert text.count("scenario: ") == 2 and text.count("session.html") == 2
+    assert text.count("scenario: ") == 2 and len(re.findall(r"^page: .*\.html$", text, re.MULTILINE)) == 2
 
 
 def test_stale_files_go(runs: Runs, tmp_path: pathlib.Path) -> None:
     """A page is that of the run: none is left of a test that passes now, or starts no session."""
     suite = "def test_one(new_tracehost):\n    new_tracehost().user(1001).spawn()\n    assert {}\n"
+    left = tmp_path / "left"
     runs(suite.format("False"))
-    (folder,) = folders(tmp_path)
-    assert sorted(path.name for path in folder.iterdir()) == ["session.html", "session.json", "session.out"]
-    (folder / "mine.txt").write_text("a file of somebody else")
+    assert kinds(tmp_path) == [".html", ".json", ".out"]
+    (left / "mine.txt").write_text("a file of somebody else")
     runs(suite.format("True"), status=0)
-    assert sorted(path.name for path in folder.iterdir()) == ["mine.txt", "session.json", "session.out"]
+    assert [path.name for path in files(tmp_path)] == ["mine.txt"]
+    runs(suite.format("False"))
     runs("def test_one(new_tracehost): pass\n", status=0)
-    assert [path.name for path in folder.iterdir()] == ["mine.txt"]
+    assert [path.name for path in files(tmp_path)] == ["mine.txt"]
 
 
 def test_open_sessions_are_closed_at_the_end_of_a_test(runs: Runs) -> None:
@@ -187,9 +196,9 @@ def test_one(tracehost):
     assert False
 """
     )
-    (folder,) = folders(tmp_path)
-    assert f"page:     none (viewer/make: {folder}/session.html: File too large)" in text
-    assert sorted(path.name for path in folder.iterdir()) == ["session.json", "session.out"] and steps(folder) == 1
+    (scenario,) = scenarios(tmp_path)
+    assert f"page:     none (viewer/make: {scenario.with_suffix('.html')}: File too large)" in text
+    assert kinds(tmp_path) == [".json", ".out"] and steps(scenario) == 1
 
 
 def test_a_second_session_of_a_name(runs: Runs, tmp_path: pathlib.Path) -> None:
@@ -207,8 +216,8 @@ def test_two(new_tracehost):
     assert False
 """
     )
-    (folder,) = folders(tmp_path)
-    assert steps(folder) == 3
+    (scenario,) = scenarios(tmp_path)
+    assert steps(scenario) == 3
 
 
 def test_the_page_has_the_test_and_its_assertion(runs: Runs, tmp_path: pathlib.Path) -> None:
@@ -224,8 +233,8 @@ def test_two(tracehost):
 """
     )
     shown = []
-    for folder in folders(tmp_path):
-        page = (folder / "session.html").read_text()
+    for scenario in scenarios(tmp_path):
+        page = scenario.with_suffix(".html").read_text()
         data = page.split('id="embedded">', 1)[1].split("</script>", 1)[0]
         page_of = json.loads(html.unescape(data))
         failure = page_of["failure"]
@@ -296,7 +305,7 @@ def test_one(monkeypatch, request):
     assert False
 """
     )
-    assert [steps(folder) for folder in folders(tmp_path)] == [1]
+    assert [steps(scenario) for scenario in scenarios(tmp_path)] == [1]
 
 
 def test_the_folder_of_the_environment(tmp_path: pathlib.Path) -> None:
@@ -304,8 +313,8 @@ def test_the_folder_of_the_environment(tmp_path: pathlib.Path) -> None:
     command = [sys.executable, "-m", "pytest", "-p", "tracehost.pytest_plugin", "-p", "no:cacheprovider", "-q"]
     environment = {**os.environ, "PYTHONPATH": str(CLIENT), "TRACEHOST_ARTIFACTS": "left"}
     subprocess.run(command, cwd=tmp_path, env=environment, stdout=subprocess.DEVNULL)
-    (folder,) = folders(tmp_path)
-    assert steps(folder) == 1
+    (scenario,) = scenarios(tmp_path)
+    assert steps(scenario) == 1
 
 
 FULL = """
@@ -331,7 +340,7 @@ def test_a_full_disk_changes_no_outcome(runs: Runs, tmp_path: pathlib.Path) -> N
     assert "1 failed, 1 passed" in said
     assert "assert 1040 == 0" in said
     assert ": not recorded from step " in said
-    assert {1 <= steps(folder) < 40 for folder in folders(tmp_path)} == {True}
+    assert [1 <= steps(scenario) < 40 for scenario in scenarios(tmp_path)] == [True]
 
 
 @pytest.mark.parametrize("folder", ["/dev/null/nowhere", "/dev/null", "/proc/nowhere"])
@@ -365,7 +374,7 @@ def test_fails(tracehost):
     assert "1 failed, 2 passed" in said and "AssertionError: the test's own" in said
     assert re.search(rf"^\S*test_suite\.py::test_passes: not recorded: [A-Za-z]+Error: .*{folder}", said, re.MULTILINE)
     assert re.search(rf"^not recorded: [A-Za-z]+Error: .*{folder}", said, re.MULTILINE)
-    assert "session.html" not in said
+    assert "scenario:" not in said and "page:" not in said
 
 
 # ---- searches
@@ -409,11 +418,11 @@ def test_a_search_that_fails_leaves_its_trace(tmp_path: pathlib.Path, runs: Runs
     """A limit is a failure too. A test that passes leaves nothing."""
     said = runs(SEARCHES, *words)
     assert "2 failed, 1 passed" in said and "LimitReached: not all interleavings were searched: 3 states is the limit" in said
-    (left,) = (folder for folder in folders(tmp_path) if (folder / "session.json").exists())
-    assert "test_finds" in left.name and {file.name for file in left.iterdir()} == {"session.json", "session.out", "session.html"}
+    (left,) = scenarios(tmp_path)
+    assert "test_finds" in left.name and [file.suffix for file in files(tmp_path)] == [".html", ".json", ".out"]
     trace = [line for line in said.splitlines() if re.match(r"E +\d+ (debug|run): ", line)]
     assert trace and steps(left) == 2 + len(trace)
-    assert f"page:     {left / 'session.html'}" in said
+    assert f"page:     {left.with_suffix('.html')}" in said
 
 
 HALF_TRIED = """

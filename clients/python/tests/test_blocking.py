@@ -4,6 +4,7 @@ from __future__ import annotations
 
 import os
 import pathlib
+import subprocess
 import sys
 import tempfile
 import threading
@@ -109,6 +110,62 @@ class Threads(unittest.TestCase):
         self.host.close()
         waiter.join(60)
         self.assertEqual(len(ended), 1)
+
+
+ALONE = """
+import os, signal, sys, threading, time
+from tracehost import *
+
+host = Host(transport=sys.argv[1])
+user = host.user(1001)
+debugger, target = user.process(user.spawn()), user.spawn()
+debugger.ptrace(Request.PT_ATTACH, target.pid)
+if sys.argv[2] == "knows":
+    debugger.wait4()
+
+def goes_on(*ignored):
+    debugger.ptrace(Request.PT_CONTINUE, target.pid)
+    user.turn(target.tid, Raise(Signal.SIGSTOP))
+    user.turn(target.tid, Compute())
+
+if sys.argv[3] == "handler":
+    signal.signal(signal.SIGALRM, goes_on)
+    signal.setitimer(signal.ITIMER_REAL, 0.2)
+elif sys.argv[3] == "thread":
+    threading.Timer(0.2, goes_on).start()
+elif sys.argv[3] == "raw thread":
+    import _thread
+    _thread.start_new_thread(lambda: (time.sleep(0.2), goes_on()), ())
+try:
+    if sys.argv[2] == "knows":
+        print(describe(debugger.wait4(block=True)))
+    else:
+        user.turn(target.tid, Compute(), block=True)
+except TimeoutError as error:
+    print(error)
+"""
+
+
+class OnlyThread(unittest.TestCase):
+    """A sleep that nothing can end raises at once."""
+
+    def said(self, *words: str) -> str:
+        environment = {**os.environ, "PYTHONPATH": str(pathlib.Path(__file__).resolve().parents[1])}
+        command = [sys.executable, "-c", ALONE, *words]
+        return subprocess.run(command, env=environment, stdout=subprocess.PIPE, text=True, timeout=300, check=True).stdout
+
+    def test_nobody_can_wake_it(self) -> None:
+        for transport in ("library", "pipe"):
+            said = self.said(transport, "knows", "nobody")
+            endless = "deadlock: it would sleep for ever, as there is no other thread"
+            self.assertEqual(said, f"wait4 of 1000: {endless}; 1001 is stopped by SIGSTOP, which 1000 knows\n")
+            said = self.said(transport, "", "nobody")
+            self.assertEqual(said, f"turn of 100001: {endless}; 1001 is stopped by SIGSTOP, which 1000 does not know yet\n")
+
+    def test_somebody_wakes_it(self) -> None:
+        """Another thread, also one that `threading` doesn't know, or the handler of a signal."""
+        for waker in ("thread", "raw thread", "handler"):
+            self.assertEqual(self.said("library", "knows", waker), "1001 stopped SIGSTOP\n", waker)
 
 
 class Turns(unittest.TestCase):

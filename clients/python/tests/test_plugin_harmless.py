@@ -46,13 +46,14 @@ def runs(tmp_path: pathlib.Path) -> Runs:
 
 def pages(tmp_path: pathlib.Path) -> list[str]:
     """The tests that have left a page."""
-    return sorted(page.parent.name.rsplit("test_", 1)[1] for page in (tmp_path / "left").glob("*/session.html") if page.is_file())
+    left = (tmp_path / "left").glob("test_suite.test_*.html")
+    return sorted({page.name.split("test_")[2].split("-")[0] for page in left if page.is_file()})
 
 
 # ---- a test that fails, and the one after it
 
 SUITE = """
-import builtins, io, os, pathlib, pytest, resource, shutil, subprocess, sys, tempfile
+import builtins, io, os, pathlib, pytest, resource, shutil, subprocess, sys, tempfile, weakref
 
 class Unprintable(Exception):
     def __str__(self):
@@ -95,6 +96,7 @@ BODIES = {
     "sys.exit for shutil": 'monkeypatch.setattr(shutil, "which", sys.exit)',
     "the program": 'monkeypatch.setenv("TRACEHOST", "a\\udce9"); monkeypatch.setenv("PATH", "")',
     "standard error": 'monkeypatch.setattr(sys, "stderr", None)',
+    "a patch that stays": "weakref.WeakSet = failing",
 }
 
 
@@ -130,17 +132,20 @@ def test_what_stays_after_a_test_is_told(runs: Runs, tmp_path: pathlib.Path, bod
 
 
 def test_files_of_an_earlier_run_that_stay(runs: Runs, tmp_path: pathlib.Path) -> None:
-    """A folder in place of the record: it can't be removed, nothing is recorded, and both are told."""
+    """A folder in place of the record: it can't be removed, no record gets its name, and both are told."""
     suite = "def test_one(tracehost):\n    tracehost.user(1001).spawn()\n    assert {}\n"
     runs(suite.format(0))
-    (scenario,) = (tmp_path / "left").glob("*/session.json")
+    (scenario,) = (tmp_path / "left").glob("*.json")
     scenario.unlink()
     scenario.mkdir()
     said = runs(suite.format(1), status=0)
-    assert re.search(r"^test_suite\.py::test_one: a file of an earlier run is left: .*session\.json'$", said, re.MULTILINE)
-    assert re.search(r"^test_suite\.py::test_one: not recorded: .*session\.json'$", said, re.MULTILINE)
+    assert re.search(rf"^test_suite\.py::test_one: a file of an earlier run is left: .*{scenario}'$", said, re.MULTILINE)
+    assert not [*(tmp_path / "left").glob("*.json.*")]
     said = runs(suite.format(0))
-    assert "a file of an earlier run is left: " in said and "page:" not in said
+    assert "page:" not in said
+    assert re.search(rf"^the record stays {scenario}\.\d+: Is a directory$", said, re.MULTILINE)
+    (stays,) = (tmp_path / "left").glob("*.json.*")
+    assert str(stays) in said
 
 
 def test_a_program_that_hangs_is_killed_at_the_end_of_its_test(runs: Runs, tmp_path: pathlib.Path) -> None:
@@ -162,9 +167,9 @@ def test_one(new_tracehost):
     assert time.monotonic() - began < 150  # 200 one after another
 
 
-def test_an_error_in_an_error(runs: Runs) -> None:
-    """What is said of the first one reads no files."""
-    said = runs(
+UNRECORDED = {  # a suite, the folder of its artifacts, and what is said
+    # what is said of the first one reads no files
+    "an error in an error": (
         """
 import os, sys
 
@@ -174,10 +179,34 @@ def test_one(monkeypatch, new_tracehost):
         host = new_tracehost()
     assert host.user(1001).spawn().pid == 1000
 """,
-        "--tracehost-artifacts=/dev/null/nowhere",
-        status=0,
-    )
-    assert "1 passed" in said and "test_one: not recorded: " in said
+        "/dev/null/nowhere",
+        ["1 passed", "test_one: not recorded: "],
+    ),
+    # a test replaces it before its session begins; pytest's folder is there for the tests after it
+    "another file system": (
+        """
+import pathlib, pytest
+
+@pytest.fixture
+def no_folders(monkeypatch):
+    monkeypatch.setattr(pathlib.Path, "mkdir", lambda *words, **settings: None)
+
+def test_first(no_folders, tracehost):
+    assert tracehost.user(1001).spawn().pid == 1000
+
+def test_second(tmp_path, tracehost):
+    (tmp_path / "file").write_text("x")
+""",
+        "",
+        ["2 passed", "test_first: not recorded: FileNotFoundError"],
+    ),
+}
+
+
+@pytest.mark.parametrize("suite, folder, told", UNRECORDED.values(), ids=UNRECORDED)
+def test_what_is_not_recorded_is_told(runs: Runs, suite: str, folder: str, told: list[str]) -> None:
+    said = runs(suite, f"--tracehost-artifacts={folder}", status=0)
+    assert all(words in said for words in told), said
 
 
 def test_a_session_that_is_longer_than_a_scenario(runs: Runs) -> None:
@@ -192,29 +221,7 @@ def test_one(monkeypatch, tracehost):
         "-Werror",
         status=0,
     )
-    assert "session.json: the recording ends after 3 steps, as no scenario may be longer" in said
-
-
-def test_another_file_system(runs: Runs) -> None:
-    """A test replaces it before its session begins. pytest's folder is there for the tests after it."""
-    said = runs(
-        """
-import pathlib, pytest
-
-@pytest.fixture
-def no_folders(monkeypatch):
-    monkeypatch.setattr(pathlib.Path, "mkdir", lambda *words, **settings: None)
-
-def test_first(no_folders, tracehost):
-    assert tracehost.user(1001).spawn().pid == 1000
-
-def test_second(tmp_path, tracehost):
-    (tmp_path / "file").write_text("x")
-""",
-        "--tracehost-artifacts=",
-        status=0,
-    )
-    assert "2 passed" in said and "test_first: not recorded: FileNotFoundError" in said
+    assert re.search(r"test_suite\.test_one-\w+\.json: the recording ends after 3 steps, as no scenario may be longer", said)
 
 
 def test_descriptors_that_a_test_closes(runs: Runs) -> None:
@@ -275,7 +282,8 @@ def test_fails(tracehost):
 """
     assert "1 failed, 1 passed, 4 rerun" in runs(suite, "--reruns=2", "--junit-xml=junit.xml")
     assert pages(tmp_path) == ["fails"]
-    (page,) = (tmp_path / "left").glob("*/session.html")
+    (page,) = (tmp_path / "left").glob("*.html")
+    assert len([*(tmp_path / "left").glob("test_suite*")]) == 3
     assert "attempt 3" in page.read_text() and "attempt 2" not in page.read_text()
     assert (tmp_path / "junit.xml").read_text().count("tracehost_page") == 1
 
@@ -300,12 +308,13 @@ def test_of_each(new_tracehost, subtests):
             assert n == 2
 """
     )
-    left = {path.name: path for path in (tmp_path / "left").glob("*/*.html")}
-    assert pages(tmp_path) == ["of_each", "shared"] and sorted(left) == ["session-2.html", "session.html"]
-    shared, of_each = (next((tmp_path / "left").glob(f"*test_{name}/session.html")).read_text() for name in ("shared", "of_each"))
-    assert '"step": 2' in shared and '"step": 3' in of_each and '"step": 2' in left["session-2.html"].read_text()
-    for name in left.values():
-        assert str(name.relative_to(tmp_path)) in said
+    left = {re.sub(r"^test_suite.test_(\w+)-[0-9a-f]+", r"\1", page.name): page for page in (tmp_path / "left").glob("*.html")}
+    assert sorted(left) == ["of_each-2.html", "of_each.html", "shared.html"]
+    assert '"step": 2' in left["shared.html"].read_text()
+    assert '"step": 3' in left["of_each.html"].read_text() and '"step": 2' in left["of_each-2.html"].read_text()
+    for page in left.values():
+        assert str(page.relative_to(tmp_path)) in said
+        assert page.with_suffix(".json").exists() and page.with_suffix(".out").exists()
 
 
 # ---- what is used in a wrong place

@@ -89,31 +89,31 @@ def report(tmp_path_factory: pytest.TempPathFactory) -> tuple[str, pathlib.Path]
 
 def left(folder: pathlib.Path, test: str) -> list[str]:
     """The lines that a failed test has left; the program prints the same for its scenario, and the page has them."""
-    place = next(folder.glob(f"*{test}"))
-    lines = (place / "session.out").read_text()
-    replayed = subprocess.run([named_program(), place / "session.json"], stdout=subprocess.PIPE, text=True, check=True)
+    (scenario,) = folder.glob(f"test_suite.{test}-*.json")
+    lines = scenario.with_suffix(".out").read_text()
+    replayed = subprocess.run([named_program(), scenario], stdout=subprocess.PIPE, text=True, check=True)
     assert replayed.stdout == lines
-    assert "PT_ATTACH" in (place / "session.html").read_text() or "spawn" in (place / "session.json").read_text()
+    assert "PT_ATTACH" in scenario.with_suffix(".html").read_text() or "spawn" in scenario.read_text()
     return lines.splitlines()
 
 
 def test_a_failed_test_leaves_its_session(report: tuple[str, pathlib.Path]) -> None:
     text, folder = report
     assert left(folder, "test_fails")[-1] == "1001 4 status 1001 4479"
-    place = next(folder.glob("*test_fails"))
-    for name, file in (("scenario", "json"), ("lines", "out"), ("page", "html")):
-        assert re.search(rf"{name}: +{re.escape(str(place))}/session\.{file}\n", text)
-    assert not (next(folder.glob("*test_passes")) / "session.html").exists()
+    (scenario,) = folder.glob("test_suite.test_fails-*.json")
+    for name, kind in (("scenario", "json"), ("lines", "out"), ("page", "html")):
+        assert re.search(rf"{name}: +{re.escape(str(scenario.with_suffix('')))}\.{kind}\n", text)
+    assert not [*folder.glob("*test_passes*")]
 
 
 def test_settings_by_a_mark(report: tuple[str, pathlib.Path]) -> None:
-    scenario = json.loads((next(report[1].glob("*test_settings")) / "session.json").read_text())
+    scenario = json.loads(next(report[1].glob("*test_settings-*.json")).read_text())
     assert scenario["kill_on_debugger_exit"] == 0
 
 
 def test_the_shortest_example_is_left(report: tuple[str, pathlib.Path]) -> None:
     assert len(left(report[1], "test_examples")) == 7
-    assert left(report[1], "TestMachine_runTest") == [f"1001 {n + 1} new {1000 + n} {100000 + n}" for n in range(3)]
+    assert left(report[1], "TestMachine.runTest") == [f"1001 {n + 1} new {1000 + n} {100000 + n}" for n in range(3)]
 
 
 def test_names_in_assertions(report: tuple[str, pathlib.Path]) -> None:
@@ -130,7 +130,8 @@ def test_a_folder_of_pytest(tmp_path: pathlib.Path) -> None:
     environment = {**os.environ, "PYTHONPATH": str(CLIENT)}
     base = tmp_path / "base"
     subprocess.run([*command, f"--basetemp={base}", "test_one.py"], cwd=tmp_path, env=environment, check=False)
-    assert {path.resolve().name for path in base.glob("*/session.html")} == {"session.html"}
+    left = [path.name for path in base.glob("tracehost/*")]
+    assert sorted(re.sub(r"^test_one\.test_one-[0-9a-f]{12}\.", "", name) for name in left) == ["html", "json", "out"]
 
 
 def test_descriptions() -> None:

@@ -11,7 +11,7 @@ from collections.abc import Callable, Iterable, Mapping, Sequence
 from types import FrameType, TracebackType
 from typing import Any, Literal, NoReturn, Optional, TypeVar, Union, overload
 
-from . import forks
+from . import deadlock, forks
 from .blocking import Progress, is_running
 from .checks import number_of_process, of_kind, whole, without_foreign_signals, word
 from .errors import Held, ProtocolError, RecordingFailed, RefusedStep, SessionBusy, SessionClosed
@@ -287,7 +287,17 @@ class Host:
             result, seen = self._alone(self._call_and_see, name, arguments, quiet)
             if result != quiet:
                 return result
+            if deadline is None and deadlock.is_alone():
+                raise TimeoutError(
+                    f"{what}: deadlock: it would sleep for ever, as there is no other thread" + self._stops(arguments[0])
+                )
             self._progress.sleep(arguments[0], seen, deadline, what)
+
+    def _stops(self, uid: int) -> str:
+        try:
+            return deadlock.sentence(self._alone(self._view, uid).processes)
+        except (NotImplementedError, ProtocolError, MemoryError, ValueError):  # as over a pipe without the library
+            return ""
 
     def _view(self, uid: int) -> View:
         processes, lwps = self._rows(uid)
@@ -417,8 +427,8 @@ class Process:
         """wait4(2): the status of a child or tracee, `which` by number or -1 for any; ``Waited(0, 0)`` for nothing.
 
         With `block`, but not with `WaitOption.WNOHANG`, the call sleeps until another thread's step brings
-        something to collect. It raises TimeoutError after `timeout` seconds. ECHILD if the caller has none that
-        `which` names; EINVAL if `which` is 0 or below -1.
+        something to collect. It raises TimeoutError after `timeout` seconds, or at once if nothing could end it. ECHILD
+        if the caller has none that `which` names; EINVAL if `which` is 0 or below -1.
         """
         asked = whole("options", options, WaitOption)
         if asked:

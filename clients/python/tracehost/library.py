@@ -12,12 +12,11 @@ from typing import Any, Optional
 
 from . import checkout, packaged
 from .errors import SessionClosed
+from .names import MOST_LWPS as MOST_LWPS
+from .names import MOST_PROCESSES as MOST_PROCESSES
 
 # what a call returns
 ANSWERED, NOT_OPEN, NO_MEMORY, INVALID, NO_TEXT, TOO_MANY = range(6)
-
-# what a user may have (docs/FORMAT.md, section 2)
-MOST_PROCESSES, MOST_LWPS = 250, 1000
 
 _NAME = "libtracehost.so"
 _ROOM = 1 << 16
@@ -37,6 +36,13 @@ class Words(ctypes.Structure):
         return [(name, c_uint32) for name in names.split()]
 
 
+class CRule(Words):
+    """``struct tracehost_rule``."""
+
+    _fields_ = Words.fields("flags signal decision passed")
+
+
+# tools/format structs
 class Reply(Words):
     """``struct tracehost_reply``."""
 
@@ -60,15 +66,9 @@ class Reply(Words):
     count: int
     stop_pid: int
     _fields_ = Words.fields(
-        "kind pid lwp number status signal event flags mask pending child code has_handler handler decision passed"
-        " error count stop_pid"
+        "kind pid lwp number status signal event flags mask pending child code has_handler handler decision passed error"
+        " count stop_pid"
     )
-
-
-class CRule(Words):
-    """``struct tracehost_rule``."""
-
-    _fields_ = Words.fields("flags signal decision passed")
 
 
 class CProcess(Words):
@@ -106,6 +106,9 @@ class CLwp(Words):
     child: int
     code: int
     _fields_ = Words.fields("lwp pid mode call argument vfork_child suspended stepping blocked pending due flags child code")
+
+
+# end
 
 
 RawRows = tuple["Array[CProcess]", "Array[CLwp]"]

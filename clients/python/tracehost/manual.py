@@ -6,7 +6,7 @@ import difflib
 import errno
 import os
 
-from .names import Signal
+from .names import MOST_HANDLERS, MOST_LWPS, MOST_PROCESSES, Signal
 
 # tools/format usage
 _STEPS = """\
@@ -80,7 +80,7 @@ _ERRNOS = {
     "ECHILD": "the caller has no child and traces no process that the wait names",
     "EBUSY": "another process traces the target, or its stop isn't collected yet, or it is traced already",
     "EINVAL": "a number is out of range, the act doesn't go with the LWP's call, or tracers would make a cycle",
-    "EAGAIN": "the user has 250 processes, 1000 LWPs or 64 handlers",
+    "EAGAIN": f"the user has {MOST_PROCESSES} processes, {MOST_LWPS} LWPs or {MOST_HANDLERS} handlers",
 }
 _DISCARDED = {"SIGURG", "SIGCONT", "SIGCHLD", "SIGIO", "SIGWINCH", "SIGINFO"}
 _STOPS = {"SIGSTOP", "SIGTSTP", "SIGTTIN", "SIGTTOU"}

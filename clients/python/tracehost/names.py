@@ -70,6 +70,7 @@ class LwpEvent(enum.IntEnum):
     PL_EVENT_SIGNAL = 1
 
 
+# tools/format options and signals
 class WaitOption(enum.IntFlag):
     """Options of wait4(2), with the bits of <sys/wait.h>. No wait blocks, so WNOHANG changes nothing."""
 
@@ -114,6 +115,9 @@ class Signal(enum.IntEnum):
     SIGUSR2 = 31
 
 
+# end
+
+
 # tools/format names
 class Action(enum.Enum):
     """What a process does with a signal, as ``sa_handler`` of sigaction(2) says it."""
@@ -145,6 +149,23 @@ class Decision(enum.Enum):
     KILL = "kill"
 
 
+# end
+
+
+# limits of a user, and first and last numbers
+# tools/format limits
+FIRST_USER = 1001
+LAST_USER = 1064
+LAST_SIGNAL = 31
+MOST_PROCESSES = 250
+MOST_LWPS = 1000
+MOST_HANDLERS = 64
+MOST_RULES = 16
+FIRST_PROCESS = 1000
+PROCESS_NUMBERS = 1000
+LAST_PROCESS = 99999
+FIRST_LWP = 100000
+LWP_NUMBERS = 4000
 # end
 
 

@@ -2,27 +2,65 @@
 
 from __future__ import annotations
 
+from collections.abc import Callable
 from concurrent.futures import ThreadPoolExecutor
-from typing import TYPE_CHECKING, Optional
+from typing import TYPE_CHECKING, Any, Optional, TypeVar
 
 import pytest
 
-from .sessions import HEAD, Failure, Told, said_by
-from .viewing import NoPage, shown, view
+from .records import Folder
+from .sessions import HEAD, Failure, Told, add_to, message_of
 
 if TYPE_CHECKING:
     from _pytest.terminal import TerminalReporter
 
 _AT_ONCE = 4
+_Hook = TypeVar("_Hook", bound=Callable[..., None])
+optional_hook: Callable[[_Hook], _Hook] = pytest.hookimpl(optionalhook=True)  # untyped in some versions of pytest
+"""Of a plugin that may not be there."""
+_last_hook: Callable[[_Hook], _Hook] = pytest.hookimpl(trylast=True)
 
 
 class Pages(Told):
-    """What the reports of a run tell, those of its workers too."""
+    """What the reports of a run tell, those of its workers too, and what is left by processes that have died."""
 
-    def __init__(self) -> None:
+    def __init__(self, folder: Callable[[], Optional[Folder]], stem: Callable[[str], str]) -> None:
+        """The `stem` is that of the files of a test with this node ID."""
         super().__init__()
+        self._folder, self._stem = folder, stem
         self._failures: dict[tuple[object, str], dict[str, Failure]] = {}
-        self._reports: list[pytest.TestReport] = []
+        self._reports: dict[str, list[pytest.TestReport]] = {}
+
+    @_last_hook
+    def pytest_sessionstart(self, session: pytest.Session) -> None:
+        """What an earlier run has left is told now, since its tests take it away."""
+        terminal: Any = session.config.pluginmanager.get_plugin("terminalreporter")
+        for line in self._left_by_the_dead() if terminal is not None else []:
+            terminal.write_line(line)
+
+    def _left_by_the_dead(self) -> list[str]:
+        with self.guarded("records of an earlier run"):
+            folder = self._folder()
+            return (
+                []
+                if folder is None
+                else [f"{HEAD}: left by a test that ended its process: {path}" for path in folder.left_by_the_dead()]
+            )
+        return []
+
+    @optional_hook
+    def pytest_handlecrashitem(self, crashitem: str, report: pytest.TestReport) -> None:
+        """A worker of xdist has died in this test: its record is that of a failure."""
+        with self.guarded("the record of a crash"):
+            folder = self._folder()
+            scenarios = [] if folder is None else folder.adopt(self._stem(crashitem))
+            add_to(report, [Failure(str(scenario), crashitem, message_of(report), None) for scenario in scenarios], [])
+
+    def interrupted(self, failures: list[Failure]) -> None:
+        """The run has ended within a test, which makes no report."""
+        for failure in failures:
+            self._failures.setdefault((None, failure.test), {})[failure.scenario] = failure
+            self.told += f"{failure.test}: interrupted\n{failure}".splitlines()
 
     def pytest_runtest_logreport(self, report: pytest.TestReport) -> None:
         with self.guarded("a report"):
@@ -35,8 +73,7 @@ class Pages(Told):
             for words in left["failures"]:
                 failure = Failure(*words)
                 self._failures.setdefault(of_test, {}).setdefault(failure.scenario, failure)
-            if left["failures"]:
-                self._reports.append(report)
+                self._reports.setdefault(failure.scenario, []).append(report)
             if not report.failed:  # pytest doesn't show its sections
                 self.told += [f"{report.nodeid}: {line}" for line in left["told"]]
 
@@ -48,17 +85,18 @@ class Pages(Told):
                     self._correct(failure, why)
 
     def pytest_terminal_summary(self, terminalreporter: TerminalReporter) -> None:
-        if self.told:
+        told = self.told + self._left_by_the_dead()
+        if told:
             terminalreporter.section(HEAD)
-            for line in self.told:
+            for line in told:
                 terminalreporter.write_line(line)
 
     def _correct(self, failure: Failure, why: str) -> None:
         """The reports that name this page say why there is none."""
-        for report in self._reports:
+        for report in self._reports.get(failure.scenario, []):
             for at, (title, text) in enumerate(report.sections):
                 if title == HEAD:
-                    report.sections[at] = (title, text.replace(f"page:     {failure.page()}", f"page:     none ({why})"))
+                    report.sections[at] = (title, failure.without_page(text, why))
 
 
 def _make(failures: list[Failure]) -> list[Optional[str]]:
@@ -66,20 +104,10 @@ def _make(failures: list[Failure]) -> list[Optional[str]]:
     made: list[Optional[str]] = []
     pool = ThreadPoolExecutor(_AT_ONCE)
     try:
-        for why in pool.map(_make_one, failures):
+        for why in pool.map(Failure.make_page, failures):
             made.append(why)
     except KeyboardInterrupt:  # the run's summary is still to come
         pass
     finally:
         pool.shutdown(cancel_futures=True)
     return made + ["interrupted"] * (len(failures) - len(made))
-
-
-def _make_one(failure: Failure) -> Optional[str]:
-    try:
-        view(failure.scenario, title=failure.test, failed=failure.test, message=failure.message, step=failure.step)
-    except (OSError, NoPage) as error:
-        return shown(str(error))
-    except BaseException as error:
-        return shown(said_by(error))
-    return None

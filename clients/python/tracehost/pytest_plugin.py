@@ -7,10 +7,10 @@
 - The fixture `explore` is `tracehost.explore.explore`, but a failure is one of the test, and leaves its trace as a session,
   and what is vacuous in a pass is told by warnings. ``@pytest.mark.interleavings(limit=10**6)`` gives it options.
 - An assertion that compares replies shows statuses, signals and flags by name.
-- A test that fails, in a fixture too, leaves its scenario, its lines and its page in pytest's temporary folder, or in a
-  folder of its own below the one that ``--tracehost-artifacts``, or the environment's ``TRACEHOST_ARTIFACTS``, names.
-  The report says where, and JUnit's XML has the page as the property ``tracehost_page``. Pages are made at the end of
-  the run, when no test's patches are left.
+- A test that fails, in a fixture too, leaves its scenario, its lines and its page in pytest's temporary folder, or in the
+  one that ``--tracehost-artifacts``, or the environment's ``TRACEHOST_ARTIFACTS``, names. The report says where, and
+  JUnit's XML has the page as the property ``tracehost_page``. Pages are made at the end of the run, when no test's patches
+  are left. A test that passes leaves nothing. The record of one that ends its process is told at the end, or by the next run.
 - The plugin changes no test's outcome. What can't be done, as on a full disk, is told in a section of the test's report,
   or of the summary.
 """
@@ -28,9 +28,10 @@ import pytest
 
 from .host import Host
 from .naming import REPLIES, describe, field_text
-from .pages import Pages
+from .pages import Pages, optional_hook
 from .replies import Waited
-from .sessions import HEAD, Sessions, add_to, folder_name, message_of, readable, said_by
+from .records import Folder, stem_of
+from .sessions import HEAD, Sessions, Told, add_to, message_of, said_by
 
 if TYPE_CHECKING:
     from .explore import Found
@@ -41,15 +42,16 @@ __all__ = ["Explore", "NewHost", "explore", "new_tracehost", "tracehost"]
 _Hook = TypeVar("_Hook", bound=Callable[..., Generator[None, Any, None]])
 _wrapper: Callable[[_Hook], _Hook] = pytest.hookimpl(hookwrapper=True)  # untyped in some versions of pytest
 
-_PAGE = f"{HEAD}_page"
+_PAGE, _PAGES, _BEGAN = f"{HEAD}_page", f"{HEAD}_pages", f"{HEAD}_began"
 _artifacts = pytest.StashKey[Optional[Path]]()
+_folder_of_run = pytest.StashKey[Folder]()
 _sessions_of_item = pytest.StashKey[Sessions]()
 _current: list[pytest.Item] = []
 _set_up: list[Any] = []  # the fixtures that are being set up, each by the one before
 
 
 class NewHost(Protocol):
-    """Starts a `Host` that records as `name` in the test's folder. A further one of that name takes its place."""
+    """Starts a `Host` that records as `name` of the test. A further one of that name takes its place."""
 
     def __call__(self, name: str = "session", **settings: Any) -> Host:
         ...
@@ -76,11 +78,24 @@ def pytest_configure(config: pytest.Config) -> None:
     config.addinivalue_line("markers", "interleavings(**options): options of the searches by the fixture explore")
     named: Optional[str] = config.getoption("--tracehost-artifacts") or os.environ.get("TRACEHOST_ARTIFACTS") or None
     artifacts = None if named is None else Path(named).absolute()  # a test may change the folder that it runs in
+    Told.ending = (KeyboardInterrupt, pytest.exit.Exception)
     config.stash[_artifacts] = artifacts
     if artifacts is not None and _is_usable(artifacts):  # so that a later job finds the same failing examples
         os.environ.setdefault("HYPOTHESIS_STORAGE_DIRECTORY", str(artifacts / ".hypothesis"))
-    if not hasattr(config, "workerinput"):  # the reports of a worker of xdist come to the process that started it
-        config.pluginmanager.register(Pages(), "tracehost_pages")
+    worker: dict[str, Any] = getattr(config, "workerinput", {})
+    if artifacts is not None:
+        config.stash[_folder_of_run] = Folder(artifacts, worker.get(_BEGAN))
+    if not worker:  # the reports of a worker of xdist come to the process that started it
+        pages = Pages(lambda: _folder_in_use(config), lambda node: _stem(config, node))
+        config.pluginmanager.register(pages, _PAGES)
+
+
+@optional_hook
+def pytest_configure_node(node: Any) -> None:
+    """A worker of xdist that begins later is of the same run."""
+    folder = node.config.stash.get(_folder_of_run, None)
+    if folder is not None:
+        node.workerinput[_BEGAN] = folder.began
 
 
 def _is_usable(folder: Path) -> bool:
@@ -133,9 +148,7 @@ def explore(request: pytest.FixtureRequest) -> Explore:
         if not found.passed:
             sessions = _sessions(request.node)
             with sessions.guarded("not recorded"):
-                scenario = sessions.scenario(name)
-                found.save(scenario)
-                sessions.note(scenario)
+                sessions.note(sessions.saved(name, found.save))
             raise AssertionError(str(found)) from found.error
         for said in found.vacuous:
             warnings.warn(said, stacklevel=2)
@@ -178,16 +191,18 @@ def _as_waited(value: object, other: object) -> object:
 
 
 @_wrapper
-def pytest_runtest_protocol(item: pytest.Item) -> Generator[None, None, None]:
-    """Nothing of an earlier run of the test is left."""
-    sessions = _sessions(item)
+def pytest_runtest_protocol(item: pytest.Item) -> Generator[None, Any, None]:
+    """If the run is ended in this test, it leaves what a failure does. A worker leaves it to the process that started it."""
     _current.append(item)
-    artifacts = item.config.stash[_artifacts]
-    if artifacts is not None:
-        with sessions.guarded("files of an earlier run"):
-            sessions.clear(artifacts / folder_name(item.nodeid))
-    yield
+    outcome = yield
     _current.pop()
+    pages: Optional[Pages] = item.config.pluginmanager.get_plugin(_PAGES)
+    if outcome.excinfo is not None and pages is not None:
+        sessions = _sessions(item)
+        with pages.guarded("what the test leaves"):
+            pages.interrupted(sessions.failures(item.nodeid, said_by(outcome.excinfo[1])))
+        sessions.close()
+        pages.told += sessions.take_told()
 
 
 @_wrapper
@@ -195,7 +210,7 @@ def pytest_runtest_setup(item: pytest.Item) -> Generator[None, None, None]:
     """pytest's folder is made before the test replaces the file system: later tests have the same one."""
     if item.config.stash[_artifacts] is None and {"new_tracehost", "explore"} & {*getattr(item, "fixturenames", ())}:
         with _sessions(item).guarded("pytest's folder"):
-            _factory(item).getbasetemp()
+            _factory(item.config).getbasetemp()
     yield
 
 
@@ -235,6 +250,8 @@ def pytest_runtest_makereport(item: pytest.Item) -> Generator[None, Any, None]:
     with sessions.guarded("what the test leaves"):
         if report.failed:
             failures = sessions.failures(item.nodeid, message_of(report))
+    if report.when == "teardown":
+        sessions.end_attempt()
     with sessions.guarded("the report"):
         add_to(report, failures, sessions.take_told() if report.failed or report.when == "teardown" else [])
         pages: list[tuple[str, object]] = [(_PAGE, str(failure.page())) for failure in failures]
@@ -242,27 +259,39 @@ def pytest_runtest_makereport(item: pytest.Item) -> Generator[None, Any, None]:
             properties += [page for page in pages if page not in properties]
         if report.when == "teardown":  # JUnit's XML has the properties of this report
             item.user_properties[:] = [one for one in item.user_properties if one[0] != _PAGE]
-            sessions.end_attempt()
 
 
 def _sessions(item: pytest.Item) -> Sessions:
     """The sessions of a test."""
     sessions = item.stash.get(_sessions_of_item, None)
     if sessions is None:
-        sessions = item.stash[_sessions_of_item] = Sessions(lambda: _folder(item))
+        sessions = item.stash[_sessions_of_item] = Sessions(lambda: _folder(item.config), _stem(item.config, item.nodeid))
     return sessions
 
 
-def _folder(item: pytest.Item) -> Path:
-    """Makes the folder of a test's records."""
-    artifacts = item.config.stash[_artifacts]
-    if artifacts is None:
-        return _factory(item).mktemp(f"tracehost_{readable(item.name)[:80]}")
-    folder = artifacts / folder_name(item.nodeid)
-    folder.mkdir(parents=True, exist_ok=True)
+def _stem(config: pytest.Config, node: str) -> str:
+    """How the names of a test's files begin."""
+    file, _, test = node.partition("::")
+    return stem_of(Path(file).stem, test.replace("::", "."), f"{config.rootpath}/{node}")
+
+
+def _folder(config: pytest.Config) -> Folder:
+    """The folder of the run's records: one that is named, else below pytest's own, which workers have as well."""
+    folder = config.stash.get(_folder_of_run, None)
+    if folder is None:
+        base = _factory(config).getbasetemp()
+        folder = Folder((base.parent if hasattr(config, "workerinput") else base) / HEAD, parents=False)
+        config.stash[_folder_of_run] = folder
     return folder
 
 
-def _factory(item: pytest.Item) -> pytest.TempPathFactory:
-    factory: pytest.TempPathFactory = item.config._tmp_path_factory  # type: ignore[attr-defined]
+def _folder_in_use(config: pytest.Config) -> Optional[Folder]:
+    """That of the run, but pytest's own only if a test, or a worker, has made it."""
+    factory = getattr(config, "_tmp_path_factory", None)
+    is_there = _folder_of_run in config.stash or getattr(factory, "_basetemp", None) is not None
+    return _folder(config) if is_there else None
+
+
+def _factory(config: pytest.Config) -> pytest.TempPathFactory:
+    factory: pytest.TempPathFactory = config._tmp_path_factory  # type: ignore[attr-defined]
     return factory

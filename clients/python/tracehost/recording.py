@@ -90,6 +90,11 @@ class Recording:
             raise RecordingFailed(f"{self.path}: step {self.steps + 1} can't be recorded: {error.strerror}") from error
         self.tell(f"{self.path}: not recorded from step {self.steps + 1} on: {error.strerror}")
 
+    @property
+    def number(self) -> int:
+        """The descriptor of the scenario."""
+        return self._scenario._number
+
     def close(self) -> None:
         """Closes the files. Closing again does nothing more."""
         self._records = False

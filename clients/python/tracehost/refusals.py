@@ -16,13 +16,12 @@ from typing import Any, NamedTuple, Optional
 from .conditions import CALLS, CONDITIONS, DATA_REQUESTS, SIGNAL_REQUESTS, Condition
 from .conditions import Call as CallOfTable
 from .library import CLwp, CProcess, RawRows
-from .names import ALL_EVENTS, Action, Call, EventMask, Request, Signal
+from .names import ALL_EVENTS, LAST_PROCESS, LAST_SIGNAL, Action, Call, EventMask, Request, Signal
 from .rows import LwpMode, ProcessState
 from .steps import Act, Block, Compute, Enter, Leave, Raise
 
-_LAST_SIGNAL, _LAST_PID = 31, 99_999
 _ACTS = (Compute, Raise, Block, Enter, Leave)
-_ACTIONS = (Action.SIG_DFL, Action.SIG_IGN, Action.CATCH)
+_ACTIONS = tuple(Action)
 
 
 class Asked(NamedTuple):
@@ -118,7 +117,7 @@ class Rows:
 
     def process_of(self, number: int) -> int:
         """The process that a target of ptrace(2) names, by its number or an LWP's."""
-        return self._process(number).pid if number <= _LAST_PID else self.owner(number)
+        return self._process(number).pid if number <= LAST_PROCESS else self.owner(number)
 
     def state(self, pid: int) -> int:
         return self._process(pid).state
@@ -215,7 +214,7 @@ def _filled(text: str, asked: Asked) -> str:
 
 def _signal(number: int) -> str:
     """Its name; a number that is none as it was given: -1 is sent as 4294967295."""
-    if 1 <= number <= _LAST_SIGNAL:
+    if 1 <= number <= LAST_SIGNAL:
         return Signal(number).name
     return str(number - (1 << 32) if number >= 1 << 31 else number)
 

@@ -4,7 +4,7 @@ from __future__ import annotations
 
 import errno
 import os
-from collections.abc import Callable, Sequence
+from collections.abc import Callable, Mapping, Sequence
 from typing import Any, NamedTuple, NoReturn, TypeVar, Union
 
 from .errors import ProtocolError
@@ -13,23 +13,6 @@ from .names import EVENTS, STOP_FLAGS, Decision, EventMask, LwpEvent, Request, S
 # the word of a process that was continued, and the status in which this system's os.WIFCONTINUED sees it
 _CONTINUED_WORD = 0x13
 _CONTINUED_STATUS = next((s for s in (_CONTINUED_WORD, 0xFFFF) if os.WIFCONTINUED(s)), _CONTINUED_WORD)
-
-
-class New(NamedTuple):
-    """A process was made, or an LWP of one."""
-
-    pid: int
-    tid: int
-
-    @property
-    def lwp(self) -> int:
-        """As `tid`."""
-        return self.tid
-
-    @property
-    def lwpid(self) -> int:
-        """As `tid`."""
-        return self.tid
 
 
 class Waited(NamedTuple):
@@ -46,6 +29,24 @@ class Waited(NamedTuple):
     def word(self) -> int:
         """The status word as FreeBSD has it. It differs from `status` at most if a process was continued."""
         return _CONTINUED_WORD if self.status == _CONTINUED_STATUS else self.status
+
+
+# tools/format classes
+class New(NamedTuple):
+    """A process was made, or an LWP of one."""
+
+    pid: int
+    tid: int
+
+    @property
+    def lwp(self) -> int:
+        """As `tid`."""
+        return self.tid
+
+    @property
+    def lwpid(self) -> int:
+        """As `tid`."""
+        return self.tid
 
 
 class LwpInfo(NamedTuple):
@@ -192,12 +193,17 @@ class Ended(NamedTuple):
     status: int
 
 
+# end
+
+
 Turned = Union[None, New, Stopped, Caught, Ended]
 
 
 NOTHING = Waited(0, 0)
 # FreeBSD's numbers in errno(2)
+# tools/format errors
 _ERRNOS = {1: "EPERM", 3: "ESRCH", 10: "ECHILD", 12: "ENOMEM", 16: "EBUSY", 22: "EINVAL", 35: "EAGAIN"}
+# end
 
 
 class Answered(Exception):
@@ -236,13 +242,13 @@ def read(words: Sequence[str], reader: Callable[[Sequence[str]], _Reply]) -> _Re
         raise ProtocolError(f"no reply: {' '.join(words)!r}") from error
 
 
-def _length(words: Sequence[str], count: int) -> None:
-    if len(words) != count:
+def _form(words: Sequence[str], count: int, fixed: Mapping[int, str], may_have_more: bool = False) -> None:
+    """Raises ValueError unless there are so many words, and these are at their places."""
+    if not count <= len(words) <= count + may_have_more:
         raise ValueError("too many words, or too few")
-
-
-def done(words: Sequence[str]) -> None:
-    _length(words, 1)
+    for place, name in fixed.items():
+        if words[place] != name:
+            raise ValueError(f"{words[place]} in place of {name}")
 
 
 def word(text: str) -> int:
@@ -252,8 +258,8 @@ def word(text: str) -> int:
     return int(text)
 
 
-def _field(words: Sequence[str], index: int, name: str) -> str:
-    key, _, value = words[index].partition("=")
+def _keyed(text: str, name: str) -> str:
+    key, _, value = text.partition("=")
     if key != name:
         raise ValueError(f"{key} in place of {name}")
     return value
@@ -280,79 +286,103 @@ def _signals(text: str) -> frozenset[Signal]:
     return frozenset() if text == "none" else frozenset(Signal(word(n)) for n in text.split(","))
 
 
-def new(words: Sequence[str]) -> New:
-    _length(words, 3)
-    return New(word(words[1]), word(words[2]))
-
-
-def number(words: Sequence[str]) -> int:
-    _length(words, 2)
-    return word(words[1])
-
-
-def numbers(words: Sequence[str]) -> tuple[int, ...]:
-    return tuple(map(word, words[1:]))
-
-
-def _mask(words: Sequence[str]) -> EventMask:
-    _length(words, 2)
+def _events(text: str) -> EventMask:
     mask = EventMask(0)
-    if words[1] != "none":
-        for name in words[1].split("+"):
+    if text != "none":
+        for name in text.split("+"):
             mask |= EVENTS[name]
     return mask
 
 
-def waited(words: Sequence[str]) -> Waited:
-    _length(words, 3)
+def _handler(text: str) -> int | None:
+    return None if text == "none" else word(text)
+
+
+def _decision(words: Sequence[str]) -> tuple[Decision, int | None]:
+    """A decision with the signal that it passes on, if it does."""
+    decision = Decision(words[0])
+    passes = decision in (Decision.CONTINUE, Decision.DETACH)
+    _form(words, 1 + passes, {})
+    return decision, word(words[1]) if passes else None
+
+
+# tools/format readers
+def done(words: Sequence[str]) -> None:
+    _form(words, 1, {0: "ok"})
+
+
+def new(words: Sequence[str]) -> New:
+    _form(words, 3, {0: "new"})
+    return New(word(words[1]), word(words[2]))
+
+
+def number(words: Sequence[str]) -> int:
+    _form(words, 2, {0: "number"})
+    return word(words[1])
+
+
+def status(words: Sequence[str]) -> Waited:
+    _form(words, 3, {0: "status"})
     return Waited(word(words[1]), _status(words[2]))
 
 
-def _info(words: Sequence[str]) -> LwpInfo:
-    _length(words, 8)
+def info(words: Sequence[str]) -> LwpInfo:
+    _form(words, 8, {0: "info"})
     return LwpInfo(
         word(words[1]),
         LwpEvent["PL_EVENT_" + words[2]],
-        _flags(_field(words, 3, "flags")),
-        _signals(_field(words, 4, "mask")),
-        _signals(_field(words, 5, "pending")),
-        word(_field(words, 6, "child")),
-        word(_field(words, 7, "code")),
+        _flags(_keyed(words[3], "flags")),
+        _signals(_keyed(words[4], "mask")),
+        _signals(_keyed(words[5], "pending")),
+        word(_keyed(words[6], "child")),
+        word(_keyed(words[7], "code")),
     )
 
 
+def lwps(words: Sequence[str]) -> tuple[int, ...]:
+    return tuple(map(word, words[1:]))
+
+
+def pids(words: Sequence[str]) -> tuple[int, ...]:
+    return tuple(map(word, words[1:]))
+
+
+def mask(words: Sequence[str]) -> EventMask:
+    _form(words, 2, {0: "mask"})
+    return _events(words[1])
+
+
 def handled(words: Sequence[str]) -> Handled:
-    decision = Decision(words[11])
-    passes = decision in (Decision.CONTINUE, Decision.DETACH)
-    _length(words, 13 if passes else 12)
-    if words[3] != "at" or words[9] != "by":
-        raise ValueError("other words")
+    _form(words, 12, {0: "handled", 3: "at", 9: "by"}, True)
     return Handled(
         word(words[1]),
         _status(words[2]),
         word(words[4]),
-        Signal(word(_field(words, 5, "signal"))),
-        _flags(_field(words, 6, "flags")),
-        word(_field(words, 7, "child")),
-        word(_field(words, 8, "code")),
-        None if words[10] == "none" else word(words[10]),
-        decision,
-        word(words[12]) if passes else None,
+        Signal(word(_keyed(words[5], "signal"))),
+        _flags(_keyed(words[6], "flags")),
+        word(_keyed(words[7], "child")),
+        word(_keyed(words[8], "code")),
+        _handler(words[10]),
+        *_decision(words[11:]),
     )
 
 
-def _stopped(words: Sequence[str]) -> Stopped:
-    _length(words, 4)
-    return Stopped(word(words[1]), Signal(word(words[2])), _flags(_field(words, 3, "flags")))
+def stopped(words: Sequence[str]) -> Stopped:
+    _form(words, 4, {0: "stopped"})
+    return Stopped(word(words[1]), Signal(word(words[2])), _flags(_keyed(words[3], "flags")))
 
 
-def _caught(words: Sequence[str]) -> Caught:
-    return Caught(Signal(number(words)))
+def caught(words: Sequence[str]) -> Caught:
+    _form(words, 2, {0: "caught"})
+    return Caught(Signal(word(words[1])))
 
 
-def _ended(words: Sequence[str]) -> Ended:
-    _length(words, 2)
+def ended(words: Sequence[str]) -> Ended:
+    _form(words, 2, {0: "ended"})
     return Ended(_status(words[1]))
+
+
+# end
 
 
 # tools/format requests
@@ -364,17 +394,21 @@ REQUESTS = {
 }
 # end
 PTRACE: dict[str, Callable[[Sequence[str]], Any]] = {
+    # tools/format readers of requests
     "ok": done,
-    "info": _info,
-    "mask": _mask,
     "number": number,
-    "lwps": numbers,
+    "info": info,
+    "lwps": lwps,
+    "mask": mask,
+    # end
 }
 
 TURNED: dict[str, Callable[[Sequence[str]], Turned]] = {
+    # tools/format readers of turns
     "ok": done,
     "new": new,
-    "stopped": _stopped,
-    "caught": _caught,
-    "ended": _ended,
+    "stopped": stopped,
+    "caught": caught,
+    "ended": ended,
+    # end
 }

@@ -11,6 +11,7 @@ from .replies import status_of
 from .typed import CALLS, events_of, flags_of, signals_of
 
 
+# tools/format rows
 class ProcessState(enum.Enum):
     """What a process is in."""
 
@@ -56,6 +57,22 @@ class ProcessRow(NamedTuple):
     pending: frozenset[Signal]
 
 
+def process_row(row: CProcess) -> ProcessRow:
+    return ProcessRow(
+        row.pid,
+        row.parent,
+        row.tracer or None,
+        ProcessState(row.state),
+        row.lwp or None,
+        Signal(row.signal) if row.signal else None,
+        bool(row.told),
+        status_of(row.status) if row.state == ProcessState.ZOMBIE.value else None,
+        bool(row.continued),
+        events_of(row.events),
+        signals_of(row.pending),
+    )
+
+
 class LwpRow(NamedTuple):
     """An LWP of the user."""
 
@@ -88,40 +105,14 @@ class LwpRow(NamedTuple):
         return self.lwp
 
 
-class View(NamedTuple):
-    """A user's processes by rising number, and LWPs in order of birth."""
-
-    processes: tuple[ProcessRow, ...]
-    lwps: tuple[LwpRow, ...]
-
-
-def process_row(row: CProcess) -> ProcessRow:
-    state = ProcessState(row.state)
-    is_stopped = state in (ProcessState.TRACE_STOP, ProcessState.JOB_STOP)
-    return ProcessRow(
-        row.pid,
-        row.parent,
-        row.tracer or None,
-        state,
-        row.lwp if state is ProcessState.TRACE_STOP else None,
-        Signal(row.signal) if is_stopped else None,
-        bool(row.told),
-        status_of(row.status) if state is ProcessState.ZOMBIE else None,
-        bool(row.continued),
-        events_of(row.events),
-        signals_of(row.pending),
-    )
-
-
 def lwp_row(row: CLwp) -> LwpRow:
-    mode = LwpMode(row.mode)
     return LwpRow(
         row.lwp,
         row.pid,
-        mode,
-        CALLS[row.call] if mode is LwpMode.IN_CALL else None,
+        LwpMode(row.mode),
+        CALLS[row.call] if row.mode == LwpMode.IN_CALL.value else None,
         row.argument,
-        row.vfork_child if mode is LwpMode.WAITS_FOR_VFORK else None,
+        row.vfork_child or None,
         bool(row.suspended),
         bool(row.stepping),
         signals_of(row.blocked),
@@ -131,3 +122,13 @@ def lwp_row(row: CLwp) -> LwpRow:
         row.child,
         row.code,
     )
+
+
+# end
+
+
+class View(NamedTuple):
+    """A user's processes by rising number, and LWPs in order of birth."""
+
+    processes: tuple[ProcessRow, ...]
+    lwps: tuple[LwpRow, ...]

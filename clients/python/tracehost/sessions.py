@@ -1,45 +1,25 @@
-"""The sessions of a test under pytest, and what its report has to tell of them. Nothing here changes a test's outcome."""
+"""The sessions of a test, and what is told of them. Nothing here changes a test's outcome."""
 
 from __future__ import annotations
 
-import hashlib
-import re
-import weakref
+import shlex
 from collections.abc import Callable, Iterator
-from contextlib import contextmanager
+from contextlib import contextmanager, suppress
 from pathlib import Path
-from typing import Any, NamedTuple, Optional
-
-import pytest
+from typing import TYPE_CHECKING, Any, ClassVar, NamedTuple, Optional
+from weakref import WeakSet, ref
 
 from .host import Host
 from .pipe import Pipe
-from .viewing import shown
+from .records import Folder, Kept, Running, hold, session_name
+from .viewing import NoPage, shown, view
+
+if TYPE_CHECKING:
+    import pytest
 
 HEAD = "tracehost"
 """The title of the section in a report, and the report's attribute for `Pages`."""
-_MOST_OF_A_NAME = 80  # characters; the digest makes it the test's own
 _MOST_OF_A_MESSAGE = 4000
-
-
-def readable(name: str) -> str:
-    """The name, with plain characters only."""
-    return re.sub(r"[^A-Za-z0-9_.-]+", "_", name)
-
-
-def folder_name(test: str) -> str:
-    """A file name that no other test has: a part of the test's name, and a digest of all of it."""
-    return f"{_digest(test)}-{readable(test)[-_MOST_OF_A_NAME:]}"
-
-
-def _record_name(name: str) -> str:
-    """The name, unless it would be a path, or a long one."""
-    plain = readable(name)[:_MOST_OF_A_NAME]
-    return name if name == plain else f"{plain}-{_digest(name)}"
-
-
-def _digest(name: str) -> str:
-    return hashlib.sha256(name.encode("utf-8", "surrogatepass")).hexdigest()[:12]
 
 
 class Failure(NamedTuple):
@@ -56,11 +36,29 @@ class Failure(NamedTuple):
 
     def __str__(self) -> str:
         lines = Path(self.scenario).with_suffix(".out")
-        return f"scenario: {self.scenario}\nlines:    {lines}\npage:     {self.page()}"
+        files = f"scenario: {self.scenario}\nlines:    {lines}\npage:     {self.page()}"
+        return f"{files}\nto go on from here: tracehost-debug {shlex.quote(self.scenario)}"
+
+    def without_page(self, text: str, why: str) -> str:
+        """A text in which `str` of this is, but for the page."""
+        return text.replace(f"page:     {self.page()}", f"page:     none ({why})")
+
+    def make_page(self) -> Optional[str]:
+        """Returns why there is none."""
+        try:
+            view(self.scenario, title=self.test, failed=self.test, message=self.message, step=self.step)
+        except (OSError, NoPage) as error:
+            return shown(str(error))
+        except BaseException as error:
+            return shown(said_by(error))
+        return None
 
 
 class Told:
     """What couldn't be done beside a test: it is told, and fails nothing."""
+
+    ending: ClassVar[tuple[type[BaseException], ...]] = (KeyboardInterrupt,)
+    """What ends the run if it is raised; a plugin adds its own."""
 
     def __init__(self) -> None:
         self.told: list[str] = []
@@ -78,8 +76,8 @@ class Told:
         """Tells what is raised, and goes on: a test may have replaced, closed or limited whatever is used here."""
         try:
             yield
-        except (KeyboardInterrupt, pytest.exit.Exception):
-            raise  # somebody ends the run
+        except self.ending:
+            raise
         except BaseException as error:
             self.tell(f"{what}: {said_by(error)}")
 
@@ -94,14 +92,15 @@ def said_by(error: BaseException) -> str:
 
 
 class Sessions(Told):
-    """The sessions of a test, and the folder of their records."""
+    """The sessions of a test, and their records."""
 
-    def __init__(self, make_folder: Callable[[], Path]) -> None:
+    def __init__(self, folder: Callable[[], Folder], stem: str) -> None:
         super().__init__()
-        self._make_folder = make_folder
-        self._folder: Optional[Path] = None
-        self._hosts: weakref.WeakSet[Host] = weakref.WeakSet()
+        self._folder, self._stem = folder, stem
+        self._hosts: WeakSet[Host] = WeakSet()
         self._records: dict[Path, Callable[[], Optional[Host]]] = {}
+        self._running: dict[Path, Running] = {}
+        self._kept: dict[Path, Kept] = {}
         self._failures: dict[Path, Failure] = {}
 
     def start(self, name: str, settings: dict[str, Any]) -> Host:
@@ -110,8 +109,8 @@ class Sessions(Told):
         An earlier one of that name goes on unrecorded, since the file is no longer its.
         """
         try:
-            host = self._recorded(self.scenario(name), settings)
-        except (KeyboardInterrupt, pytest.exit.Exception):
+            host = self._recorded(self.record(name), settings)
+        except self.ending:
             raise
         except BaseException as error:
             host = Host(**settings)  # raises what isn't about the files
@@ -119,42 +118,99 @@ class Sessions(Told):
         self._hosts.add(host)
         return host
 
-    def scenario(self, name: str) -> Path:
-        """The file of the record of this name, in a folder that is there. That of a failure stays, and another gets a number."""
-        if self._folder is None:
-            self._folder = self._make_folder()
-        path, number = self._folder / f"{_record_name(name)}.json", 2
+    def record(self, name: str) -> Running:
+        """The record of this name. That of a failure stays, and another gets a number."""
+        label = self._stem if name == "session" else f"{self._stem}.{session_name(name)}"
+        path, number = self._folder().path / f"{label}.json", 2
         while path in self._failures:
-            path, number = self._folder / f"{_record_name(name)}-{number}.json", number + 1
-        return path
+            path, number = path.with_name(f"{label}-{number}.json"), number + 1
+        return Running(path)
 
-    def _recorded(self, scenario: Path, settings: dict[str, Any]) -> Host:
-        before = self._records.pop(scenario, None)
+    def _recorded(self, record: Running, settings: dict[str, Any]) -> Host:
+        before = self._records.pop(record.scenario, None)
         earlier = None if before is None else before()
         if earlier is not None:
             earlier.stop_recording()
-        host = Host(record=scenario, record_lines=scenario.with_suffix(".out"), **settings)
+        try:
+            host = self._recording_host(record, settings)
+        except BaseException:
+            with suppress(OSError):
+                record.drop()
+            raise
         assert host._recording is not None
-        host._recording.tell = self.tell
-        self.note(scenario, weakref.ref(host))
+        host._recording.path, host._recording.tell = record.scenario, self.tell
+        hold(host._recording.number)
+        self.note(record, ref(host))
         return host
 
-    def note(self, scenario: Path, host: Callable[[], Optional[Host]] = lambda: None) -> None:
-        """From now on a failure names this scenario."""
-        self._records[scenario] = host
+    def _recording_host(self, record: Running, settings: dict[str, Any]) -> Host:
+        """Its folder is made if it isn't there."""
+        try:
+            return Host(record=record.now, record_lines=record.lines_now, **settings)
+        except FileNotFoundError:
+            self._folder().make()
+            return Host(record=record.now, record_lines=record.lines_now, **settings)
+
+    def saved(self, name: str, save: Callable[[Path, Path], None]) -> Running:
+        """The record of this name, which `save` writes."""
+        record = self.record(name)
+        try:
+            save(record.now, record.lines_now)
+        except FileNotFoundError:
+            self._folder().make()
+            save(record.now, record.lines_now)
+        return record
+
+    def note(self, record: Running, host: Callable[[], Optional[Host]] = lambda: None) -> None:
+        """From now on a failure names this record."""
+        self._records[record.scenario], self._running[record.scenario] = host, record
 
     def failures(self, test: str, message: str) -> list[Failure]:
         """What a failure leaves: of each session the first failure of this attempt."""
+        self._keep()
         for scenario, host in self._records.items():
-            self._failures.setdefault(scenario, Failure(str(scenario), test, message, _steps(host())))
-        return [self._failures[scenario] for scenario in sorted(self._records)]
+            if scenario not in self._running:
+                self._failures.setdefault(scenario, Failure(str(scenario), test, message, _steps(host())))
+        return self.failed()
 
-    def clear(self, folder: Path) -> None:
-        """Removes what an earlier run of the test has left."""
-        for kind in ("json", "out", "html"):
-            for file in folder.glob(f"*.{kind}"):
-                with self.guarded("a file of an earlier run is left"):
-                    file.unlink()
+    def failed(self) -> list[Failure]:
+        """What the failures of this attempt have left."""
+        return [self._failures[scenario] for scenario in sorted(self._failures)]
+
+    def _keep(self) -> None:
+        """Gives all records their last names at once, so that none has two runs' files."""
+        if not self._running:
+            return
+        with self._folder().locked():
+            for scenario, record in list(self._running.items()):
+                try:
+                    kept = record.keep()
+                except FileNotFoundError:  # the test has removed it
+                    kept = None
+                except OSError as error:
+                    kept = None
+                    del self._records[scenario]
+                    self.tell(f"the record stays {record.now}: {error.strerror}")
+                del self._running[scenario]
+                if kept is not None:
+                    self._kept[scenario] = kept
+
+    def end_attempt(self) -> None:
+        """Nothing is left of an attempt that has passed, or of an earlier run. The test may be run once more."""
+        for scenario, record in self._running.items():
+            with self.guarded("a record is left"):
+                if scenario not in self._failures:
+                    record.drop()
+        for scenario in [scenario for scenario in self._kept if scenario not in self._failures]:
+            with self.guarded("a record of an earlier attempt is left"):
+                self._folder().remove_kept(self._kept.pop(scenario))
+        names = {scenario.with_suffix(end).name for scenario in self._failures for end in (".json", ".out", ".html")}
+        with self.guarded("files of an earlier run"):
+            for error in self._folder().remove_earlier(self._stem, names):
+                self.tell(f"a file of an earlier run is left: {said_by(error)}")
+        self._records.clear()
+        self._running.clear()
+        self._failures.clear()
 
     def close(self) -> None:
         """Closes those that the test hasn't closed, with a time limit for all. What it has dropped is closed already."""
@@ -169,11 +225,6 @@ class Sessions(Told):
                 self.tell("the program of a session didn't end, and was killed")
         self._hosts.clear()
 
-    def end_attempt(self) -> None:
-        """The test may be run once more, and the failures of this attempt are its own."""
-        self._records.clear()
-        self._failures.clear()
-
 
 def _steps(host: Optional[Host]) -> Optional[int]:
     return None if host is None or host._recording is None else host._recording.steps
@@ -183,6 +234,10 @@ def message_of(report: pytest.TestReport) -> str:
     """The assertion or the exception, as the report has it: nothing of the test's is asked again."""
     crash = getattr(report.longrepr, "reprcrash", None)
     said: str = report.longreprtext if crash is None else crash.message
+    return message_text(said)
+
+
+def message_text(said: str) -> str:
     text = shown(said.strip().removeprefix("AssertionError: "))
     return text if len(text) <= _MOST_OF_A_MESSAGE else text[:_MOST_OF_A_MESSAGE] + " .."
 

@@ -22,7 +22,7 @@ from hypothesis.stateful import RuleBasedStateMachine, precondition, rule
 
 from .errors import Held
 from .host import Host
-from .names import Call, Signal, StopFlag
+from .names import FIRST_LWP, Call, Signal, StopFlag
 from .replies import New, Stopped, Turned
 from .steps import Act, Enter, Leave
 from .strategies import acts, signals
@@ -30,7 +30,6 @@ from .strategies import acts, signals
 __all__ = ["Debugging"]
 
 _UID = 1001
-_FIRST_LWP = 100_000
 
 
 def _unrecorded(settings: dict[str, Any]) -> Host:
@@ -133,4 +132,4 @@ class Debugging(RuleBasedStateMachine):
             left = bool(turned.flags & StopFlag.PL_FLAG_SCX)
             made = left and self._in_call.get(lwp) in (Call.FORK, Call.VFORK, Call.THR_NEW)
         if made:
-            self.lwps.append(_FIRST_LWP + 1 + len(self.lwps))
+            self.lwps.append(FIRST_LWP + 1 + len(self.lwps))

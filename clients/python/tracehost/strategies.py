@@ -11,7 +11,22 @@ from typing import Any
 
 from hypothesis import strategies as st
 
-from .names import CALLER_OPS, EVENTS, OPTIONS, STOP_FLAGS, Action, Call, Decision, Request, Signal
+from .names import (
+    CALLER_OPS,
+    EVENTS,
+    FIRST_LWP,
+    FIRST_PROCESS,
+    FIRST_USER,
+    LWP_NUMBERS,
+    OPTIONS,
+    PROCESS_NUMBERS,
+    STOP_FLAGS,
+    Action,
+    Call,
+    Decision,
+    Request,
+    Signal,
+)
 from .steps import Act, Block, Compute, Enter, Leave, Raise
 
 __all__ = ["acts", "scenarios", "signals", "steps"]
@@ -54,7 +69,8 @@ def scenarios(users: Sequence[int] = (1001,), max_steps: int = 50) -> st.SearchS
 
 @functools.lru_cache(maxsize=None)
 def _steps_of(uid: int) -> st.SearchStrategy[Step]:
-    first_pid, first_lwp = 1000 * (uid - 1000), 100_000 + 4000 * (uid - 1001)
+    place = uid - FIRST_USER
+    first_pid, first_lwp = FIRST_PROCESS + PROCESS_NUMBERS * place, FIRST_LWP + LWP_NUMBERS * place
     pids = st.integers(first_pid, first_pid + _PER_USER - 1)
     # the first process is often a debugger, and the second its tracee, so that many steps do something
     callers = st.one_of(st.just(first_pid), pids)

@@ -17,7 +17,9 @@ from .replies import Handled, New, Turned, Waited, answer
 from .steps import Act, Rule
 
 # replies to steps that may have changed something; the others change nothing
+# tools/format changes
 _CHANGES = frozenset(("ok", "new", "status", "handled", "stopped", "caught", "ended"))
+# end
 _NUMBER_OF_LINE = re.compile(r"^\s*line \d+(?:: |, )", re.MULTILINE)
 _SECONDS_TO_EXPLAIN = 10
 
@@ -117,7 +119,7 @@ class TextCalls:
     def wait4(self, uid: int, pid: int, which: int, options: int) -> Waited:
         named = f',"options":{names_of(options, OPTIONS)}' if options else ""
         words = self._by(uid, pid, "wait4", f',"which":{which}{named}')
-        return replies.NOTHING if words[0] == "nothing" else answer(words, "status", replies.waited)
+        return replies.NOTHING if words[0] == "nothing" else answer(words, "status", replies.status)
 
     def kill(self, uid: int, pid: int, which: int, signal: int) -> None:
         answer(self._by(uid, pid, "kill", f',"which":{which},"signal":{signal}'), "ok", replies.done)
@@ -127,7 +129,7 @@ class TextCalls:
         answer(self._by(uid, pid, "sigaction", keys), "ok", replies.done)
 
     def list(self, uid: int, pid: int) -> tuple[int, ...]:
-        return answer(self._by(uid, pid, "list"), "pids", replies.numbers)
+        return answer(self._by(uid, pid, "list"), "pids", replies.pids)
 
     def install(self, uid: int, pid: int, rules: Iterable[Rule]) -> None:
         objects = ",".join(rule._object() for rule in rules)
@@ -138,7 +140,7 @@ class TextCalls:
         if words[0] == "nothing":
             return None
         if words[0] == "status":
-            return answer(words, "status", replies.waited)
+            return answer(words, "status", replies.status)
         return answer(words, "handled", replies.handled)
 
     def _by(self, uid: int, pid: int, op: str, keys: str = "") -> Sequence[str]:

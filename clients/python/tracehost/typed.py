@@ -28,23 +28,15 @@ from .replies import (
 from .steps import Act, Block, Compute, Enter, Raise, Rule
 
 # the library's numbers of acts, calls, actions, decisions, and its bits of flags
-_COMPUTE, _RAISE, _BLOCK, _ENTER, _LEAVE = range(5)
+# tools/format numbers
+_COMPUTE, _RAISE, _BLOCK, _ENTER, _LEAVE = 0, 1, 2, 3, 4
 CALLS = (Call.FORK, Call.VFORK, Call.EXEC, Call.THR_NEW, Call.THR_EXIT, Call.EXIT, Call.OTHER)
+# end
 _NUMBER_OF_CALL = {call: number for number, call in enumerate(CALLS)}
-_NUMBER_OF_ACTION = {Action.SIG_DFL: 0, Action.SIG_IGN: 1, Action.CATCH: 2}
-_DECISIONS = (Decision.DECLINE, Decision.LEAVE, Decision.CONTINUE, Decision.DETACH, Decision.KILL)
+_NUMBER_OF_ACTION = {action: number for number, action in enumerate(Action)}
+_DECISIONS: tuple[Decision, ...] = tuple(Decision)
 _PASSING = (Decision.CONTINUE, Decision.DETACH)
-_FLAGS = (
-    StopFlag.PL_FLAG_SCE,
-    StopFlag.PL_FLAG_SCX,
-    StopFlag.PL_FLAG_EXEC,
-    StopFlag.PL_FLAG_FORKED,
-    StopFlag.PL_FLAG_CHILD,
-    StopFlag.PL_FLAG_BORN,
-    StopFlag.PL_FLAG_EXITED,
-    StopFlag.PL_FLAG_VFORKED,
-    StopFlag.PL_FLAG_VFORK_DONE,
-)
+_FLAGS: tuple[StopFlag, ...] = tuple(StopFlag)
 
 
 class NotTyped(Exception):
@@ -192,21 +184,23 @@ class TypedCalls:
             return session.numbers()
 
         return (
+            # tools/format readers of kinds
             (True, _nothing),
-            (True, lambda reply: New(reply.pid, reply.lwp)),
-            (False, lambda reply: reply.number),
-            (True, lambda reply: Waited(reply.pid, status_of(reply.status))),
+            (True, _read_new),
+            (False, _read_number),
+            (True, _read_status),
             (False, _nothing),
-            (False, _info),
+            (False, _read_info),
             (False, numbers),
             (False, numbers),
-            (False, lambda reply: events_of(reply.mask)),
-            (True, _handled),
-            (True, lambda reply: Stopped(reply.lwp, Signal(reply.signal), flags_of(reply.flags))),
-            (True, lambda reply: Caught(Signal(reply.signal))),
-            (True, lambda reply: Ended(status_of(reply.status))),
+            (False, _read_mask),
+            (True, _read_handled),
+            (True, _read_stopped),
+            (True, _read_caught),
+            (True, _read_ended),
             (False, _held),
-            (False, lambda reply: raise_number(reply.error)),
+            (False, _read_error),
+            # end
         )
 
 
@@ -231,7 +225,26 @@ def _held(reply: Reply) -> NoReturn:
     raise Held
 
 
-def _info(reply: Reply) -> LwpInfo:
+def _decision(reply: Reply) -> tuple[Decision, int | None]:
+    """A decision with the signal that it passes on, if it does."""
+    decision = _DECISIONS[reply.decision]
+    return decision, reply.passed if decision in _PASSING else None
+
+
+# tools/format readers
+def _read_new(reply: Reply) -> New:
+    return New(reply.pid, reply.lwp)
+
+
+def _read_number(reply: Reply) -> int:
+    return reply.number
+
+
+def _read_status(reply: Reply) -> Waited:
+    return Waited(reply.pid, status_of(reply.status))
+
+
+def _read_info(reply: Reply) -> LwpInfo:
     return LwpInfo(
         reply.lwp,
         LwpEvent(reply.event),
@@ -243,8 +256,11 @@ def _info(reply: Reply) -> LwpInfo:
     )
 
 
-def _handled(reply: Reply) -> Handled:
-    decision = _DECISIONS[reply.decision]
+def _read_mask(reply: Reply) -> EventMask:
+    return events_of(reply.mask)
+
+
+def _read_handled(reply: Reply) -> Handled:
     return Handled(
         reply.pid,
         status_of(reply.status),
@@ -254,6 +270,24 @@ def _handled(reply: Reply) -> Handled:
         reply.child,
         reply.code,
         reply.handler if reply.has_handler else None,
-        decision,
-        reply.passed if decision in _PASSING else None,
+        *_decision(reply),
     )
+
+
+def _read_stopped(reply: Reply) -> Stopped:
+    return Stopped(reply.lwp, Signal(reply.signal), flags_of(reply.flags))
+
+
+def _read_caught(reply: Reply) -> Caught:
+    return Caught(Signal(reply.signal))
+
+
+def _read_ended(reply: Reply) -> Ended:
+    return Ended(status_of(reply.status))
+
+
+def _read_error(reply: Reply) -> NoReturn:
+    raise_number(reply.error)
+
+
+# end

@@ -1,199 +1,259 @@
-//! What a test that fails leaves: its files, and the page.
+//! What a test that fails leaves: its files, whose folder programs, tests and processes share.
+//!
+//! While the test runs, the process's number is at the end of their names. A process that ends in between leaves them so.
 
+use crate::earlier::Earlier;
 use crate::sys;
 use std::collections::hash_map::RandomState;
-use std::ffi::{OsStr, OsString};
+use std::collections::BTreeSet;
+use std::env;
 use std::fmt::Display;
 use std::fs::{self, DirBuilder, File, OpenOptions};
 use std::hash::{BuildHasher, Hasher};
-use std::io::{self, Error, ErrorKind, Read, Write};
-use std::os::unix::fs::{DirBuilderExt, MetadataExt, OpenOptionsExt};
+use std::io::{self, Error, ErrorKind, Write};
+use std::os::unix::ffi::OsStrExt;
+use std::os::unix::fs::{DirBuilderExt, OpenOptionsExt};
 use std::path::{Path, PathBuf};
-use std::process::{Child, Command, ExitStatus, Output, Stdio};
-use std::thread::{self, JoinHandle};
-use std::time::{Duration, Instant};
-use std::{env, iter};
+use std::process;
+use std::sync::Mutex;
+use std::thread;
+use std::time::Duration;
 
-const TIME_FOR_A_PAGE: Duration = Duration::from_secs(300);
-const MOST_OF_A_NAME: usize = 80;
-const MOST_OF_ONE_NAME: u32 = 1000;
+const MOST_OF_A_PROGRAM: usize = 30;
+const MOST_OF_A_TEST: usize = 50;
+const TRIES: u32 = 1000;
+
+/// The names that tests of this process have, while they run, and if they have failed.
+static NAMES: Mutex<BTreeSet<String>> = Mutex::new(BTreeSet::new());
+/// What earlier runs have left.
+static EARLIER: Mutex<Option<Earlier>> = Mutex::new(None);
+
+/// Three files: their names in the end, or while the test runs.
+#[derive(Debug)]
+pub struct Names {
+    pub scenario: PathBuf,
+    pub lines: PathBuf,
+    pub page: PathBuf,
+}
+
+impl Names {
+    fn new(folder: &Path, name: &str, end: &str) -> Names {
+        let path = |kind: &str| folder.join(format!("{name}.{kind}{end}"));
+        Names {
+            scenario: path("json"),
+            lines: path("out"),
+            page: path("html"),
+        }
+    }
+
+    /// What a failed test prints, with why there is no page.
+    pub fn told(&self, page: &Result<(), String>) -> String {
+        let page = match page {
+            Ok(()) => self.page.display().to_string(),
+            Err(why) => format!("none: {why}"),
+        };
+        let scenario = self.scenario.display();
+        format!(
+            "tracehost: scenario: {scenario}\ntracehost: lines:    {}\ntracehost: page:     {page}\n\
+             tracehost: to go on from here: tracehost-debug {scenario}",
+            self.lines.display()
+        )
+    }
+
+    fn remove(&self) {
+        for path in [&self.page, &self.lines, &self.scenario] {
+            let _ = fs::remove_file(path);
+        }
+    }
+}
 
 /// The files of a test.
 #[derive(Debug)]
 pub struct Artifacts {
-    pub scenario: PathBuf,
-    pub lines: PathBuf,
-    pub page: PathBuf,
-    /// The folder, if it is only for this test.
-    own_folder: Option<PathBuf>,
-    /// The scenario. While it is open another test of this name takes other files.
-    locked: File,
+    /// The names that the files get if the test fails.
+    pub last: Names,
+    /// Their names while it runs.
+    pub now: Names,
+    folder: PathBuf,
+    has_own_folder: bool,
+    stem: String,
+    name: String,
+    /// The scenario. While it is open it is locked, so that others know it from what a dead process has left.
+    _locked: File,
 }
 
 impl Artifacts {
     /// Makes the files of a test of this name, and opens those of its recording.
     pub fn open(test: &str) -> io::Result<(Artifacts, File, File)> {
-        let name = file_name(test);
-        let (folder, own_folder) = match env::var_os("TRACEHOST_ARTIFACTS").filter(|named| !named.is_empty()) {
-            Some(named) => (env::current_dir()?.join(named), None),
-            None => new_folder(&name).map(|folder| (folder.clone(), Some(folder)))?,
+        let (program, stem) = stem(test)?;
+        let named_folder = env::var_os("TRACEHOST_ARTIFACTS").filter(|named| !named.is_empty());
+        let has_own_folder = named_folder.is_none();
+        let folder = match named_folder {
+            Some(named) => env::current_dir()?.join(named),
+            None => new_folder(&plain(test.as_bytes(), MOST_OF_A_TEST))?,
         };
         fs::create_dir_all(&folder).map_err(|error| named(&folder, &error))?;
-        for nth in 1..=MOST_OF_ONE_NAME {
-            let stem = if nth == 1 {
-                name.clone()
-            } else {
-                format!("{name}-{nth}")
-            };
-            let path = |end: &str| folder.join(format!("{stem}.{end}"));
-            let scenario = path("json");
-            let Some(locked) = open_locked(&scenario).map_err(|error| named(&scenario, &error))? else {
-                continue;
-            };
-            let _ = fs::remove_file(path("html")); // of an earlier run
-            let lines = opened(&path("out"), true).map_err(|error| named(&path("out"), &error))?;
-            let file = locked.try_clone()?;
-            let (lines_path, page) = (path("out"), path("html"));
-            let made = Artifacts {
-                scenario,
-                lines: lines_path,
-                page,
-                own_folder,
-                locked,
-            };
-            return Ok((made, file, lines));
+        if !has_own_folder {
+            with_earlier(&folder, &program, |earlier| earlier.tell(&stem));
         }
-        Err(Error::new(
-            ErrorKind::AlreadyExists,
-            format!("{name}: so many tests have this name"),
-        ))
+        let name = take_name(&stem);
+        let now = Names::new(&folder, &name, &format!(".{}", process::id()));
+        let opened = opened(&now.scenario).and_then(|scenario| Ok((scenario, opened(&now.lines)?)));
+        let (locked, lines) = opened.map_err(|error| {
+            give_back(&name);
+            error
+        })?;
+        let _ = sys::lock(&locked);
+        let file = locked.try_clone()?;
+        let made = Artifacts {
+            last: Names::new(&folder, &name, ""),
+            now,
+            folder,
+            has_own_folder,
+            stem,
+            name,
+            _locked: locked,
+        };
+        Ok((made, file, lines))
     }
 
     /// The test has passed.
     pub fn remove(self) {
-        for path in [&self.page, &self.lines, &self.scenario] {
-            let _ = fs::remove_file(path);
-        }
-        if let Some(folder) = &self.own_folder {
-            let _ = fs::remove_dir(folder);
+        self.now.remove();
+        give_back(&self.name);
+        self.remove_earlier();
+        if self.has_own_folder {
+            let _ = fs::remove_dir(&self.folder);
         }
     }
 
-    /// The test has failed: its files stay, and keep their names while the program runs.
-    pub fn keep(self) {
-        std::mem::forget(self.locked);
+    /// The test has failed: its files get their last names. The page may be made before or afterwards.
+    pub fn keep(self) -> io::Result<Names> {
+        let lock = FolderLock::new(&self.folder)?;
+        fs::rename(&self.now.scenario, &self.last.scenario)?;
+        let _ = fs::rename(&self.now.lines, &self.last.lines);
+        if fs::rename(&self.now.page, &self.last.page).is_err() {
+            let _ = fs::remove_file(&self.last.page); // of an earlier run
+        }
+        drop(lock);
+        self.remove_earlier();
+        Ok(self.last)
     }
 
-    /// Makes the page of a test that failed after so many steps.
-    pub fn make_page(&self, test: &str, message: &str, step: usize) -> Result<(), String> {
-        if step == 0 {
-            return Err("no step was made".to_owned());
+    fn remove_earlier(&self) {
+        if !self.has_own_folder {
+            with_earlier(&self.folder, "", |earlier| {
+                if earlier.has(&self.stem) {
+                    let _lock = FolderLock::new(&self.folder);
+                    earlier.remove(&self.stem);
+                }
+            });
         }
-        let program = env::var_os("TRACEHOST").unwrap_or_else(|| "tracehost".into());
-        let viewer = env::var_os("TRACEHOST_VIEW").unwrap_or_else(|| "tracehost-view".into());
-        let words = [
-            OsStr::new("--json=trace+rows"),
-            OsStr::new("--"),
-            self.scenario.as_os_str(),
-        ];
-        let trace = printed(&program, &words, Vec::new(), TIME_FOR_A_PAGE)?;
-        let mut output = OsString::from("--output=");
-        output.push(&self.page);
-        let shown = [
-            format!("--title={test}"),
-            format!("--failed={test}"),
-            format!("--message={message}"),
-            format!("--at={step}"),
-        ];
-        let words: Vec<&OsStr> = iter::once(output.as_os_str())
-            .chain(shown.iter().map(OsStr::new))
-            .chain([OsStr::new("-")])
-            .collect();
-        printed(&viewer, &words, trace, TIME_FOR_A_PAGE).map(drop)
     }
 }
 
-/// What a program prints that gets this input; else why it didn't. One that doesn't end in time is killed.
-fn printed(program: &OsStr, words: &[&OsStr], given: Vec<u8>, time: Duration) -> Result<Vec<u8>, String> {
-    let fault = |error: &Error| match error.kind() {
-        ErrorKind::NotFound => format!("there is no {}", program.to_string_lossy()),
-        _ => format!("{}: {error}", program.to_string_lossy()),
-    };
-    let run = || -> io::Result<Option<Output>> {
-        let mut child = Command::new(program)
-            .args(words)
-            .stdin(Stdio::piped())
-            .stdout(Stdio::piped())
-            .stderr(Stdio::piped())
-            .spawn()?;
-        let (input, output, errors) = (child.stdin.take(), child.stdout.take(), child.stderr.take());
-        let writer = apart(move || input.map_or(Ok(()), |mut pipe| pipe.write_all(&given)));
-        let (output, errors) = (apart(move || all_of(output)), apart(move || all_of(errors)));
-        let Some(status) = status_in_time(&mut child, time)? else {
-            return Ok(None); // the threads end with their pipes
+/// Locks a folder, so that nobody else renames or removes its files.
+struct FolderLock(Option<File>);
+
+impl FolderLock {
+    /// It goes on without the lock if there is none to be had. An error if somebody has it for a long time.
+    fn new(folder: &Path) -> io::Result<FolderLock> {
+        let Ok(file) = File::open(folder) else {
+            return Ok(FolderLock(None));
         };
-        let (stdout, stderr) = (joined(output?)?, joined(errors?)?);
-        let written = joined(writer?);
-        if status.success() {
-            written?;
+        for _ in 0..TRIES {
+            match sys::lock(&file) {
+                Ok(true) => return Ok(FolderLock(Some(file))),
+                Ok(false) => thread::sleep(Duration::from_millis(10)),
+                Err(_) => return Ok(FolderLock(None)),
+            }
         }
-        Ok(Some(Output { status, stdout, stderr }))
+        Err(Error::new(
+            ErrorKind::TimedOut,
+            "another process has locked the folder for a long time",
+        ))
+    }
+}
+
+impl Drop for FolderLock {
+    fn drop(&mut self) {
+        if let Some(file) = &self.0 {
+            sys::unlock(file); // a child that was forked meanwhile has it too
+        }
+    }
+}
+
+/// What `act` does with what earlier runs of the program have left in a folder. It is looked for before the first test.
+fn with_earlier(folder: &Path, program: &str, act: impl FnOnce(&Earlier)) {
+    let Ok(mut earlier) = EARLIER.lock() else { return };
+    if earlier.as_ref().map_or(true, |earlier| earlier.folder() != folder) {
+        *earlier = Some(Earlier::new(folder, program));
+    }
+    if let Some(earlier) = &*earlier {
+        act(earlier);
+    }
+}
+
+/// The name, with a number if a test has it. It is the caller's from now on.
+fn take_name(stem: &str) -> String {
+    let Ok(mut names) = NAMES.lock() else {
+        return stem.to_owned();
     };
-    match run().map_err(|error| fault(&error))? {
-        None => Err(format!("{} doesn't end", program.to_string_lossy())),
-        Some(output) if output.status.success() => Ok(output.stdout),
-        Some(output) => Err(String::from_utf8_lossy(&output.stderr).trim_end().to_owned()),
-    }
-}
-
-fn apart<T: Send + 'static>(
-    work: impl FnOnce() -> io::Result<T> + Send + 'static,
-) -> io::Result<JoinHandle<io::Result<T>>> {
-    thread::Builder::new().spawn(work)
-}
-
-fn joined<T>(handle: JoinHandle<io::Result<T>>) -> io::Result<T> {
-    handle
-        .join()
-        .unwrap_or_else(|_| Err(Error::other("a thread has panicked")))
-}
-
-fn all_of(pipe: Option<impl Read>) -> io::Result<Vec<u8>> {
-    let mut bytes = Vec::new();
-    pipe.map_or(Ok(0), |mut pipe| pipe.read_to_end(&mut bytes))?;
-    Ok(bytes)
-}
-
-/// How the program ended; None if it had to be killed.
-fn status_in_time(child: &mut Child, time: Duration) -> io::Result<Option<ExitStatus>> {
-    let began = Instant::now();
-    while began.elapsed() < time {
-        if let Some(status) = child.try_wait()? {
-            return Ok(Some(status));
+    let mut name = stem.to_owned();
+    for nth in 2.. {
+        if names.insert(name.clone()) {
+            break;
         }
-        thread::sleep(Duration::from_millis(5));
+        name = format!("{stem}-{nth}");
     }
-    child.kill()?;
-    child.wait()?;
-    Ok(None)
+    name
 }
 
-/// A file's name for a test's: with a digest of it (FNV-1a) if it has other characters, or is long.
-fn file_name(test: &str) -> String {
+fn give_back(name: &str) {
+    if let Ok(mut names) = NAMES.lock() {
+        names.remove(name);
+    }
+}
+
+/// `PROGRAM.`, and how the names of a test's files begin: `PROGRAM.TEST-DIGEST`.
+fn stem(test: &str) -> io::Result<(String, String)> {
+    let path = env::current_exe()?;
+    let path = without_hash(path.as_os_str().as_bytes());
+    let name = path.rsplit(|&byte| byte == b'/').next().unwrap_or_default();
+    let mut program = plain(name, MOST_OF_A_PROGRAM);
+    if program.starts_with(['.', '-']) {
+        program.replace_range(..1, "_");
+    }
+    let digest = digest(&[path, b"\0", test.as_bytes(), b"\0"]);
+    let test = plain(test.as_bytes(), MOST_OF_A_TEST);
+    let stem = format!("{program}.{test}-{digest:012x}");
+    Ok((program + ".", stem))
+}
+
+/// The path of a program without what Cargo adds to its name.
+fn without_hash(path: &[u8]) -> &[u8] {
+    match path.iter().rposition(|&byte| byte == b'-') {
+        Some(at) if path.len() - at == 17 && path[at + 1..].iter().all(u8::is_ascii_hexdigit) => &path[..at],
+        _ => path,
+    }
+}
+
+/// The name, with plain characters only, and at most so many.
+fn plain(name: &[u8], most: usize) -> String {
     let is_plain = |byte: u8| byte.is_ascii_alphanumeric() || b"_-.".contains(&byte);
-    let kept = |(place, byte): (usize, u8)| match byte {
-        b'.' | b'-' if place == 0 => '_',
-        _ if is_plain(byte) => char::from(byte),
-        _ => '_',
-    };
-    let name: String = test.bytes().enumerate().take(MOST_OF_A_NAME).map(kept).collect();
-    if name == test && !test.is_empty() {
-        return name;
-    }
-    let digest = test.bytes().fold(2_166_136_261_u32, |digest, byte| {
-        (digest ^ u32::from(byte)).wrapping_mul(16_777_619)
-    });
-    format!("{name}-{digest:08x}")
+    let kept = |&byte: &u8| if is_plain(byte) { char::from(byte) } else { '_' };
+    name.iter().take(most).map(kept).collect()
+}
+
+/// 48 bits of an FNV-1a of the parts.
+fn digest(parts: &[&[u8]]) -> u64 {
+    let digest = parts
+        .concat()
+        .iter()
+        .fold(14_695_981_039_346_656_037_u64, |digest, &byte| {
+            (digest ^ u64::from(byte)).wrapping_mul(1_099_511_628_211)
+        });
+    digest & 0xffff_ffff_ffff
 }
 
 /// A new folder below the one for temporary files.
@@ -208,29 +268,16 @@ fn new_folder(name: &str) -> io::Result<PathBuf> {
     }
 }
 
-fn opened(path: &Path, truncate: bool) -> io::Result<File> {
+/// A new file.
+fn opened(path: &Path) -> io::Result<File> {
     OpenOptions::new()
         .read(true)
         .write(true)
         .create(true)
-        .truncate(truncate)
+        .truncate(true)
         .custom_flags(sys::O_NOFOLLOW)
         .open(path)
-}
-
-/// The empty scenario, which nobody else locks; None if a test of the name has it.
-fn open_locked(path: &Path) -> io::Result<Option<File>> {
-    loop {
-        let file = opened(path, false)?;
-        if !sys::lock(&file)? {
-            return Ok(None);
-        }
-        if file.metadata()?.nlink() > 0 {
-            file.set_len(0)?;
-            return Ok(Some(file));
-        }
-        // its test has just removed it
-    }
+        .map_err(|error| named(path, &error))
 }
 
 /// Tells of a test that isn't recorded, on standard error itself: `cargo test` shows what is printed only if a test fails.
@@ -245,40 +292,24 @@ pub fn named(path: &Path, error: &Error) -> Error {
 
 #[cfg(test)]
 mod tests {
-    use super::{file_name, printed};
-    use std::ffi::OsStr;
-    use std::time::{Duration, Instant};
-
-    fn by_shell(script: &str, given: Vec<u8>, time: u64) -> Result<Vec<u8>, String> {
-        let words = [OsStr::new("-c"), OsStr::new(script)];
-        printed(OsStr::new("sh"), &words, given, Duration::from_secs(time))
-    }
-
-    #[test]
-    fn programs_for_a_page() {
-        let much = vec![b'x'; 1_000_000];
-        assert_eq!(by_shell("cat; cat >&2 <<e\ny\ne", much.clone(), 300), Ok(much.clone()));
-        assert_eq!(
-            by_shell("head -c 1000000 /dev/zero >&2; cat", much.clone(), 300),
-            Ok(much.clone())
-        );
-        assert_eq!(
-            by_shell("echo why >&2; exit 3", much.clone(), 300),
-            Err("why".to_owned())
-        );
-        assert!(by_shell("exit 0", vec![b'x'; 10_000_000], 300).is_err());
-        let began = Instant::now();
-        assert_eq!(by_shell("exec sleep 1000", much, 1), Err("sh doesn't end".to_owned()));
-        assert!(began.elapsed() < Duration::from_secs(500));
-    }
+    use super::{digest, plain, take_name, without_hash};
 
     #[test]
     fn names_of_files() {
-        assert_eq!(file_name("attach_stops"), "attach_stops");
-        assert_eq!(file_name("a/b \u{e9}"), "a_b___-e322b27b");
-        assert_eq!(file_name(""), "-811c9dc5");
-        assert!(file_name("..").starts_with("_.-"));
-        assert_ne!(file_name("a::b"), file_name("a:_b"));
-        assert_eq!(file_name(&"x".repeat(300)).len(), 89);
+        assert_eq!(plain(b"attach_stops", 50), "attach_stops");
+        assert_eq!(plain("a/b \u{e9}".as_bytes(), 50), "a_b___");
+        assert_eq!(plain(&[b'x'; 300], 50).len(), 50);
+        assert_eq!(without_hash(b"/deps/one-0123456789abcdef"), b"/deps/one");
+        assert_eq!(without_hash(b"/deps/one-0123456789abcde"), b"/deps/one-0123456789abcde");
+        assert_eq!(digest(&[b"a"]), 0xdc4c_8601_ec8c); // by the tables of FNV-1a: af63dc4c8601ec8c
+        assert_ne!(digest(&[b"a::b"]), digest(&[b"a:_b"]));
+    }
+
+    #[test]
+    fn a_name_that_is_in_use_gets_a_number() {
+        let names: Vec<String> = (0..3).map(|_| take_name("in_use")).collect();
+        assert_eq!(names, ["in_use", "in_use-2", "in_use-3"]);
+        super::give_back("in_use-2");
+        assert_eq!(take_name("in_use"), "in_use-2");
     }
 }

@@ -1,10 +1,10 @@
 //! Why a call has no reply.
 
-use crate::{sys, Errno};
+use crate::{endings, sys, Errno};
 use std::fmt;
 
 /// Why a call has no reply. A step was made only after [`Error::NoText`] and [`Error::RecordingFailed`].
-#[derive(Clone, Copy, Debug, PartialEq, Eq, Hash)]
+#[derive(Clone, Copy, PartialEq, Eq, Hash)]
 #[non_exhaustive]
 pub enum Error {
     /// The model answers this errno, and nothing changes: it is also counted as an answer.
@@ -42,8 +42,26 @@ impl Error {
     }
 }
 
+impl fmt::Debug for Error {
+    fn fmt(&self, f: &mut fmt::Formatter<'_>) -> fmt::Result {
+        endings::error_is_shown();
+        match self {
+            Error::Errno(errno) => f.debug_tuple("Errno").field(errno).finish(),
+            Error::Held => f.write_str("Held"),
+            Error::Invalid => f.write_str("Invalid"),
+            Error::TooManyRules => f.write_str("TooManyRules"),
+            Error::NoMemory => f.write_str("NoMemory"),
+            Error::NoText => f.write_str("NoText"),
+            Error::TooMany => f.write_str("TooMany"),
+            Error::RecordingFailed => f.write_str("RecordingFailed"),
+            Error::OtherLibrary => f.write_str("OtherLibrary"),
+        }
+    }
+}
+
 impl fmt::Display for Error {
     fn fmt(&self, f: &mut fmt::Formatter<'_>) -> fmt::Result {
+        endings::error_is_shown();
         match self {
             Error::Errno(errno) => errno.fmt(f),
             Error::Held => f.pad("The caller or the LWP doesn't run, and the step isn't made"),

@@ -119,12 +119,14 @@ flags! {
     /// assert_eq!(mask.bits(), 0b1110);
     /// ```
     EventMask {
+        // tools/format events
         PTRACE_EXEC = 1,
         PTRACE_SCE = 2,
         PTRACE_SCX = 4,
         PTRACE_FORK = 8,
         PTRACE_LWP = 16,
         PTRACE_VFORK = 32,
+        // end
     }
 }
 
@@ -159,6 +161,7 @@ flags! {
     /// assert_eq!(StopFlags::from_pl_flags(0x18), Some(flags));
     /// ```
     StopFlags {
+        // tools/format stop flags
         PL_FLAG_SCE = 1,
         PL_FLAG_SCX = 2,
         PL_FLAG_EXEC = 4,
@@ -168,12 +171,15 @@ flags! {
         PL_FLAG_EXITED = 64,
         PL_FLAG_VFORKED = 128,
         PL_FLAG_VFORK_DONE = 256,
+        // end
     }
 }
 
 impl StopFlags {
     /// FreeBSD's bits, in the order of the flags.
+    // tools/format bits of stop flags
     const PL_FLAGS: [u32; 9] = [0x0004, 0x0008, 0x0010, 0x0040, 0x0080, 0x0100, 0x0200, 0x0400, 0x0800];
+    // end
 
     /// The flags as FreeBSD's `<sys/ptrace.h>` has them.
     pub fn pl_flags(self) -> u32 {
@@ -196,9 +202,11 @@ impl StopFlags {
 flags! {
     /// Options of wait4(2). No wait blocks, so that WNOHANG changes nothing.
     WaitOptions {
+        // tools/format options
         WNOHANG = 1,
         WUNTRACED = 2,
         WCONTINUED = 4,
+        // end
     }
 }
 

@@ -34,9 +34,12 @@
 struct Readme;
 
 mod artifacts;
+mod earlier;
+mod endings;
 mod error;
 mod flags;
 mod numbers;
+mod pages;
 mod record;
 mod refusals;
 mod replies;

@@ -42,6 +42,7 @@ macro_rules! numbered {
 numbered! {
     /// A signal, with the number of FreeBSD's `<sys/signal.h>`. Linux has other numbers for many of them.
     Signal {
+        // tools/format signals
         SIGHUP = 1,
         SIGINT = 2,
         SIGQUIT = 3,
@@ -73,6 +74,7 @@ numbered! {
         SIGINFO = 29,
         SIGUSR1 = 30,
         SIGUSR2 = 31,
+        // end
     }
 }
 
@@ -85,6 +87,7 @@ impl fmt::Display for Signal {
 numbered! {
     /// Why a call is refused, with the number of FreeBSD's `<errno.h>`.
     Errno {
+        // tools/format errors
         EPERM = 1,
         ESRCH = 3,
         ECHILD = 10,
@@ -92,6 +95,7 @@ numbered! {
         EBUSY = 16,
         EINVAL = 22,
         EAGAIN = 35,
+        // end
     }
 }
 
@@ -99,6 +103,7 @@ impl fmt::Display for Errno {
     /// Prints the words of FreeBSD's strerror(3).
     fn fmt(&self, f: &mut fmt::Formatter<'_>) -> fmt::Result {
         f.pad(match self {
+            // tools/format words of errors
             Errno::EPERM => "Operation not permitted",
             Errno::ESRCH => "No such process",
             Errno::ECHILD => "No child processes",
@@ -106,6 +111,7 @@ impl fmt::Display for Errno {
             Errno::EBUSY => "Device busy",
             Errno::EINVAL => "Invalid argument",
             Errno::EAGAIN => "Resource temporarily unavailable",
+            // end
         })
     }
 }

@@ -124,7 +124,6 @@ pub struct Rows {
 
 const ZOMBIE: u32 = 3;
 const IN_CALL: u32 = 1;
-const LAST_PID: i64 = 99_999;
 
 impl Rows {
     fn process(&self, pid: i64) -> sys::Process {
@@ -147,7 +146,7 @@ impl Rows {
 
     /// The process that a target of ptrace(2) names, by its number or an LWP's.
     fn process_of(&self, number: i64) -> i64 {
-        if number <= LAST_PID {
+        if number <= i64::from(sys::LAST_PROCESS) {
             self.process(number).pid.into()
         } else {
             self.owner(number)

@@ -3,21 +3,6 @@
 use crate::{sys, Decision, Errno, Error, EventMask, Signal, SignalSet, StopFlags};
 use std::fmt;
 
-/// A new process with its first LWP, or a new LWP with its process.
-#[derive(Clone, Copy, Debug, PartialEq, Eq, Hash)]
-pub struct New {
-    /// The process.
-    pub pid: u32,
-    /// The LWP.
-    pub lwp: u32,
-}
-
-impl fmt::Display for New {
-    fn fmt(&self, f: &mut fmt::Formatter<'_>) -> fmt::Result {
-        write!(f, "new {} {}", self.pid, self.lwp)
-    }
-}
-
 /// What a wait status reports of a process, as in wait(2).
 ///
 /// ```
@@ -84,32 +69,49 @@ impl fmt::Display for WaitStatus {
     }
 }
 
-/// What PT_LWPINFO reports: the fields of FreeBSD's `struct ptrace_lwpinfo` that the model has.
+// tools/format replies
+/// A process was made, or an LWP of one.
+#[derive(Clone, Copy, Debug, PartialEq, Eq, Hash)]
+pub struct New {
+    /// The process.
+    pub pid: u32,
+    /// The LWP.
+    pub lwp: u32,
+}
+
+impl fmt::Display for New {
+    #[rustfmt::skip]
+    fn fmt(&self, f: &mut fmt::Formatter<'_>) -> fmt::Result {
+        write!(f, "new {} {}", self.pid, self.lwp)
+    }
+}
+
+/// The fields of FreeBSD's `struct ptrace_lwpinfo` that the model has.
 #[derive(Clone, Copy, Debug, PartialEq, Eq, Hash)]
 pub struct LwpInfo {
-    /// `pl_lwpid`
+    /// `pl_lwpid`: the LWP.
     pub lwp: u32,
-    /// Whether this LWP reports the stop: PL_EVENT_SIGNAL; else `pl_event` is PL_EVENT_NONE.
+    /// `pl_event`: whether this LWP reports the stop: PL_EVENT_SIGNAL; else `pl_event` is PL_EVENT_NONE.
     pub reports: bool,
-    /// `pl_flags`
+    /// `pl_flags`: what the stop is about.
     pub flags: StopFlags,
     /// `pl_sigmask`: the signals that it blocks.
     pub blocked: SignalSet,
     /// `pl_siglist`: the signals that are pending for it.
     pub pending: SignalSet,
-    /// `pl_child_pid`, or 0
+    /// `pl_child_pid`: the new process of a fork, or 0.
     pub child: u32,
-    /// `pl_syscall_code`, or 0
+    /// `pl_syscall_code`: the number of the system call, or 0.
     pub code: u32,
 }
 
 impl fmt::Display for LwpInfo {
+    #[rustfmt::skip]
     fn fmt(&self, f: &mut fmt::Formatter<'_>) -> fmt::Result {
-        let event = if self.reports { "SIGNAL" } else { "NONE" };
         write!(
-            f,
-            "info {} {event} flags={} mask={} pending={} child={} code={}",
-            self.lwp, self.flags, self.blocked, self.pending, self.child, self.code
+            f, "info {} {} flags={} mask={} pending={} child={} code={}",
+            self.lwp, if self.reports { "SIGNAL" } else { "NONE" }, self.flags, self.blocked,
+            self.pending, self.child, self.code
         )
     }
 }
@@ -117,11 +119,11 @@ impl fmt::Display for LwpInfo {
 /// A trace stop that the caller's handlers were asked about, and what was done.
 #[derive(Clone, Copy, Debug, PartialEq, Eq, Hash)]
 pub struct Handled {
-    /// The process that has stopped.
+    /// The process.
     pub pid: u32,
-    /// Its status, always a stop.
+    /// What a wait reports of it.
     pub status: WaitStatus,
-    /// The LWP that reports the stop.
+    /// The LWP.
     pub lwp: u32,
     /// The signal of the stop.
     pub signal: Signal,
@@ -138,14 +140,14 @@ pub struct Handled {
 }
 
 impl fmt::Display for Handled {
+    #[rustfmt::skip]
     fn fmt(&self, f: &mut fmt::Formatter<'_>) -> fmt::Result {
-        let (pid, word, signal) = (self.pid, self.status.word(), self.signal.number());
-        write!(f, "handled {pid} {word} at {} signal={signal} ", self.lwp)?;
-        write!(f, "flags={} child={} code={} by ", self.flags, self.child, self.code)?;
-        match self.handler {
-            Some(index) => write!(f, "{index} {}", self.decision),
-            None => write!(f, "none {}", self.decision),
-        }
+        write!(
+            f, "handled {} {} at {} signal={} flags={} child={} code={} by {} {}",
+            self.pid, self.status.word(), self.lwp, self.signal.number(), self.flags, self.child,
+            self.code, self.handler.map_or("none".to_owned(), |index| index.to_string()),
+            self.decision
+        )
     }
 }
 
@@ -154,7 +156,7 @@ impl fmt::Display for Handled {
 pub enum Reply {
     /// The step is done.
     Done,
-    /// A process or an LWP was made.
+    /// A process was made, or an LWP of one.
     New(New),
     /// How many LWPs a process has.
     Number(u32),
@@ -162,12 +164,12 @@ pub enum Reply {
     Status {
         /// The process.
         pid: u32,
-        /// What has become of it.
+        /// What a wait reports of it.
         status: WaitStatus,
     },
     /// There is nothing to collect.
     Nothing,
-    /// An LWP of a stopped process.
+    /// The fields of FreeBSD's `struct ptrace_lwpinfo` that the model has.
     Info(LwpInfo),
     /// LWPs in order of birth.
     Lwps(Vec<u32>),
@@ -175,9 +177,9 @@ pub enum Reply {
     Pids(Vec<u32>),
     /// The events that a process stops for.
     Mask(EventMask),
-    /// A trace stop that went to the caller's handlers.
+    /// A trace stop that the caller's handlers were asked about, and what was done.
     Handled(Handled),
-    /// The LWP has stopped.
+    /// The LWP has stopped, in place of its act or at its act's end.
     Stopped {
         /// The LWP.
         lwp: u32,
@@ -186,11 +188,12 @@ pub enum Reply {
         /// What the stop is about.
         flags: StopFlags,
     },
-    /// A signal handler of the process has run.
+    /// A handler of the process's own took this signal, in place of the act.
     Caught(Signal),
-    /// The process has ended.
+    /// The process has ended, with this status of wait(2).
     Ended(WaitStatus),
 }
+// end
 
 /// Prints a word and numbers.
 fn listed(f: &mut fmt::Formatter<'_>, word: &str, numbers: &[u32]) -> fmt::Result {
@@ -198,7 +201,9 @@ fn listed(f: &mut fmt::Formatter<'_>, word: &str, numbers: &[u32]) -> fmt::Resul
     numbers.iter().try_for_each(|number| write!(f, " {number}"))
 }
 
+// tools/format display
 impl fmt::Display for Reply {
+    #[rustfmt::skip]
     fn fmt(&self, f: &mut fmt::Formatter<'_>) -> fmt::Result {
         match self {
             Reply::Done => f.write_str("ok"),
@@ -209,20 +214,21 @@ impl fmt::Display for Reply {
             Reply::Info(info) => info.fmt(f),
             Reply::Lwps(lwps) => listed(f, "lwps", lwps),
             Reply::Pids(pids) => listed(f, "pids", pids),
-            Reply::Mask(mask) => write!(f, "mask {mask}"),
+            Reply::Mask(events) => write!(f, "mask {events}"),
             Reply::Handled(handled) => handled.fmt(f),
-            Reply::Stopped { lwp, signal, flags } => {
-                write!(f, "stopped {lwp} {} flags={flags}", signal.number())
-            }
+            Reply::Stopped { lwp, signal, flags } => write!(f, "stopped {lwp} {} flags={flags}", signal.number()),
             Reply::Caught(signal) => write!(f, "caught {}", signal.number()),
             Reply::Ended(status) => write!(f, "ended {}", status.word()),
         }
     }
 }
+// end
 
-/// The kinds of the library's replies that are errors.
+// The kinds of the library's replies that are errors.
+// tools/format kinds of errors
 const HELD: u32 = 13;
 const ERROR: u32 = 14;
+// end
 
 /// Separates errors from replies.
 pub(crate) fn checked(code: u32, raw: sys::Reply) -> Result<sys::Reply, Error> {
@@ -244,7 +250,8 @@ fn status(raw: &sys::Reply) -> WaitStatus {
     WaitStatus::from_word(raw.status).expect("a word of wait(2)")
 }
 
-/// The new process or LWP of a reply.
+// tools/format readers
+#[rustfmt::skip]
 pub(crate) fn new(raw: &sys::Reply) -> New {
     New {
         pid: raw.pid,
@@ -252,7 +259,8 @@ pub(crate) fn new(raw: &sys::Reply) -> New {
     }
 }
 
-fn info(raw: &sys::Reply) -> LwpInfo {
+#[rustfmt::skip]
+pub(crate) fn info(raw: &sys::Reply) -> LwpInfo {
     LwpInfo {
         lwp: raw.lwp,
         reports: raw.event == 1,
@@ -264,7 +272,8 @@ fn info(raw: &sys::Reply) -> LwpInfo {
     }
 }
 
-fn handled(raw: &sys::Reply) -> Handled {
+#[rustfmt::skip]
+pub(crate) fn handled(raw: &sys::Reply) -> Handled {
     Handled {
         pid: raw.pid,
         status: status(raw),
@@ -279,28 +288,23 @@ fn handled(raw: &sys::Reply) -> Handled {
 }
 
 /// The reply that has these fields, and for a list these numbers.
+#[rustfmt::skip]
 pub(crate) fn reply(raw: &sys::Reply, numbers: impl FnOnce() -> Vec<u32>) -> Reply {
     match raw.kind {
         0 => Reply::Done,
         1 => Reply::New(new(raw)),
         2 => Reply::Number(raw.number),
-        3 => Reply::Status {
-            pid: raw.pid,
-            status: status(raw),
-        },
+        3 => Reply::Status { pid: raw.pid, status: status(raw) },
         4 => Reply::Nothing,
         5 => Reply::Info(info(raw)),
         6 => Reply::Lwps(numbers()),
         7 => Reply::Pids(numbers()),
         8 => Reply::Mask(EventMask(raw.mask)),
         9 => Reply::Handled(handled(raw)),
-        10 => Reply::Stopped {
-            lwp: raw.lwp,
-            signal: signal(raw),
-            flags: StopFlags(raw.flags),
-        },
+        10 => Reply::Stopped { lwp: raw.lwp, signal: signal(raw), flags: StopFlags(raw.flags) },
         11 => Reply::Caught(signal(raw)),
         12 => Reply::Ended(status(raw)),
         kind => unreachable!("the library has no reply {kind}"),
     }
 }
+// end

@@ -48,6 +48,8 @@ pub struct Session {
     is_test: bool,
     /// Steps in the recording, also once it has ended.
     recorded: usize,
+    /// Whether the last step was answered by an errno or `held`.
+    is_refused: bool,
 }
 
 impl Session {
@@ -75,6 +77,7 @@ impl Session {
             record_error: None,
             is_test: false,
             recorded: 0,
+            is_refused: false,
         }
     }
 
@@ -120,6 +123,10 @@ impl Session {
         self.recorded
     }
 
+    pub(crate) fn is_refused(&self) -> bool {
+        self.is_refused
+    }
+
     /// Why a step couldn't be recorded, if a call returned [`Error::RecordingFailed`].
     pub fn record_error(&self) -> Option<&io::Error> {
         self.record_error.as_ref()
@@ -159,7 +166,9 @@ impl Session {
         if code == sys::ANSWERED {
             self.recorded()?;
         }
-        checked(code, raw)
+        let reply = checked(code, raw);
+        self.is_refused = reply.is_err();
+        reply
     }
 
     /// Copies the session at its present state. Both then go their own ways. The copy isn't recorded.
@@ -244,7 +253,7 @@ impl Session {
 
     /// Adds a stop handler with these rules, at most 16, after the caller's others.
     pub fn install(&mut self, caller: Caller, rules: &[Rule]) -> Result<(), Error> {
-        let mut raws = [sys::Rule::default(); 16];
+        let mut raws = [sys::Rule::default(); sys::MAX_RULES];
         let raws = raws.get_mut(..rules.len()).ok_or(Error::TooManyRules)?;
         for (raw, rule) in raws.iter_mut().zip(rules) {
             *raw = rule.raw();

@@ -19,6 +19,11 @@ pub const INVALID: u32 = 3;
 pub const NO_TEXT: u32 = 4;
 pub const TOO_MANY: u32 = 5;
 
+// tools/format limits
+pub const LAST_PROCESS: u32 = 99_999;
+pub const MAX_RULES: usize = 16;
+// end
+
 /// `tracehost`
 #[repr(C)]
 struct Raw {
@@ -51,6 +56,17 @@ macro_rules! record {
 }
 
 record! {
+    /// `tracehost_rule`
+    Rule {
+        flags,
+        signal,
+        decision,
+        pass,
+    }
+}
+
+// tools/format structs
+record! {
     /// `tracehost_reply`
     Reply {
         kind,
@@ -72,16 +88,6 @@ record! {
         error,
         count,
         stop_pid,
-    }
-}
-
-record! {
-    /// `tracehost_rule`
-    Rule {
-        flags,
-        signal,
-        decision,
-        pass,
     }
 }
 
@@ -121,6 +127,7 @@ record! {
         code,
     }
 }
+// end
 
 extern "C" {
     fn tracehost_version() -> *const c_char;
@@ -167,6 +174,8 @@ pub const EFBIG: i32 = 27;
 extern "C" {
     fn flock(file: c_int, operation: c_int) -> c_int;
     fn getrlimit(resource: c_int, limit: *mut [u64; 2]) -> c_int;
+    fn clock_gettime(clock: c_int, time: *mut [i64; 2]) -> c_int;
+    fn on_exit(function: extern "C" fn(c_int, *mut c_void), argument: *mut c_void) -> c_int;
 }
 
 /// The flag of open(2): a symbolic link isn't followed.
@@ -184,6 +193,28 @@ pub fn lock(file: &File) -> io::Result<bool> {
         error if error.kind() == io::ErrorKind::WouldBlock => Ok(false),
         error => Err(error),
     }
+}
+
+/// Unlocks a file.
+pub fn unlock(file: &File) {
+    const LOCK_UN: c_int = 8;
+    // SAFETY: as for `lock`.
+    unsafe { flock(file.as_raw_fd(), LOCK_UN) };
+}
+
+/// The time by which files are changed now, in seconds and nanoseconds.
+pub fn time_of_files() -> (i64, i64) {
+    const CLOCK_REALTIME_COARSE: c_int = 5;
+    let mut time = [0; 2];
+    // SAFETY: on 64-bit Linux a struct timespec is two i64.
+    unsafe { clock_gettime(CLOCK_REALTIME_COARSE, &mut time) };
+    (time[0], time[1])
+}
+
+/// From now on the function is called with the program's status when it ends by exit(3).
+pub fn call_at_exit(function: extern "C" fn(c_int, *mut c_void)) {
+    // SAFETY: the function is there as long as the program, and takes what on_exit(3) gives it.
+    unsafe { on_exit(function, std::ptr::null_mut()) };
 }
 
 /// The most bytes that a file may get, by RLIMIT_FSIZE of getrlimit(2).

@@ -1,12 +1,24 @@
 //! Sessions for tests: one that fails leaves its session.
 //!
-//! It leaves `NAME.json`, a scenario with the steps, `NAME.out`, their lines, and `NAME.html`, a page with the test's name, the
-//! panic and the state at that step. They are in the folder `$TRACEHOST_ARTIFACTS`, else in a new one below
+//! It leaves `PROGRAM.NAME-DIGEST.json`, a scenario with the steps, with `.out` their lines, and with `.html` a page with the
+//! test's name, the panic and the state at that step. They are in the folder `$TRACEHOST_ARTIFACTS`, else in a new one below
 //! [`std::env::temp_dir`], and standard error says where. `$TRACEHOST` and `$TRACEHOST_VIEW` name the programs that make the
-//! page; else they are `tracehost` and `tracehost-view`. A name that is in use gets a number. A test that passes leaves
-//! nothing, and so does a forked child. What can't be recorded is told, and changes neither a call nor the test.
+//! page; else they are `tracehost` and `tracehost-view`. A further test of the name in this process gets a number. A test that
+//! passes leaves nothing, and removes what it left in an earlier run; a forked child does neither. What can't be recorded is
+//! told, and changes neither a call nor the test.
+//!
+//! A test may fail by a panic, or by returning an error:
+//!
+//! - While a test runs, the process's number is at the end of the names. They stay so if the process dies, which the test's
+//!   next run tells.
+//! - libtest tells no test whether it has failed. A panic of a test's own thread is a failure if the program's status is one:
+//!   if all tests pass, those with `#[should_panic]` leave nothing; beside a failed test their files stay too.
+//! - If the last step was refused, and its [`Error`](crate::Error) is shown in that thread once the session is dropped, as
+//!   libtest shows what a test returns, it is such a failure. An error that was turned into a text before isn't seen: [`run`]
+//!   sees it.
 
 use crate::artifacts::{tell_lost, Artifacts};
+use crate::endings::{self, Ending};
 use crate::record::Recording;
 use crate::{Session, Settings};
 use std::cell::RefCell;
@@ -64,11 +76,12 @@ pub fn session() -> TestSession {
 #[track_caller]
 pub fn session_named(name: &str, settings: Settings) -> TestSession {
     keep_panics();
+    endings::begin();
     let mut session = Session::with_settings(settings).expect("a session");
     let artifacts = match Artifacts::open(name) {
         Ok((artifacts, scenario, lines)) => {
             let kills = settings.kill_on_debugger_exit;
-            match Recording::of_files(&artifacts.scenario, scenario, Some(lines), kills) {
+            match Recording::of_files(&artifacts.now.scenario, scenario, Some(lines), kills) {
                 Ok(recording) => session.record_test(recording),
                 Err(error) => tell_lost(name, "", &error),
             }
@@ -144,7 +157,9 @@ impl Drop for TestSession {
 
 impl TestSession {
     fn end(&mut self) {
-        if thread::panicking() && !self.began_in_panic {
+        let is_told = self.failure.is_some();
+        let panics = thread::panicking() && !self.began_in_panic;
+        if panics {
             let said = PANIC.try_with(|last| last.borrow_mut().take());
             self.fail(said.ok().flatten().unwrap_or_else(|| "a panic".to_owned()));
         }
@@ -152,20 +167,39 @@ impl TestSession {
         if self.process != std::process::id() {
             return; // a forked child, and the files are the parent's
         }
-        let Some((message, step)) = &self.failure else {
-            return artifacts.remove();
-        };
-        let page = match artifacts.make_page(&self.name, message, *step) {
-            Ok(()) => artifacts.page.display().to_string(),
-            Err(why) => format!("none: {why}"),
-        };
-        eprintln!(
-            "tracehost: scenario: {}\ntracehost: lines:    {}\ntracehost: page:     {page}",
-            artifacts.scenario.display(),
-            artifacts.lines.display()
-        );
-        artifacts.keep();
+        match self.failure.take() {
+            Some(failure) if panics && !is_told && is_of_libtest() => {
+                let ending = self.ending(artifacts, failure, true);
+                let page = ending.artifacts.try_page(&ending.test, &ending.message, ending.step);
+                let told = ending.artifacts.last.told(&page);
+                endings::at_exit(ending);
+                eprintln!("{told}"); // which libtest shows if the test fails
+            }
+            Some(failure) => endings::keep(self.ending(artifacts, failure, false)),
+            None if self.session.is_refused() => {
+                let line = self.session.last_line().unwrap_or_default();
+                let why = self.session.explain().ok().flatten().unwrap_or_default();
+                let step = self.session.recorded_steps();
+                endings::refused(self.ending(artifacts, (format!("the last step: {line}\n{why}"), step), false));
+            }
+            None => artifacts.remove(),
+        }
     }
+
+    fn ending(&mut self, artifacts: Artifacts, (message, step): (String, usize), is_told: bool) -> Ending {
+        Ending {
+            artifacts,
+            test: std::mem::take(&mut self.name),
+            message,
+            step,
+            is_told,
+        }
+    }
+}
+
+/// Whether this thread is one that libtest has made for a test, and named.
+fn is_of_libtest() -> bool {
+    thread::current().name().is_some_and(|name| name != "main")
 }
 
 /// From now on a panic's text is kept for the page.

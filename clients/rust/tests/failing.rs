@@ -117,3 +117,100 @@ fn no_step() {
     let _session = test::session_named("no_step", Settings::default());
     panic!("before any step");
 }
+
+/// A debugger and a target that nobody traces.
+fn begun() -> Result<(TestSession, Caller, u32), Error> {
+    let mut session = begin();
+    let debugger = Caller {
+        user: USER,
+        pid: session.spawn(USER)?.pid,
+    };
+    let target = session.spawn(USER)?.pid;
+    Ok((session, debugger, target))
+}
+
+#[test]
+#[ignore = "tests/python/test_failed_tests.py runs it"]
+fn question_mark() -> Result<(), Error> {
+    let (mut session, debugger, target) = begun()?;
+    session.ptrace(debugger, Request::Continue(None), target)?;
+    Ok(())
+}
+
+#[test]
+#[ignore = "tests/python/test_failed_tests.py runs it"]
+fn question_mark_of_a_box() -> Result<(), Box<dyn std::error::Error>> {
+    let (mut session, debugger, target) = begun()?;
+    session.ptrace(debugger, Request::Continue(None), target)?;
+    Ok(())
+}
+
+/// The last step is refused, as the test expects.
+#[test]
+#[ignore = "tests/python/test_failed_tests.py runs it"]
+fn ends_with_a_refusal() -> Result<(), Error> {
+    let (mut session, debugger, target) = begun()?;
+    assert!(session.ptrace(debugger, Request::Continue(None), target).is_err());
+    Ok(())
+}
+
+#[test]
+#[should_panic(expected = "EPERM")]
+#[ignore = "tests/python/test_failed_tests.py runs it"]
+fn should_panic() {
+    let (mut session, debugger, target) = begun().expect("two processes");
+    session
+        .ptrace(debugger, Request::Continue(None), target)
+        .expect("it is traced");
+}
+
+#[test]
+#[should_panic(expected = "another text")]
+#[ignore = "tests/python/test_failed_tests.py runs it"]
+fn should_panic_otherwise() {
+    let (mut session, debugger, target) = begun().expect("two processes");
+    session
+        .ptrace(debugger, Request::Continue(None), target)
+        .expect("it is traced");
+}
+
+#[test]
+#[ignore = "tests/python/test_failed_tests.py runs it"]
+fn dies() {
+    let (mut session, _, _) = begun().expect("two processes");
+    session.list(Caller { user: USER, pid: 1000 }).expect("a list");
+    std::process::abort();
+}
+
+/// The test `$PREFIX.NAME` makes 1 to 5 steps, and fails if its number is even, or if `$ALL_FAIL` is set.
+fn numbered(number: usize) -> Result<(), Error> {
+    let prefix = std::env::var("PREFIX").unwrap_or_default();
+    let name = format!("{prefix}.{number}");
+    let mut session = test::session_named(&name, Settings::default());
+    let caller = Caller {
+        user: USER,
+        pid: session.spawn(USER)?.pid,
+    };
+    for _ in 0..number % 5 {
+        session.spawn(USER)?;
+    }
+    if number % 2 == 0 || std::env::var_os("ALL_FAIL").is_some() {
+        assert_eq!(number % 4, 0, "it is to fail");
+        session.ptrace(caller, Request::Continue(None), 4711)?;
+    }
+    Ok(())
+}
+
+macro_rules! side_by_side {
+    ($($name:ident $number:literal)*) => {
+        mod side_by_side {
+            $(#[test]
+            #[ignore = "tests/python/test_records_at_once.py runs it"]
+            fn $name() -> Result<(), super::Error> {
+                super::numbered($number)
+            })*
+        }
+    };
+}
+
+side_by_side!(n0 0 n1 1 n2 2 n3 3 n4 4 n5 5 n6 6 n7 7 n8 8 n9 9 n10 10 n11 11 n12 12 n13 13 n14 14 n15 15 n16 16 n17 17 n18 18 n19 19);
