@@ -185,7 +185,7 @@ def test_the_page_has_each_function_that_is_imported(what: str, file: str) -> No
 
 def test_each_module_of_tests_is_printed_with_its_head() -> None:
     printed = re.findall(r"^(\S+)\n    \S", pages("print", "tests").out, re.MULTILINE)
-    assert {f"clients/{name}/tests/test_{what}.py" for name, what in (("c", "faults"), ("python", "shell"))} < {*printed}
+    assert {f"clients/{name}/tests/test_{what}.py" for name, what in (("c", "faults"), ("python", "debug"))} < {*printed}
     assert len(printed) == sum(len([*TOP.glob(f"{folder}/test_*.py")]) for folder in ("tests/python", "clients/*/tests"))
 
 

@@ -205,9 +205,10 @@ def test_numbers_are_taken_for_others_only_if_more_is_the_same_then(program: Pat
         for user, own in names_in(traces).items():
             left, right = ([said(line) for line in lines_of(trace) if line["user"] == user] for trace in traces)
             assert len(set(own.values())) == len(own)
+            nobody: dict[int, int] = {}
             counts = [
                 sum((Counter(map(json.dumps, left)) & Counter(json.dumps(with_names(line, names)) for line in right)).values())
-                for names in ({}, own)
+                for names in (nobody, own)
             ]
             assert counts[0] < counts[1]
 

@@ -315,7 +315,8 @@ export class Page {
     const { plan } = this.picture;
     const isOf = (mark) => mark.lane.number === pid && mark.lane.kind === "process" || mark.lane.owner?.number === pid;
     const mark = plan.steps.findLast((one) => one.at <= index && isOf(one));
-    const changed = this.session.histories.get(user)?.steps
+    const steps = /** @type {any} */ (this.session.histories.get(user)?.steps ?? []);
+    const changed = steps
       .findLast(({ index: at, reply }) => at <= index && (reply.rows.processes ?? []).some((row) => row.pid === pid));
     if (changed && changed.index > (mark?.at ?? -1)) this.goToEntry(changed.index);
     else if (mark) this.go(mark);
