@@ -102,7 +102,7 @@ def test_cpp_by_clang(standard: str) -> None:
 # ---- Python
 
 
-@pytest.mark.parametrize("part", ["tracehost", "programs", "recording", "blocking", "shell"])
+@pytest.mark.parametrize("part", ["tracehost", "programs", "recording", "blocking", "debug"])
 def test_python_over_a_pipe(part: str, program: Path) -> None:
     """The tests of clients/python/tests that are the same over a pipe and over the library."""
     environment = {"TRACEHOST": str(program), "TRACEHOST_LIBRARY": ""}

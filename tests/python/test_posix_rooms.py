@@ -97,11 +97,11 @@ def test_runs_that_make_and_remove_folders_leave_each_other_alone(temporary: Pat
 
 def test_a_run_that_is_killed_while_it_makes_a_page(posix: Posix, temporary: Path, tmp_path: Path) -> None:
     """Its viewer waits until the run is killed."""
-    program, record, viewer = posix.race("lost_wakeup"), tmp_path / "record.json", tmp_path / "bin" / "tracehost-view"
+    program, page, viewer = posix.race("lost_wakeup"), tmp_path / "page.html", tmp_path / "bin" / "tracehost-view"
     viewer.parent.mkdir()
     viewer.write_text('#!/bin/sh\necho "$$" >"$TMPDIR/../viewer"\nexec sleep 1000\n')
     viewer.chmod(0o755)
-    words = [sys.executable, "-c", VIEWER, str(viewer), str(RUN), "--seed", "4", "--record", str(record), str(program)]
+    words = [sys.executable, "-c", VIEWER, str(viewer), str(RUN), "--seed", "4", "--compare", str(page), str(program)]
     with subprocess.Popen(words, stderr=subprocess.DEVNULL) as process:
         while not (tmp_path / "viewer").exists() and process.poll() is None:
             time.sleep(0.05)

@@ -357,7 +357,8 @@ void enter_call(struct lwp *l, int call, uint32_t argument, struct met *met)
 		return;
 	l->replaced = 0;
 	reply r = turn(l, entry_of(l, call, argument), (struct how){.done = at_entry, .met = met});
-	if (r.kind == TRACEHOST_ERROR) /* it is in another one */
+	/* it is in another one, which only a thread that is cancelled leaves so */
+	if (r.kind == TRACEHOST_ERROR && call != TRACEHOST_THR_EXIT)
 		foreign_question(l);
 	if (r.kind == TRACEHOST_STOPPED)
 		stay_at_entry(l);
