@@ -61,8 +61,10 @@ def test_other_json_files_are_no_tests(folder: Path, program: Path, tmp_path: Pa
     (lambda folder: (folder / "first.out").unlink(), r"cannot read"),
     (lambda folder: (folder / "first.json").write_text('{"steps":[{"user":1001,"op":"fly"}]}'), r'refused: BadName at step 1\n.*"fly"'),
     (lambda folder: (folder / "first.status").write_text("1\n"), r"status 0 in place of 1"),
+    (lambda folder: ((folder / "first.status").write_text("0\n"), (folder / "first.out").write_text("x\n")), r"-x"),
+    (lambda folder: ((folder / "first.json").write_text("{"), (folder / "first.status").write_text("1")), r"standard output has"),
     (lambda folder: ((folder / "first.json").write_text("{"), (folder / "first.status").write_text("1"), (folder / "first.err").write_text("x\n")), r"BadJson\s+in place of\s+x"),
-], ids=["differs", "no lines", "refused", "not refused", "another fault"])  # fmt: skip
+], ids=["differs", "no lines", "refused", "not refused", "status 0 and other lines", "a fault and lines", "another fault"])  # fmt: skip
 def test_what_fails(folder: Path, program: Path, change: object, wanted: str) -> None:
     """By its name, with the program's words, and only that."""
     assert callable(change)
@@ -72,6 +74,15 @@ def test_what_fails(folder: Path, program: Path, change: object, wanted: str) ->
     assert outcomes(done) == {name: "FAILED" if name == "first" else "PASSED" for name in EXAMPLES}
     assert re.search(wanted, done.stdout), done.stdout
     assert "Traceback" not in done.stdout
+
+
+def test_a_link_is_a_test_too(folder: Path, program: Path, tmp_path: Path) -> None:
+    """Of a scenario elsewhere: it isn't left out unseen."""
+    shutil.move(folder / "first.json", tmp_path / "first.json")
+    (folder / "first.json").symlink_to(tmp_path / "first.json")
+    assert outcomes(run(folder, program)) == dict.fromkeys(EXAMPLES, "PASSED")
+    (folder / "first.out").write_text("x\n")
+    assert outcomes(run(folder, program))["first"] == "FAILED"
 
 
 def test_blessed_lines_fail_once(folder: Path, program: Path) -> None:

@@ -393,6 +393,15 @@ def test_shorter_by_a_command(tmp_path: Path) -> None:
     assert len(json.loads(out.read_text())["steps"]) == 6
 
 
+@pytest.mark.parametrize(
+    "status, wanted", [("nosuchcommand {}", "the shell can't run it, status 127"), ("exit 3", "status 3 without any step too")]
+)
+def test_a_status_that_says_nothing_of_the_steps(tmp_path: Path, status: str, wanted: str) -> None:
+    """Else no step at all would keep it."""
+    done = command(VFORK, "--shrink", tmp_path / "out", "--keep", f"status={status}")
+    assert done.returncode == 1 and wanted in done.stderr and not (tmp_path / "out").exists()
+
+
 def test_shorter_by_its_fault(tmp_path: Path) -> None:
     out = tmp_path / "short.json"
     assert command(TOP / "examples/broken.json", "--shrink", out, "--keep", "fault").returncode == 0

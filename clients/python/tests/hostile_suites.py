@@ -48,7 +48,7 @@ def close_records():
     """Closes the files of records, if there are some."""
     for name in os.listdir("/proc/self/fd"):
         with contextlib.suppress(OSError):
-            if re.search(r"\.(json|out)(\.\d+)?$", os.readlink(f"/proc/self/fd/{name}")):
+            if re.search(r"\\.(json|out)(\\.\\d+)?$", os.readlink(f"/proc/self/fd/{name}")):
                 os.close(int(name))
 
 @contextlib.contextmanager

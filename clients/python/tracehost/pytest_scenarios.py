@@ -1,7 +1,7 @@
 """A pytest plugin: ``pytest --tracehost-scenarios DIR`` runs the scenarios of a folder as tests.
 
 Each file NAME.json of the folder, or below it, is a test, and NAME.out has the lines that it is to print. NAME.status has
-the status of the program if it isn't 0, and NAME.err what it then says on standard error. A scenario without lines fails, as
+the status of the program if it isn't 0, and NAME.err what it then says on standard error; NAME.out may be missing then. A scenario without lines fails, as
 does one that is refused. ``--tracehost-bless`` writes the lines, and the test fails once more, so that nobody takes them
 unread.
 """
@@ -34,7 +34,8 @@ def pytest_configure(config: pytest.Config) -> None:
 
 def pytest_collect_file(parent: pytest.Collector, file_path: Path) -> Optional[pytest.Collector]:
     folders = (Path(folder).resolve() for folder in parent.config.getoption("--tracehost-scenarios"))
-    if file_path.suffix != ".json" or not any(folder in file_path.resolve().parents for folder in folders):
+    above = {*file_path.absolute().parents, *file_path.resolve().parents}  # a link is the folder's too
+    if file_path.suffix != ".json" or not any(folder in above for folder in folders):
         return None
     found: pytest.Collector = _ScenarioFile.from_parent(parent, path=file_path)
     return found
@@ -53,8 +54,9 @@ class _Differs(Exception):
 class _Scenario(pytest.Item):
     def runtest(self) -> None:
         status, errors = self.path.with_suffix(".status"), self.path.with_suffix(".err")
-        if status.exists():
-            self._check_fault(int(status.read_text()), errors.read_text() if errors.exists() else None)
+        wanted = int(status.read_text()) if status.exists() else 0
+        if wanted:
+            self._check_fault(wanted, errors.read_text() if errors.exists() else None)
         else:
             self._check_lines(self.config.getoption("--tracehost-bless"))
 
@@ -73,6 +75,9 @@ class _Scenario(pytest.Item):
             raise _Differs(f"status {done.returncode} in place of {status}\n{done.stderr}".strip())
         if errors is not None and done.stderr != errors:
             raise _Differs(f"standard error has\n{done.stderr}in place of\n{errors}".strip())
+        lines = self.path.with_suffix(".out")
+        if done.stdout != (lines.read_text() if lines.exists() else ""):
+            raise _Differs(f"standard output has\n{done.stdout}".strip())
 
     def _run(self, *words: str, explains: str = "always") -> subprocess.CompletedProcess[str]:
         command = [default(), f"--explain={explains}", *words, "--", str(self.path)]

@@ -20,6 +20,7 @@ from .timeline import Refused, Step, Timeline, answer_text, lines_of
 
 _NUMBERS = ("caller", "target", "which", "lwp")  # the members of a step that are a process or an LWP
 _FIRST = 1000  # the least number of a process
+_NOT_RUN = (126, 127)  # the statuses of a shell for a command that isn't there, or can't be run
 _FAULT = re.compile(r"refused: (\w+)")
 _NEAR = 8  # steps that may only go together, such as the entry of a call and its return, are as near as that
 _NAMED = ("pid", "lwp", "child", "pids", "lwps")  # and of a reply
@@ -176,6 +177,10 @@ class _Command:
     def __init__(self, session: Session, command: str) -> None:
         self._session, self._command = session, command
         self.wanted = self._status(session.steps)
+        if self.wanted in _NOT_RUN:
+            raise Refused(f"{command}: the shell can't run it, status {self.wanted}")
+        if self._status(()) == self.wanted:
+            raise Refused(f"{command}: status {self.wanted} without any step too")
 
     def is_alike(self, made: Made) -> bool:
         return self._status(made.steps) == self.wanted
