@@ -278,7 +278,8 @@ public:
         std::error_code ignored;
         const std::string made = std::filesystem::exists(page(), ignored) ? page() : "none";
         say("scenario: " + scenario() + "\ntracehost: lines:    " + lines() + "\ntracehost: page:     " + made);
-        say("to go on from here: tracehost-debug " + scenario());
+        if (step == 0 || !tell_story(std::to_string(step))) // whose last line is this command
+            say("to go on from here: tracehost-debug " + scenario());
     }
 
     // ---- what a signal's handler may call
@@ -300,20 +301,24 @@ trace=$("$TRACEHOST" --json=trace+rows -- "$1") && printf '%s\n' "$trace" |
         std::copy(std::begin(made), std::end(made), words);
     }
 
-    // Waits for a group of processes by its first one, and kills it if it doesn't end: false.
-    static bool wait_for(pid_t child) noexcept
+    enum class ending { well, badly, never };
+
+    // Waits for a group of processes by its first one, and kills it if it doesn't end.
+    static ending wait_for(pid_t child, int seconds = seconds_for_a_page) noexcept
     {
         int status = 0;
-        for (int times = 0; times < seconds_for_a_page * 100; times++) {
+        for (int times = 0; times < seconds * 100; times++) {
             const pid_t ended = waitpid(child, &status, WNOHANG);
-            if (ended != 0 && (ended > 0 || errno != EINTR)) // a program that ignores SIGCHLD gets no status
-                return true;
+            if (ended > 0)
+                return WIFEXITED(status) && WEXITSTATUS(status) == 0 ? ending::well : ending::badly;
+            if (ended < 0 && errno != EINTR) // a program that ignores SIGCHLD gets no status
+                return ending::badly;
             poll(nullptr, 0, 10);
         }
         kill(-child, SIGKILL);
         while (waitpid(child, &status, 0) < 0 && errno == EINTR)
             continue;
-        return false;
+        return ending::never;
     }
 
     // on standard error, and not by a stream, which may throw
@@ -390,24 +395,46 @@ private:
     {
         words_of_command words;
         page_command(words, test.c_str(), message.c_str(), step.c_str());
+        if (run(words, seconds_for_a_page) == ending::never)
+            say("the page isn't made in " + std::to_string(seconds_for_a_page) + " seconds");
+    }
+
+    // What the session comes to, in words. False if there is no tracehost-debug, or it fails.
+    bool tell_story(const std::string &step)
+    {
+        const char *named = std::getenv("TRACEHOST_DEBUG"), *program = named == nullptr ? "tracehost-debug" : named;
+        const std::string at = "--at=" + step;
+        const char *const words[] = {program, "--story", at.c_str(), "--", scenario().c_str(), nullptr};
+        return *program != '\0' && run(words, TRACEHOST_SECONDS_FOR_A_STORY) == ending::well;
+    }
+
+    // Runs a command with standard error as its output, as a group of processes.
+    static ending run(const char *const *words, int seconds)
+    {
         posix_spawn_file_actions_t files;
         posix_spawnattr_t attributes;
+        ending how = ending::badly;
         if (posix_spawn_file_actions_init(&files) != 0)
-            return;
+            return how;
         if (posix_spawnattr_init(&attributes) == 0) {
             posix_spawn_file_actions_addopen(&files, STDIN_FILENO, "/dev/null", O_RDONLY, 0);
             posix_spawn_file_actions_adddup2(&files, STDERR_FILENO, STDOUT_FILENO);
             posix_spawnattr_setflags(&attributes, POSIX_SPAWN_SETPGROUP);
             pid_t child = 0;
-            if (posix_spawn(&child, words[0], &files, &attributes, const_cast<char *const *>(words), environ) == 0 && !wait_for(child))
-                say("the page isn't made in " + std::to_string(seconds_for_a_page) + " seconds");
+            std::fflush(stderr);
+            if (posix_spawnp(&child, words[0], &files, &attributes, const_cast<char *const *>(words), environ) == 0)
+                how = wait_for(child, seconds);
             posix_spawnattr_destroy(&attributes);
         }
         posix_spawn_file_actions_destroy(&files);
+        return how;
     }
 
 #ifndef TRACEHOST_SECONDS_FOR_A_PAGE // a test has less
 #define TRACEHOST_SECONDS_FOR_A_PAGE 300
+#endif
+#ifndef TRACEHOST_SECONDS_FOR_A_STORY
+#define TRACEHOST_SECONDS_FOR_A_STORY 60
 #endif
     static constexpr int seconds_for_a_page = TRACEHOST_SECONDS_FOR_A_PAGE;
 

@@ -98,7 +98,7 @@ void th_test_fail(th_host *h, const char *file, int line, const char *message)
     thp_leave(h);
 }
 
-/* Makes the page, and says what is left. */
+/* Makes the page, and says what is left, and what the session comes to. */
 static void leave(const struct thp_test *test)
 {
     const struct thp_artifacts *a = &test->artifacts;
@@ -106,10 +106,12 @@ static void leave(const struct thp_test *test)
         fprintf(stderr, "tracehost: the record stays %s: %s\n", a->scenario_now, strerror(errno));
         return;
     }
-    int has_page = thp_make_page(a, test->name, test->message, test->has_failed ? test->step : test->host->steps) == 0;
+    size_t step = test->has_failed ? test->step : test->host->steps;
+    int has_page = thp_make_page(a, test->name, test->message, step) == 0;
     fprintf(stderr, "tracehost: scenario: %s\ntracehost: lines:    %s\ntracehost: page:     %s\n", a->scenario, a->lines,
         has_page ? a->page : "none");
-    fprintf(stderr, "tracehost: to go on from here: tracehost-debug %s\n", a->scenario);
+    if (thp_tell_story(a, step) != 0) /* whose last line is this command */
+        fprintf(stderr, "tracehost: to go on from here: tracehost-debug %s\n", a->scenario);
 }
 
 int th_test_end(th_host *h, int passed)

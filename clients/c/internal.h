@@ -279,6 +279,9 @@ void thp_page_command(
 int thp_make_page(const struct thp_artifacts *a, const char *test, const char *message, size_t step);
 /* Waits for the group of processes that makes a page, and kills it if it doesn't end. A signal's handler may call it. */
 void thp_wait_for_page(pid_t child);
+/* What the session of a test that failed after so many steps comes to, in words; -1 without tracehost-debug, or if it fails.
+   $TRACEHOST_DEBUG names it; an empty one is none. */
+int thp_tell_story(const struct thp_artifacts *a, size_t step);
 /* A step of a test can't be recorded, which is told. */
 void thp_tell_lost_record(const th_host *h, int error);
 /* The session of a test that hasn't ended is closed. */

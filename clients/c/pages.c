@@ -1,4 +1,4 @@
-/* The page of a test that has failed, which the program and the viewer make. */
+/* The page of a test that has failed, which the program and the viewer make, and its story, which tracehost-debug tells. */
 #define _POSIX_C_SOURCE 200809L
 
 #include "internal.h"
@@ -8,11 +8,15 @@
 #include <signal.h>
 #include <spawn.h>
 #include <stdio.h>
+#include <stdlib.h>
 #include <sys/wait.h>
 #include <unistd.h>
 
 #ifndef TH_SECONDS_FOR_A_PAGE /* a test has less */
 #define TH_SECONDS_FOR_A_PAGE 300
+#endif
+#ifndef TH_SECONDS_FOR_A_STORY
+#define TH_SECONDS_FOR_A_STORY 60
 #endif
 
 extern char **environ;
@@ -33,22 +37,31 @@ void thp_page_command(
         argv[i] = words[i];
 }
 
-void thp_wait_for_page(pid_t child)
+/* Waits for a group of processes by its first one, and kills it if it doesn't end. Returns whether it ended with status 0. */
+static int wait_for(pid_t child, int seconds)
 {
     int status;
-    for (int times = 0; times < TH_SECONDS_FOR_A_PAGE * 100; times++) {
+    for (int times = 0; times < seconds * 100; times++) {
         pid_t ended = waitpid(child, &status, WNOHANG);
-        if (ended > 0 || (ended < 0 && errno != EINTR)) /* a program that ignores SIGCHLD gets no status */
-            return;
+        if (ended > 0)
+            return WIFEXITED(status) && WEXITSTATUS(status) == 0;
+        if (ended < 0 && errno != EINTR) /* a program that ignores SIGCHLD gets no status */
+            return 0;
         poll(NULL, 0, 10);
     }
     kill(-child, SIGKILL);
     while (waitpid(child, &status, 0) < 0 && errno == EINTR)
         continue;
+    return 0;
+}
+
+void thp_wait_for_page(pid_t child)
+{
+    wait_for(child, TH_SECONDS_FOR_A_PAGE);
 }
 
 /* Runs the command with standard error as its output, as a group of processes; its first one, or -1. */
-static pid_t spawn_page(const char *const argv[])
+static pid_t spawn(const char *const argv[])
 {
     posix_spawn_file_actions_t files;
     posix_spawnattr_t attributes;
@@ -61,7 +74,7 @@ static pid_t spawn_page(const char *const argv[])
             error = posix_spawn_file_actions_adddup2(&files, STDERR_FILENO, STDOUT_FILENO);
         if (error == 0)
             error = posix_spawnattr_setflags(&attributes, POSIX_SPAWN_SETPGROUP);
-        if (error != 0 || posix_spawn(&child, argv[0], &files, &attributes, (char *const *)argv, environ) != 0)
+        if (error != 0 || posix_spawnp(&child, argv[0], &files, &attributes, (char *const *)argv, environ) != 0)
             child = -1;
         posix_spawnattr_destroy(&attributes);
     }
@@ -77,9 +90,22 @@ int thp_make_page(const struct thp_artifacts *a, const char *test, const char *m
         return -1;
     snprintf(number, sizeof number, "%zu", step);
     thp_page_command(argv, a, test, message, number);
-    pid_t child = spawn_page(argv);
+    pid_t child = spawn(argv);
     if (child < 0)
         return -1;
     thp_wait_for_page(child);
     return access(a->page, F_OK);
+}
+
+int thp_tell_story(const struct thp_artifacts *a, size_t step)
+{
+    const char *named = getenv("TRACEHOST_DEBUG"), *program = named == NULL ? "tracehost-debug" : named;
+    char number[32];
+    if (step == 0 || program[0] == '\0')
+        return -1;
+    snprintf(number, sizeof number, "--at=%zu", step);
+    const char *const argv[] = {program, "--story", number, "--", a->scenario, NULL};
+    fflush(stderr);
+    pid_t child = spawn(argv);
+    return child >= 0 && wait_for(child, TH_SECONDS_FOR_A_STORY) ? 0 : -1;
 }

@@ -6,6 +6,7 @@ import ast
 import dataclasses
 import pathlib
 import re
+from collections.abc import Sequence
 
 from .strict import Place, Source
 from .tables import Format
@@ -85,7 +86,8 @@ class Refusals:
             source.mentioned(place._replace(key="words"), PLACEHOLDER, row["words"], [*IN_TEXTS, *form.numbers])
             source.known(place._replace(key="answer"), row["answer"], ["held", *(error.name for error in form.errors)])
             for key in {"possible", "holds"} & set(row):
-                check_expression(source, place._replace(key=key), row[key], numbers, sets)
+                functions = FUNCTIONS if key == "holds" else {}
+                check_expression(source, place._replace(key=key), row[key], numbers, sets, ARGUMENTS, functions)
             conditions.append(Condition(**{**row, "words": with_numbers(row["words"], form.numbers)}))
         calls = _calls(source, form)
         asked = {name for call in calls for name in call.order}
@@ -127,24 +129,31 @@ def _calls(source: Source, form: Format) -> tuple[Call, ...]:
     return tuple(calls)
 
 
-def check_expression(source: Source, place: Place, text: str, numbers: dict[str, int], sets: dict[str, tuple[int, ...]]) -> None:
-    """Its names are arguments, numbers and functions of rows; `possible` has no function."""
+def check_expression(
+    source: Source,
+    place: Place,
+    text: str,
+    numbers: dict[str, int],
+    sets: dict[str, tuple[int, ...]],
+    arguments: Sequence[str],
+    functions: dict[str, int],
+) -> None:
+    """Its names are arguments, numbers, sets and functions."""
     try:
         nodes = list(ast.walk(ast.parse(text, mode="eval")))
     except SyntaxError as error:
         source.wrong(place, f"{text!r} is no expression: {error.msg}")
-    functions = {} if place.key == "possible" else FUNCTIONS
     called = [node.func for node in nodes if isinstance(node, ast.Call)]
     members = [node.comparators[0] for node in nodes if isinstance(node, ast.Compare) and isinstance(node.ops[0], ast.In)]
     for node in nodes:
         if isinstance(node, ast.Call) and isinstance(node.func, ast.Name):
             source.known(place, node.func.id, functions)
-            if len(node.args) != FUNCTIONS[node.func.id] or node.keywords:
-                source.wrong(place, f"{node.func.id} takes {FUNCTIONS[node.func.id]} arguments")
+            if len(node.args) != functions[node.func.id] or node.keywords:
+                source.wrong(place, f"{node.func.id} takes {functions[node.func.id]} arguments")
         elif isinstance(node, ast.Name) and node in members:
             source.known(place, node.id, sets)
         elif isinstance(node, ast.Name) and node not in called:
-            source.known(place, node.id, [*ARGUMENTS, *numbers])
+            source.known(place, node.id, [*arguments, *numbers])
         elif isinstance(node, ast.Constant) and type(node.value) is not int:
             source.wrong(place, f"{node.value!r} is no whole number")
         elif not isinstance(node, PARTS):

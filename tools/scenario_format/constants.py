@@ -227,7 +227,8 @@ def rust_limits(form: Format) -> str:
 
 def viewer_names(form: Format) -> str:
     resuming = ", ".join(quoted(names(form.resuming)))
-    numbers = "".join(f"export const {name} = {form.numbers[name]};\n" for name in ("FIRST_USER", "LAST_USER", "LAST_PROCESS"))
+    wanted = ("FIRST_USER", "LAST_USER", "FIRST_PROCESS", "PROCESS_NUMBERS", "LAST_PROCESS", "FIRST_LWP", "LWP_NUMBERS")
+    numbers = "".join(f"export const {name} = {form.numbers[name]};\n" for name in wanted)
     return (
         f"export const SIGNALS = [\n{lines(quoted(('SIG-', *form.signals)), 116, '  ')}];\n{numbers}"
         f"/** The requests that let their target go on. */\nexport const RESUMES = [{resuming}];\n"

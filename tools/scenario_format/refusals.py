@@ -21,6 +21,8 @@ class Language:
     both: str = " && "
     either: str = " || "
     negated: str = "!"
+    equal: str = "=="
+    unequal: str = "!="
 
     def expression(self, text: str, refusals: Refusals) -> str:
         return self._of(ast.parse(text, mode="eval").body, refusals, False)
@@ -33,7 +35,7 @@ class Language:
             return self._comparison(node, refusals, is_part)
         if isinstance(node, ast.UnaryOp) and isinstance(node.op, ast.Not):
             inner = self._of(node.operand, refusals, False)
-            return self.negated + (inner if isinstance(node.operand, ast.Call) else f"({inner})")
+            return self.negated + (inner if isinstance(node.operand, (ast.Call, ast.Name)) else f"({inner})")
         if isinstance(node, ast.UnaryOp) and isinstance(node.op, ast.USub):
             return f"-{self._of(node.operand, refusals, True)}"
         if isinstance(node, ast.Constant):
@@ -50,8 +52,8 @@ class Language:
         if isinstance(node.ops[0], ast.In):
             assert isinstance(terms[1], ast.Name)
             term = self._of(terms[0], refusals, True)
-            return self._joined([f"{term} == {number}" for number in refusals.sets[terms[1].id]], self.either, is_part)
-        signs = {ast.Eq: "==", ast.NotEq: "!=", ast.Lt: "<", ast.LtE: "<=", ast.Gt: ">", ast.GtE: ">="}
+            return self._joined([f"{term} {self.equal} {number}" for number in refusals.sets[terms[1].id]], self.either, is_part)
+        signs = {ast.Eq: self.equal, ast.NotEq: self.unequal, ast.Lt: "<", ast.LtE: "<=", ast.Gt: ">", ast.GtE: ">="}
         written = [self._of(term, refusals, True) for term in terms]
         parts = [f"{left} {signs[type(op)]} {right}" for left, op, right in zip(written, node.ops, written[1:])]
         return self._joined(parts, self.both, is_part)

@@ -25,10 +25,10 @@ export class Drawing {
   /**
    * @param {import("./plan.mjs").Plan} plan
    * @param {Part} part
-   * @param {{failedAt: number | null, noticed: Set<number>}} marked  the indices of the entry that a test
+   * @param {{failedAt: number | null, noticed: Map<number, string>}} marked  the indices of the entry that a test
    *   failed after, and of those to look at
    */
-  constructor(plan, part, { failedAt, noticed } = { failedAt: null, noticed: new Set() }) {
+  constructor(plan, part, { failedAt, noticed } = { failedAt: null, noticed: new Map() }) {
     this.plan = plan;
     this.part = part;
     this.failedAt = failedAt;
@@ -250,7 +250,8 @@ export class Drawing {
     if (entry.reply.user) Object.assign(data, { "data-user": entry.reply.user, "data-step": entry.reply.step });
     const width = Math.max(8, Math.min(plan.step, 26));
     const tall = Math.min(lane.height - 4, 20);
-    const name = this.noticed.has(entry.index) ? "mark noticed" : "mark";
+    const kind = this.noticed.get(entry.index);
+    const name = kind ? `mark noticed ${kind}` : "mark";
     const made = shape("g", { class: name, role: "img", ...data, transform: `translate(${mark.x} ${lane.base})` },
       shape("rect", { class: "hit", x: -width / 2, y: -tall / 2, width, height: tall, rx: 3 }),
       shape("path", { class: `shape ${classes}`, d: path, "fill-rule": "evenodd",

@@ -9,7 +9,11 @@ export const SIGNALS = [
 ];
 export const FIRST_USER = 1001;
 export const LAST_USER = 1064;
+export const FIRST_PROCESS = 1000;
+export const PROCESS_NUMBERS = 1000;
 export const LAST_PROCESS = 99999;
+export const FIRST_LWP = 100000;
+export const LWP_NUMBERS = 4000;
 /** The requests that let their target go on. */
 export const RESUMES = ["PT_CONTINUE", "PT_STEP", "PT_DETACH", "PT_TO_SCE", "PT_TO_SCX", "PT_SYSCALL"];
 // end

@@ -1,102 +1,271 @@
-/** What an author of a debugger may want to look at: signals that aren't passed on, stops that are lost. */
+/** What an author of a debugger may want to look at in a session: the rules of notice_rules.mjs, asked of its steps and rows. */
 
-import { RESUMES, signalName } from "./names.mjs";
+import { FIRST_LWP, FIRST_PROCESS, FIRST_USER, LAST_PROCESS, LWP_NUMBERS, PROCESS_NUMBERS, RESUMES, signalName, SIGNALS } from "./names.mjs";
+import { RULES } from "./notice_rules.mjs";
 import { change, noRows } from "./state.mjs";
 
-/** @typedef {{at: number, text: string}} Notice  the index of an entry, and what happens there */
-/** @typedef {import("./state.mjs").ProcessRow} ProcessRow */
+/**
+ * The index of an entry, and what to look at there; what is `open` is so at the end of the session.
+ *
+ * @typedef {{at: number, user: number, kind: "wrong" | "open", text: string}} Notice
+ * @typedef {import("./state.mjs").ProcessRow} ProcessRow
+ * @typedef {import("./lanes.mjs").Entry} Entry
+ */
 
-/** Stops with these signals are the tracing's own; nothing is lost if they aren't passed on. */
-const OWN = ["SIGSTOP", "SIGTRAP"];
+const STATES = ["runs", "trace_stop", "job_stop", "zombie"];
 const DECISIONS = { continue: "PT_CONTINUE", detach: "PT_DETACH" };
+/** What isn't known of a process, and a process that isn't there. */
+const UNTOLD = { since: 0, reportedAt: 0, wentOnAt: 0, vainAt: 0, missedAt: 0, steppedAt: 0, waitsMissed: 0, missedFor: 0,
+  stepping: 0, haveOthersGoneOn: false };
+const NO_PROCESS = { state: "runs", pending: [], reported: false, tracer: undefined, stop_signal: undefined, stop_lwp: 0 };
 
-/** The request that lets a process go on, with the process and the signal that is passed on; null if there is none. */
-function goesOn({ asked, reply }, rows) {
-  if (reply.reply === "handled" && DECISIONS[reply.decision]) {
-    return { request: DECISIONS[reply.decision], pid: reply.pid, passed: reply.pass?.signal ?? null };
-  }
-  if (asked?.op !== "ptrace" || reply.reply !== "ok" || !RESUMES.includes(asked.request)) return null;
-  const pid = rows.lwps.get(asked.target)?.pid ?? asked.target;
-  return { request: asked.request, pid, passed: asked.data ? signalName(asked.data) : null };
+const isReportedStop = ({ state, reported }) => state === "trace_stop" && Boolean(reported);
+const numberOf = (signal) => (signal ? SIGNALS.indexOf(signal) : 0);
+const shown = (name, value) => (name.endsWith("signal") ? signalName(value) : String(value));
+
+/** The other user of the session whose number it is, or 0. */
+function ownerOf(number, user, users) {
+  const owner = number <= LAST_PROCESS ? FIRST_USER + Math.floor((number - FIRST_PROCESS) / PROCESS_NUMBERS)
+    : FIRST_USER + Math.floor((number - FIRST_LWP) / LWP_NUMBERS);
+  return owner !== user && users.has(owner) ? owner : 0;
 }
 
-/** A signal that a process has stopped with, and that it doesn't get. */
-function droppedSignal({ request, pid, passed }, before, reply) {
-  const signal = reply.reply === "handled" ? reply.stopped : before.processes.get(pid)?.stop_signal;
-  if (!signal || passed === signal || (OWN.includes(signal) && passed === null)) return null;
-  const what = passed === null ? "drops" : `passes ${passed} for`;
-  return `${request} of ${pid} ${what} its ${signal}`;
-}
-
-/** A process that is no longer traced, and that a SIGTRAP of its tracing will end. */
-function pendingTrap({ request, pid }, after) {
-  if (request !== "PT_DETACH") return null;
-  const own = [after.processes.get(pid), ...[...after.lwps.values()].filter((lwp) => lwp.pid === pid)];
-  return own.some((row) => row?.pending?.includes("SIGTRAP")) ? `${pid} is detached with a pending SIGTRAP` : null;
-}
-
-/** What may be wrong with a session of lines with rows. */
-class Notices {
-  constructor() {
+/** A user's rows, and what the steps have told of them. Steps are counted from 1. */
+class UserNotices {
+  /**
+   * @param {number} user
+   * @param {Set<number>} users  of the session
+   */
+  constructor(user, users) {
+    Object.assign(this, { user, users });
     /** @type {Notice[]} */
     this.found = [];
-    /** @type {Map<number, import("./state.mjs").Rows>} of each user */
-    this.rows = new Map();
-    /** Of each process the entry at which it has stopped, and whether its tracer was seen waiting since then. */
-    this.stops = new Map();
+    this.rows = noRows();
+    /** @type {Map<number, typeof UNTOLD>} */
+    this.told = new Map();
+    this.endedAt = new Map();
+    this.suspendedAt = new Map();
+    this.failedAt = new Map(); // by caller and target
+    this.withNews = new Set(); // those to whom a stop was reported since they let a process go on
+    this.last = 0;
   }
 
-  /** @param {import("./lanes.mjs").Entry} entry */
+  /** @param {Entry} entry  the user's next one */
   read(entry) {
-    const { index, reply } = entry;
-    if (!this.rows.has(reply.user)) this.rows.set(reply.user, noRows());
-    const rows = this.rows.get(reply.user);
-    const gone = goesOn(entry, rows);
-    if (gone) this.add(index, droppedSignal(gone, rows, reply));
-    change(rows, reply.rows);
-    if (gone) this.add(index, pendingTrap(gone, rows));
-    for (const row of reply.rows.processes ?? []) this.note(row, index);
-    if (reply.reply === "nothing") this.waited(entry, rows);
+    const { reply } = entry;
+    const at = entry.index + 1;
+    this.last = at;
+    const refusal = this.refusal(entry, at);
+    if (refusal) this.ask("refusal", at, refusal);
+    const goneOn = this.goneOn(entry);
+    const debuggers = this.ended(reply.rows).map((pid) => ({ pid, tracee: this.firstTracee(pid) }));
+    this.noteRows(at, reply.rows);
+    change(this.rows, reply.rows);
+    for (const pid of reply.rows.removed_processes ?? []) this.told.delete(pid);
+    this.noteAnswer(entry, at);
+    if (goneOn) this.ask("go_on", at, this.letOn(entry, at, goneOn));
+    for (const facts of debuggers) this.ask("debugger", at, facts);
   }
 
-  add(at, text) {
-    if (text) this.found.push({ at, text });
-  }
-
-  note(row, index) {
-    if (row.state !== "trace_stop") this.stops.delete(row.pid);
-    else if (!row.reported || !this.stops.has(row.pid)) this.stops.set(row.pid, { at: index, isTold: false });
-  }
-
-  /** A tracer waits in vain while a process that it traces is in a stop that it knows. */
-  waited({ index, asked }, rows) {
-    for (const { pid, tracer, state, reported } of rows.processes.values()) {
-      const stop = this.stops.get(pid);
-      if (tracer !== asked?.caller || state !== "trace_stop" || !reported || !stop || stop.isTold) continue;
-      stop.isTold = true;
-      this.add(index, `${tracer} waits, but ${pid} is still in the stop that it reported`);
-    }
-  }
-
-  /** The stops that no wait has reported until the end. */
+  /** The session ends. */
   end() {
-    for (const { processes } of this.rows.values()) {
-      for (const { pid, tracer, state, reported, stop_signal: signal } of processes.values()) {
-        if (state === "trace_stop" && !reported) {
-          this.add(this.stops.get(pid).at, `no wait of ${tracer} reports this ${signal} of ${pid}`);
-        }
-      }
+    for (const row of this.rows.processes.values()) this.ask("process", this.last, this.factsOfProcess(row));
+    for (const row of this.rows.lwps.values()) this.ask("lwp", this.last, this.factsOfLwp(row));
+  }
+
+  ask(of, at, facts) {
+    for (const rule of RULES) {
+      if (rule.of !== of || !rule.holds(facts)) continue;
+      const text = rule.words.replace(/\{(\w+)\}/g, (_, name) => shown(name, facts[name]));
+      this.found.push({ at: (rule.at ? facts[rule.at] : at) - 1, user: this.user, kind: rule.kind, text });
     }
-    return this.found.sort((one, other) => one.at - other.at);
+  }
+
+  // ---- what a step asks and answers
+
+  process(pid) {
+    return this.rows.processes.get(pid) ?? NO_PROCESS;
+  }
+
+  toldOf(pid) {
+    if (!this.told.has(pid)) this.told.set(pid, { ...UNTOLD });
+    return this.told.get(pid);
+  }
+
+  lwpsOf(pid) {
+    return [...this.rows.lwps.values()].filter((lwp) => lwp.pid === pid);
+  }
+
+  /** The facts of a process that goes on, before the step; null if none does. */
+  goneOn({ asked, reply }) {
+    const isDecided = reply.reply === "handled" && DECISIONS[reply.decision];
+    if (!isDecided && (asked.op !== "ptrace" || reply.reply !== "ok" || !RESUMES.includes(asked.request))) return null;
+    const pid = isDecided ? reply.pid : this.rows.lwps.get(asked.target)?.pid ?? asked.target;
+    const request = isDecided ? DECISIONS[reply.decision] : asked.request;
+    const { stop_signal: stop, stop_lwp: by = 0, pending = [] } = this.process(pid);
+    const lwps = this.lwpsOf(pid);
+    return {
+      request, pid, stop_signal: numberOf(isDecided ? reply.stopped : stop),
+      passed_signal: isDecided ? reply.pass?.number ?? 0 : asked.data ?? 0,
+      has_trap: [pending, ...lwps.map((lwp) => lwp.pending ?? [])].some((signals) => signals.includes("SIGTRAP")),
+      is_detach: request === "PT_DETACH",
+      stepping: request === "PT_STEP" && asked.target === pid && lwps.length > 1 ? by : 0,
+    };
+  }
+
+  /** The same with what is so afterwards. */
+  letOn({ asked }, at, facts) {
+    const told = this.toldOf(facts.pid);
+    Object.assign(told, { steppedAt: facts.stepping ? at : 0, stepping: facts.stepping });
+    this.withNews.delete(asked.caller);
+    for (const row of this.rows.processes.values()) {
+      if (row.pid !== facts.pid && row.tracer === asked.caller && isReportedStop(row)) this.toldOf(row.pid).haveOthersGoneOn = true;
+    }
+    return {
+      ...facts, state: STATES.indexOf(this.rows.processes.get(facts.pid)?.state ?? "zombie"),
+      running: this.lwpsOf(facts.pid).filter(({ suspended }) => !suspended).length,
+    };
+  }
+
+  /** The facts of an errno that answers what names a process; null if it is none. */
+  refusal({ asked, reply }, at) {
+    const number = { ptrace: asked.target, kill: asked.which, wait4: asked.which }[asked.op] ?? 0;
+    const key = `${asked.caller} ${number}`;
+    if (reply.reply === "ok") this.failedAt.delete(key);
+    if (number <= 0 || reply.reply !== "error") return null;
+    const request = asked.request ?? asked.op;
+    const pid = this.rows.lwps.get(number)?.pid ?? number;
+    const row = this.process(pid);
+    const facts = {
+      request, caller: asked.caller, pid: number, is_wait: request === "wait4", is_kill: request === "kill",
+      is_attach: request === "PT_ATTACH", ended_at: this.endedAt.get(number) ?? 0, failed_at: this.failedAt.get(key) ?? 0,
+      owner: ownerOf(number, this.user, this.users), is_tracee: row.tracer === asked.caller, state: STATES.indexOf(row.state),
+      is_reported: Boolean(row.reported), stop_signal: numberOf(row.stop_signal), went_on_at: this.toldOf(pid).wentOnAt,
+      has_kill: (row.pending ?? []).includes("SIGKILL"),
+    };
+    if (facts.is_attach && !facts.is_tracee) this.failedAt.set(key, at);
+    return facts;
+  }
+
+  noteAnswer({ asked, reply }, at) {
+    if (asked.op !== "wait4" && asked.op !== "handle") return;
+    const { caller, which = -1 } = asked;
+    if (reply.stopped !== undefined) this.withNews.add(caller);
+    else if (reply.pid !== undefined && reply.continued === undefined) this.endedAt.set(reply.pid, at);
+    for (const [pid, told] of this.told) {
+      if ((which === -1 || which === pid) && this.process(pid).tracer === caller) told.waitsMissed = 0;
+    }
+    if (reply.reply === "nothing") this.noteVainWait(at, caller, which);
+  }
+
+  noteVainWait(at, caller, which) {
+    const own = new Map([...this.rows.processes].filter(([, { tracer, parent }]) => (tracer ?? parent) === caller));
+    if (which === -1 && !this.withNews.has(caller) && [...own.values()].every(isReportedStop)) {
+      for (const told of [...own.keys()].map((pid) => this.toldOf(pid))) if (told.haveOthersGoneOn) told.vainAt ||= at;
+    }
+    for (const { pid, vfork_child: child } of this.rows.lwps.values()) {
+      const row = own.get(child);
+      if (pid !== which || row?.state !== "trace_stop" || row.reported) continue;
+      const told = this.toldOf(child);
+      Object.assign(told, { waitsMissed: told.waitsMissed + 1, missedFor: which });
+      if (told.waitsMissed === 2) told.missedAt ||= at;
+    }
+  }
+
+  // ---- rows
+
+  /** The processes that end with these changes. */
+  ended({ processes = [], removed_processes: gone = [] }) {
+    const zombies = processes.filter(({ state }) => state === "zombie").map(({ pid }) => pid);
+    return [...zombies, ...gone].filter((pid) => (this.rows.processes.get(pid)?.state ?? "zombie") !== "zombie");
+  }
+
+  /** The process of the least number that one traces; 0 if it traces none. */
+  firstTracee(pid) {
+    const traced = [...this.rows.processes.values()].filter(({ tracer, state }) => tracer === pid && state !== "zombie");
+    return traced.length ? Math.min(...traced.map((row) => row.pid)) : 0;
+  }
+
+  /** What changes is told of, before the rows change. */
+  noteRows(at, { processes = [], lwps = [] }) {
+    for (const row of processes) this.noteProcess(at, row);
+    for (const { lwp, suspended } of lwps) {
+      if (suspended && !this.rows.lwps.get(lwp)?.suspended) this.suspendedAt.set(lwp, at);
+    }
+  }
+
+  /** When a stop begins, is reported and ends, and when a process ends. */
+  noteProcess(at, row) {
+    const before = this.rows.processes.get(row.pid);
+    if (!before) {
+      this.told.delete(row.pid);
+      this.endedAt.delete(row.pid);
+    }
+    const told = this.toldOf(row.pid);
+    const { state: was, reported: wasReported } = before ?? NO_PROCESS;
+    const isNewStop = row.state === "trace_stop" && (was !== row.state || (wasReported && !row.reported));
+    if (isNewStop || (row.state === "zombie" && was !== "zombie")) Object.assign(told, { since: at, waitsMissed: 0, missedAt: 0 });
+    if (isReportedStop(row) && (isNewStop || !wasReported)) {
+      Object.assign(told, { reportedAt: at, vainAt: 0, haveOthersGoneOn: false });
+    }
+    if (was === "trace_stop" && row.state === "runs") told.wentOnAt = at;
+  }
+
+  // ---- the end
+
+  factsOfProcess(row) {
+    const told = this.toldOf(row.pid);
+    const waiter = row.tracer ?? row.parent;
+    const isThere = (this.rows.processes.get(waiter)?.state ?? "zombie") !== "zombie";
+    return {
+      pid: row.pid, waiter: isThere ? waiter : 0, is_tracee: row.tracer !== undefined, state: STATES.indexOf(row.state),
+      is_reported: Boolean(row.reported), stop_signal: numberOf(row.stop_signal), since: told.since, reported_at: told.reportedAt,
+      is_last: told.reportedAt === this.last, vain_at: told.vainAt, parent: told.missedFor, missed_at: told.missedAt,
+      stepped_at: told.steppedAt, stepping: told.stepping,
+    };
+  }
+
+  factsOfLwp({ lwp, pid, vfork_child: child = 0, suspended }) {
+    const isLeft = suspended && this.process(pid).state === "runs" && this.lwpsOf(pid).some((one) => one.lwp !== lwp && !one.suspended);
+    const { tracer = 0, state } = this.process(child);
+    return {
+      lwp, pid, child, tracer, child_state: STATES.indexOf(state), since: this.told.get(child)?.since ?? 0,
+      suspended_at: isLeft ? this.suspendedAt.get(lwp) ?? 0 : 0,
+    };
   }
 }
 
 /**
- * @param {import("./lanes.mjs").Entry[]} entries  each with rows
+ * @param {Entry[]} entries  each with rows
  * @returns {Notice[]} by their entries
  */
 export function noticesOf(entries) {
-  const notices = new Notices();
-  for (const entry of entries) notices.read(entry);
-  return notices.end();
+  const users = new Set(entries.map(({ reply }) => reply.user));
+  const readers = new Map([...users].sort((one, other) => one - other).map((user) => [user, new UserNotices(user, users)]));
+  for (const entry of entries) readers.get(entry.reply.user).read(entry);
+  for (const reader of readers.values()) reader.end();
+  return [...readers.values()].flatMap(({ found }) => found).sort((one, other) => one.at - other.at);
+}
+
+/**
+ * Equal ones once, with how many there are: the user's first, then what may be wrong, then what is nearest before an entry.
+ *
+ * @param {Notice[]} notices
+ * @param {number} at  the index of the entry
+ * @param {number | undefined} user
+ * @returns {(Notice & {count: number})[]}
+ */
+export function nearestFirst(notices, at, user) {
+  const rank = (one) => [one.user !== user, one.kind !== "wrong", one.at > at, Math.abs(at - one.at)].map(Number);
+  const order = (one, other) => {
+    const ranks = [rank(one), rank(other)];
+    return ranks[0].map((value, place) => value - ranks[1][place]).find((difference) => difference !== 0) ?? 0;
+  };
+  const found = new Map();
+  for (const notice of [...notices].sort(order)) {
+    const key = `${notice.user} ${notice.kind} ${notice.text}`;
+    if (found.has(key)) found.get(key).count += 1;
+    else found.set(key, { ...notice, count: 1 });
+  }
+  return [...found.values()];
 }

@@ -6,6 +6,7 @@ import { Failure } from "./failure.mjs";
 import { isError, isStop, matcher, nextMark } from "./find.mjs";
 import { sessionOf } from "./known.mjs";
 import { StepList } from "./list.mjs";
+import { nearestFirst } from "./notices.mjs";
 import { StatePanel } from "./panel.mjs";
 import { Overview } from "./overview.mjs";
 import { Picture } from "./picture.mjs";
@@ -36,18 +37,6 @@ function isDark() {
 
 const many = (number, word, words) => `${number} ${number === 1 ? word : words}`;
 const between = (least, value, most) => Math.min(most, Math.max(least, value));
-
-/** The notices, those of the user of the step that a test failed after and nearest before it first. */
-function nearestTo(failed, { notices, entries }) {
-  if (failed === null) return notices;
-  const user = entries.find(({ index }) => index === failed)?.reply.user;
-  const rank = ({ at }) => [Number(entries[at]?.reply.user !== user), Number(at > failed), Math.abs(failed - at)];
-  const order = (one, other) => {
-    const ranks = [rank(one), rank(other)];
-    return ranks[0].map((value, place) => value - ranks[1][place]).find((difference) => difference !== 0) ?? 0;
-  };
-  return [...notices].sort(order);
-}
 
 export class Page {
   constructor() {
@@ -101,15 +90,20 @@ export class Page {
     if (this.failure.at !== null) this.card.close(); // it would hide what led to the failure
   }
 
-  /** Buttons that go to what an author of a debugger may want to look at. */
+  /** Buttons that go to what an author of a debugger may want to look at. Without a failure they are by their steps. */
   showNotices() {
-    const notices = nearestTo(this.failure.at, this.session);
-    const shown = notices.slice(0, MOST_NOTICES).map(({ at, text }) => {
-      const button = tag("button", { type: "button", textContent: `${at + 1}: ${text}` });
-      button.addEventListener("click", () => this.goToEntry(at));
+    const { entries, notices } = this.session;
+    const { at } = this.failure;
+    const ordered = nearestFirst(notices, at ?? entries.length, at === null ? undefined : entries[at]?.reply.user);
+    if (at === null) ordered.sort((one, other) => one.at - other.at);
+    const shown = ordered.slice(0, MOST_NOTICES).map(({ at: place, kind, text, count }) => {
+      const times = count > 1 ? ` (${count} times)` : "";
+      const title = kind === "open" ? "still open at the end" : "may be wrong";
+      const button = tag("button", { type: "button", className: kind, title, textContent: `${place + 1}: ${text}${times}` });
+      button.addEventListener("click", () => this.goToEntry(place));
       return button;
     });
-    const more = notices.length - shown.length;
+    const more = ordered.length - shown.length;
     const rest = more > 0 ? [`and ${more} more`] : [];
     element("notices").replaceChildren(tag("strong", { textContent: "Look at" }), ...shown, ...rest);
     element("notices").hidden = notices.length === 0;

@@ -30,8 +30,8 @@ export class Picture {
     this.onMark = onMark;
     this.onFold = onFold;
     this.onMoved = onMoved;
-    /** @type {Set<number>} the indices of entries to look at */
-    this.noticed = new Set();
+    /** @type {Map<number, string>} the indices of entries to look at, with the kind of what is there */
+    this.noticed = new Map();
     this.hidesOthers = false; // whether lanes without anything in the window are left out
     this.plan = null;
     /** @type {number | null} */
@@ -57,7 +57,9 @@ export class Picture {
 
   show(plan) {
     this.plan = plan;
-    this.noticed = new Set(plan.session.notices.map(({ at }) => at));
+    const { notices } = plan.session;
+    const ofKind = (wanted) => notices.filter(({ kind }) => kind === wanted).map(({ at }) => [at, wanted]);
+    this.noticed = new Map([...ofKind("open"), ...ofKind("wrong")]);
     if (!plan.steps.includes(this.current)) this.current = null;
     this.drawn = null;
     this.resize();

@@ -74,6 +74,7 @@ def _options() -> argparse.ArgumentParser:
     )
     parser.add_argument("--at", type=int, metavar="N", help="begin after step N, from 1; else after the last one")
     parser.add_argument("--story", action="store_true", help="print what the session comes to, in at most twenty lines")
+    parser.add_argument("--called", metavar="NAME", help="FILE's name in the story, if it will have another one")
     parser.add_argument(
         "--batch", metavar="COMMANDS", help="do these commands, with ; between two, and leave; status 1 if one fails"
     )
@@ -122,7 +123,7 @@ def _run(words: Optional[Sequence[str]]) -> int:
     if given.at is not None and not 0 <= given.at <= len(session.steps):
         parser.error(f"--at {given.at}: there are {len(session.steps)} steps")
     if given.story:
-        print("\n".join(story(session, given.file, given.at, given.program)))
+        print("\n".join(story(session, given.called or given.file, given.at, given.program)))
         return 0
     try:
         prompt = Prompt(session, given.at, given.program)

@@ -1,35 +1,51 @@
-"""What a failed session comes to, in at most twenty lines: the last step and why, whom it concerns, and what the last steps changed."""
+"""What a failed session comes to, in at most twenty lines: the last step and why, whom it concerns, what to look at, and what
+the last steps changed."""
 
 from __future__ import annotations
 
+import shlex
 from collections.abc import Iterator, Mapping
 from typing import Any, Optional
 
+from .notices import nearest_first, notices_of
 from .prompt import reason_of
 from .saving import Session
 from .timeline import Row, Step, Timeline, change_text, row_text
 
-_LAST = 5  # steps
-_MOST_ROWS = 6
+_LAST = 4  # steps
+_MOST_ROWS = 4
+_MOST_NOTICES = 4
 _WIDTH = 150
+_HEADS = {"wrong": "look at", "open": "still open"}
 
 
 def story(session: Session, file: str, at: Optional[int] = None, program: Optional[str] = None) -> list[str]:
     """The lines. The session is that of the file, and it failed after step `at`, or after its last one."""
     timeline = Timeline(session.steps, session.kill_on_debugger_exit, program)
     end = len(timeline) if at is None else min(at, len(timeline))
-    command = f"to go on from here: tracehost-debug {file}{'' if end == len(timeline) else f' --at {end}'}"
+    command = f"to go on from here: tracehost-debug {shlex.quote(file)}{'' if end == len(timeline) else f' --at {end}'}"
     if not end:
         return ["no step was made", command]
     step = timeline.steps[end - 1]
     lines = [f"step {end} of user {step.user}: {step.words()}{reason_of(session, step, program)}"]
     lines += [f"  {line}" for line in _concerned(timeline, end, step)]
+    lines += _to_look_at(timeline, step)
     lines.append("the last steps, and what each changed:")
     for one in timeline.steps[max(0, end - _LAST) : end]:
         lines.append(f"{one.number:6} {one.words()}")
         changes = "; ".join(map(change_text, timeline.changes(one.number)))
         lines += [f"         {_cut(changes)}"] if changes else []
     return [_cut(line) for line in lines] + [command]
+
+
+def _to_look_at(timeline: Timeline, step: Step) -> Iterator[str]:
+    """What is so at this step: those of its user, and the nearest before it, first."""
+    found = nearest_first(notices_of(timeline.steps[: step.number]), step.number, step.user)
+    for notice, count in found[:_MOST_NOTICES]:
+        more = f" ({count} times)" if count > 1 else ""
+        yield f"{_HEADS[notice.kind]}: step {notice.at}, {notice.text}{more}"
+    if len(found) > _MOST_NOTICES:
+        yield f"and {len(found) - _MOST_NOTICES} more to look at"
 
 
 def _concerned(timeline: Timeline, at: int, step: Step) -> list[str]:

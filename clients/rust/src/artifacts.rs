@@ -46,16 +46,16 @@ impl Names {
         }
     }
 
-    /// What a failed test prints, with why there is no page.
-    pub fn told(&self, page: &Result<(), String>) -> String {
+    /// What a failed test prints, with why there is no page, and with its story, which ends with the command that goes on.
+    pub fn told(&self, page: &Result<(), String>, story: Option<String>) -> String {
         let page = match page {
             Ok(()) => self.page.display().to_string(),
             Err(why) => format!("none: {why}"),
         };
         let scenario = self.scenario.display();
+        let story = story.unwrap_or_else(|| format!("tracehost: to go on from here: tracehost-debug {scenario}"));
         format!(
-            "tracehost: scenario: {scenario}\ntracehost: lines:    {}\ntracehost: page:     {page}\n\
-             tracehost: to go on from here: tracehost-debug {scenario}",
+            "tracehost: scenario: {scenario}\ntracehost: lines:    {}\ntracehost: page:     {page}\n{story}",
             self.lines.display()
         )
     }

@@ -4,7 +4,7 @@
 //! is refused as it expects. Until it is known the files keep the names of a test that runs.
 
 use crate::artifacts::Artifacts;
-use crate::pages::make_page;
+use crate::pages::{self, make_page};
 use crate::sys;
 use std::cell::RefCell;
 use std::ffi::{c_int, c_void};
@@ -112,10 +112,10 @@ pub fn keep(ending: Ending) {
         is_told,
         artifacts,
     } = ending;
-    let page = if is_told {
+    let left = if is_told {
         None
     } else {
-        Some(artifacts.try_page(&test, &message, step))
+        Some((artifacts.try_page(&test, &message, step), artifacts.story(step)))
     };
     let stays = artifacts.now.scenario.display().to_string();
     match artifacts.keep() {
@@ -123,8 +123,8 @@ pub fn keep(ending: Ending) {
             eprintln!("tracehost: the record stays {stays}: {error}");
         }
         Ok(names) => {
-            if let Some(made) = page {
-                eprintln!("{}", names.told(&made));
+            if let Some((page, story)) = left {
+                eprintln!("{}", names.told(&page, story));
             }
         }
     }
@@ -134,5 +134,10 @@ impl Artifacts {
     /// Makes the page. Else says why there is none.
     pub fn try_page(&self, test: &str, message: &str, step: usize) -> Result<(), String> {
         make_page(&self.now.scenario, &self.now.page, test, message, step)
+    }
+
+    /// What the session comes to, in words.
+    pub fn story(&self, step: usize) -> Option<String> {
+        pages::story(&self.now.scenario, &self.last.scenario, step)
     }
 }

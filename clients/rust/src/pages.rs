@@ -1,4 +1,4 @@
-//! The page of a test that has failed, which the program and the viewer make.
+//! The page of a test that has failed, which the program and the viewer make, and its story, which `tracehost-debug` tells.
 
 use std::ffi::{OsStr, OsString};
 use std::io::{self, Error, ErrorKind, Read, Write};
@@ -9,6 +9,7 @@ use std::time::{Duration, Instant};
 use std::{env, iter};
 
 const TIME_FOR_A_PAGE: Duration = Duration::from_secs(300);
+const TIME_FOR_A_STORY: Duration = Duration::from_secs(60);
 
 /// Makes the page of a test that failed after so many steps of this scenario. Else says why there is none.
 pub fn make_page(scenario: &Path, page: &Path, test: &str, message: &str, step: usize) -> Result<(), String> {
@@ -32,6 +33,21 @@ pub fn make_page(scenario: &Path, page: &Path, test: &str, message: &str, step: 
         .chain([OsStr::new("-")])
         .collect();
     printed(&viewer, &words, trace, TIME_FOR_A_PAGE).map(drop)
+}
+
+/// What the session of a test that failed after so many steps comes to, in words, if there is a `tracehost-debug`:
+/// `$TRACEHOST_DEBUG` names it, and an empty one is none. The scenario will be `called` so.
+pub fn story(scenario: &Path, called: &Path, step: usize) -> Option<String> {
+    let program = env::var_os("TRACEHOST_DEBUG").unwrap_or_else(|| "tracehost-debug".into());
+    if step == 0 || program.is_empty() {
+        return None;
+    }
+    let mut name = OsString::from("--called=");
+    name.push(called);
+    let at = format!("--at={step}");
+    let words = [OsStr::new("--story"), &name, OsStr::new(&at), OsStr::new("--"), scenario.as_os_str()];
+    let said = printed(&program, &words, Vec::new(), TIME_FOR_A_STORY).ok()?;
+    Some(String::from_utf8_lossy(&said).trim_end().to_owned())
 }
 
 /// What a program prints that gets this input; else why it didn't. One that doesn't end in time is killed.

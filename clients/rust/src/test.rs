@@ -171,7 +171,7 @@ impl TestSession {
             Some(failure) if panics && !is_told && is_of_libtest() => {
                 let ending = self.ending(artifacts, failure, true);
                 let page = ending.artifacts.try_page(&ending.test, &ending.message, ending.step);
-                let told = ending.artifacts.last.told(&page);
+                let told = ending.artifacts.last.told(&page, ending.artifacts.story(ending.step));
                 endings::at_exit(ending);
                 eprintln!("{told}"); // which libtest shows if the test fails
             }
