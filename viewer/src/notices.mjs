@@ -12,7 +12,7 @@ import { change, noRows } from "./state.mjs";
  * @typedef {import("./lanes.mjs").Entry} Entry
  */
 
-const STATES = ["runs", "trace_stop", "job_stop", "zombie"];
+const NUMBERED_STATES = ["runs", "trace_stop", "job_stop", "zombie"];
 const DECISIONS = { continue: "PT_CONTINUE", detach: "PT_DETACH" };
 /** What isn't known of a process, and a process that isn't there. */
 const UNTOLD = { since: 0, reportedAt: 0, wentOnAt: 0, vainAt: 0, missedAt: 0, steppedAt: 0, waitsMissed: 0, missedFor: 0,
@@ -20,8 +20,8 @@ const UNTOLD = { since: 0, reportedAt: 0, wentOnAt: 0, vainAt: 0, missedAt: 0, s
 const NO_PROCESS = { state: "runs", pending: [], reported: false, tracer: undefined, stop_signal: undefined, stop_lwp: 0 };
 
 const isReportedStop = ({ state, reported }) => state === "trace_stop" && Boolean(reported);
-const numberOf = (signal) => (signal ? SIGNALS.indexOf(signal) : 0);
-const shown = (name, value) => (name.endsWith("signal") ? signalName(value) : String(value));
+const signalNumber = (signal) => (signal ? SIGNALS.indexOf(signal) : 0);
+const factText = (name, value) => (name.endsWith("signal") ? signalName(value) : String(value));
 
 /** The other user of the session whose number it is, or 0. */
 function ownerOf(number, user, users) {
@@ -76,7 +76,7 @@ class UserNotices {
   ask(of, at, facts) {
     for (const rule of RULES) {
       if (rule.of !== of || !rule.holds(facts)) continue;
-      const text = rule.words.replace(/\{(\w+)\}/g, (_, name) => shown(name, facts[name]));
+      const text = rule.words.replace(/\{(\w+)\}/g, (_, name) => factText(name, facts[name]));
       this.found.push({ at: (rule.at ? facts[rule.at] : at) - 1, user: this.user, kind: rule.kind, text });
     }
   }
@@ -105,7 +105,7 @@ class UserNotices {
     const { stop_signal: stop, stop_lwp: by = 0, pending = [] } = this.process(pid);
     const lwps = this.lwpsOf(pid);
     return {
-      request, pid, stop_signal: numberOf(isDecided ? reply.stopped : stop),
+      request, pid, stop_signal: signalNumber(isDecided ? reply.stopped : stop),
       passed_signal: isDecided ? reply.pass?.number ?? 0 : asked.data ?? 0,
       has_trap: [pending, ...lwps.map((lwp) => lwp.pending ?? [])].some((signals) => signals.includes("SIGTRAP")),
       is_detach: request === "PT_DETACH",
@@ -122,7 +122,7 @@ class UserNotices {
       if (row.pid !== facts.pid && row.tracer === asked.caller && isReportedStop(row)) this.toldOf(row.pid).haveOthersGoneOn = true;
     }
     return {
-      ...facts, state: STATES.indexOf(this.rows.processes.get(facts.pid)?.state ?? "zombie"),
+      ...facts, state: NUMBERED_STATES.indexOf(this.rows.processes.get(facts.pid)?.state ?? "zombie"),
       running: this.lwpsOf(facts.pid).filter(({ suspended }) => !suspended).length,
     };
   }
@@ -139,8 +139,8 @@ class UserNotices {
     const facts = {
       request, caller: asked.caller, pid: number, is_wait: request === "wait4", is_kill: request === "kill",
       is_attach: request === "PT_ATTACH", ended_at: this.endedAt.get(number) ?? 0, failed_at: this.failedAt.get(key) ?? 0,
-      owner: ownerOf(number, this.user, this.users), is_tracee: row.tracer === asked.caller, state: STATES.indexOf(row.state),
-      is_reported: Boolean(row.reported), stop_signal: numberOf(row.stop_signal), went_on_at: this.toldOf(pid).wentOnAt,
+      owner: ownerOf(number, this.user, this.users), is_tracee: row.tracer === asked.caller, state: NUMBERED_STATES.indexOf(row.state),
+      is_reported: Boolean(row.reported), stop_signal: signalNumber(row.stop_signal), went_on_at: this.toldOf(pid).wentOnAt,
       has_kill: (row.pending ?? []).includes("SIGKILL"),
     };
     if (facts.is_attach && !facts.is_tracee) this.failedAt.set(key, at);
@@ -218,9 +218,9 @@ class UserNotices {
     const waiter = row.tracer ?? row.parent;
     const isThere = (this.rows.processes.get(waiter)?.state ?? "zombie") !== "zombie";
     return {
-      pid: row.pid, waiter: isThere ? waiter : 0, is_tracee: row.tracer !== undefined, state: STATES.indexOf(row.state),
-      is_reported: Boolean(row.reported), stop_signal: numberOf(row.stop_signal), since: told.since, reported_at: told.reportedAt,
-      is_last: told.reportedAt === this.last, vain_at: told.vainAt, parent: told.missedFor, missed_at: told.missedAt,
+      pid: row.pid, waiter: isThere ? waiter : 0, is_tracee: row.tracer !== undefined, state: NUMBERED_STATES.indexOf(row.state),
+      is_reported: Boolean(row.reported), stop_signal: signalNumber(row.stop_signal), since: told.since, reported_at: told.reportedAt,
+      is_new: Math.max(told.since, told.reportedAt) === this.last, vain_at: told.vainAt, parent: told.missedFor, missed_at: told.missedAt,
       stepped_at: told.steppedAt, stepping: told.stepping,
     };
   }
@@ -229,7 +229,7 @@ class UserNotices {
     const isLeft = suspended && this.process(pid).state === "runs" && this.lwpsOf(pid).some((one) => one.lwp !== lwp && !one.suspended);
     const { tracer = 0, state } = this.process(child);
     return {
-      lwp, pid, child, tracer, child_state: STATES.indexOf(state), since: this.told.get(child)?.since ?? 0,
+      lwp, pid, child, tracer, child_state: NUMBERED_STATES.indexOf(state), since: this.told.get(child)?.since ?? 0,
       suspended_at: isLeft ? this.suspendedAt.get(lwp) ?? 0 : 0,
     };
   }

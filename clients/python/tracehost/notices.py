@@ -249,7 +249,7 @@ class _User:
             "stop_signal": Signal[row["stop_signal"]].value if "stop_signal" in row else 0,
             "since": told.since,
             "reported_at": told.reported_at,
-            "is_last": told.reported_at == self._last,
+            "is_new": max(told.since, told.reported_at) == self._last,
             "vain_at": told.vain_at,
             "parent": told.missed_for,
             "missed_at": told.missed_at,

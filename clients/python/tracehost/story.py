@@ -12,7 +12,8 @@ from .prompt import reason_of
 from .saving import Session
 from .timeline import Row, Step, Timeline, change_text, row_text
 
-_LAST = 4  # steps
+_MOST_LINES = 20
+_LAST = 5  # steps
 _MOST_ROWS = 4
 _MOST_NOTICES = 4
 _WIDTH = 150
@@ -30,12 +31,20 @@ def story(session: Session, file: str, at: Optional[int] = None, program: Option
     lines = [f"step {end} of user {step.user}: {step.words()}{reason_of(session, step, program)}"]
     lines += [f"  {line}" for line in _concerned(timeline, end, step)]
     lines += _to_look_at(timeline, step)
-    lines.append("the last steps, and what each changed:")
-    for one in timeline.steps[max(0, end - _LAST) : end]:
-        lines.append(f"{one.number:6} {one.words()}")
-        changes = "; ".join(map(change_text, timeline.changes(one.number)))
-        lines += [f"         {_cut(changes)}"] if changes else []
+    lines += ["the last steps, and what each changed:", *_last_steps(timeline, end, _MOST_LINES - len(lines) - 2)]
     return [_cut(line) for line in lines] + [command]
+
+
+def _last_steps(timeline: Timeline, end: int, room: int) -> list[str]:
+    """The steps up to this one, and what each changed, as far as there is room for so many lines."""
+    lines: list[str] = []
+    for step in reversed(timeline.steps[max(0, end - _LAST) : end]):
+        changes = "; ".join(map(change_text, timeline.changes(step.number)))
+        of_step = [f"{step.number:6} {step.words()}", *([f"         {changes}"] if changes else [])]
+        if len(lines) + len(of_step) > room:
+            break
+        lines = of_step + lines
+    return lines
 
 
 def _to_look_at(timeline: Timeline, step: Step) -> Iterator[str]:

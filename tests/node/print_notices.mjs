@@ -1,0 +1,14 @@
+/** Prints what the viewer's rules say of traces with rows, a line of JSON for each. */
+
+import { readFileSync } from "node:fs";
+import { nearestFirst, noticesOf } from "../../viewer/src/notices.mjs";
+import { pair, readFile } from "../../viewer/src/read.mjs";
+
+for (const path of process.argv.slice(2)) {
+  const entries = pair(readFile({ name: path, text: readFileSync(path, "utf8") }).replies, null, []);
+  const notices = noticesOf(entries);
+  const last = entries.at(-1);
+  const told = ({ at, user, kind, text }) => [at + 1, user, kind, text];
+  const ordered = nearestFirst(notices, last.index, last.reply.user).map((one) => [told(one), one.count]);
+  console.log(JSON.stringify([notices.map(told), ordered]));
+}
