@@ -9,6 +9,10 @@ from collections.abc import Callable, Sequence
 from types import FrameType
 from typing import Any, Optional
 
+from .errors import hides_from_pytest
+
+__tracebackhide__ = hides_from_pytest
+
 
 class Progress:
     """Counts each user's steps that may have changed something, and lets threads sleep until the next one."""

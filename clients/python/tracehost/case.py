@@ -7,7 +7,8 @@
             user = self.tracehost.user(1001)
 
 A test that fails leaves its scenario, its lines and its page in the folder that the environment's ``TRACEHOST_ARTIFACTS``
-names, else in a new one for temporary files, and standard error says where. One that passes leaves nothing. What can't be
+names, else in a new one for temporary files, and its report says where, and what its session comes to; standard error does if
+the result has no list of reports. One that passes leaves nothing. What can't be
 recorded is told there, and fails nothing. A test whose process dies leaves a scenario with the process's number at the end
 of its name; the next run of such a test case tells of it.
 """
@@ -20,10 +21,10 @@ import os
 import sys
 import tempfile
 import unittest
-from collections.abc import Callable
+from collections.abc import Callable, Sequence
 from contextlib import suppress
 from pathlib import Path
-from typing import Any, ClassVar, Optional
+from typing import Any, ClassVar, NamedTuple, Optional
 
 from .host import Host
 from .records import Folder, stem_of
@@ -71,19 +72,35 @@ class TestCase(unittest.TestCase):
             with sessions.guarded("what the test leaves"):
                 sessions.failures(self.id(), message)
 
-        watched: Any = _Watched(result, failed)
+        watched = _Watched(result, failed)
+        report: Optional[_Report] = None
         try:
-            super().run(watched)
+            super().run(watched)  # type: ignore[arg-type]  # it has what a result has
+            report = watched.report
         except BaseException as error:  # somebody ends the run
             failed(said_by(error))
             raise
         finally:
             self._sessions = self._host = None
-            _end(sessions, self.id())
+            _end(sessions, self.id(), report)
+
+
+class _Report(NamedTuple):
+    """The report of a failure: its place in a list of a result, which is printed when all tests have run."""
+
+    entries: list[tuple[object, str]]
+    place: int
+
+    def add(self, lines: Sequence[str]) -> None:
+        test, text = self.entries[self.place]
+        self.entries[self.place] = test, "\n".join([text, *lines, ""])
 
 
 class _Watched:
     """A result that tells of a failure when it comes."""
+
+    report: Optional[_Report] = None
+    """That of the last failure, if the result has lists of them."""
 
     def __init__(self, result: unittest.TestResult, failed: Callable[[str], None]) -> None:
         self._result, self._failed = result, failed
@@ -97,19 +114,27 @@ class _Watched:
             error = more[-1] if more else (None, AssertionError("an unexpected success"), None)
             if error is not None:  # else a subtest that has passed
                 self._failed(message_text(said_by(error[1])))
-            return its_own(test, *more)
+            lists = [found for found in (getattr(self._result, kind, None) for kind in ("errors", "failures")) if type(found) is list]
+            counts = [*map(len, lists)]
+            added = its_own(test, *more)
+            for entries, count in zip(lists, counts):
+                if len(entries) > count:
+                    self.report = _Report(entries, len(entries) - 1)
+            return added
 
         return add
 
 
-def _end(sessions: Sessions, test: str) -> None:
-    """Makes the pages, and says what is left."""
+def _end(sessions: Sessions, test: str, report: Optional[_Report]) -> None:
+    """Makes the pages, and says what is left: in the report of the failure, if it has one, else on standard error."""
     sessions.close()
     said: list[str] = []
     for failure in sessions.failed():
-        why = failure.make_page()
-        said += (str(failure) if why is None else failure.without_page(str(failure), why)).splitlines()
+        said += failure.completed(str(failure), failure.make()).splitlines()
     sessions.end_attempt()
+    if report is not None and said:
+        report.add([f"{HEAD}: {line}" for line in said])
+        said = []
     _say(*said, *(f"{test}: {line}" for line in sessions.take_told()))
 
 

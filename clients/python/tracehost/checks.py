@@ -9,8 +9,11 @@ import signal
 from collections.abc import Mapping
 from typing import Any, TypeVar
 
+from .errors import hides_from_pytest
 from .names import Request, Signal
 from .replies import New
+
+__tracebackhide__ = hides_from_pytest
 
 _Kind = TypeVar("_Kind")
 

@@ -3,7 +3,7 @@
 from __future__ import annotations
 
 from collections.abc import Callable
-from typing import Optional
+from typing import Any, Optional
 
 
 class Held(Exception):
@@ -92,3 +92,8 @@ class RecordingFailed(RuntimeError):
 
     The session has ended. The recording is that of the steps before. `__cause__` says what the system answered.
     """
+
+
+def hides_from_pytest(caught: Any) -> bool:
+    """Whether pytest's report leaves out the frames of a module with this as ``__tracebackhide__``: not if it may be our fault."""
+    return caught is not None and isinstance(caught.value, (OSError, Held, ValueError, TypeError))

@@ -14,7 +14,7 @@ from typing import Any, Literal, NoReturn, Optional, TypeVar, Union, overload
 from . import deadlock, forks
 from .blocking import Progress, is_running
 from .checks import number_of_process, of_kind, whole, without_foreign_signals, word
-from .errors import Held, ProtocolError, RecordingFailed, RefusedStep, SessionBusy, SessionClosed
+from .errors import Held, ProtocolError, RecordingFailed, RefusedStep, SessionBusy, SessionClosed, hides_from_pytest
 from .library import RawRows, Session, find
 from .names import ALL_EVENTS, CALLER_OPS, OPTIONS, Action, Decision, EventMask, Request, WaitOption, names_of
 from .pipe import SECONDS_TO_END, Pipe
@@ -28,6 +28,8 @@ from .steps import Act, Rule, check_act
 from .text import Sent, TextCalls, ask_program, words_of
 from .typed import NotTyped, TypedCalls
 from .verdicts import REQUESTS, Verdict, verdict
+
+__tracebackhide__ = hides_from_pytest
 
 _ENCODE = json.JSONEncoder(separators=(",", ":")).encode
 _Result = TypeVar("_Result")

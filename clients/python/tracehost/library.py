@@ -11,9 +11,11 @@ from pathlib import Path
 from typing import Any, Optional
 
 from . import checkout, packaged
-from .errors import SessionClosed
+from .errors import SessionClosed, hides_from_pytest
 from .names import MOST_LWPS as MOST_LWPS
 from .names import MOST_PROCESSES as MOST_PROCESSES
+
+__tracebackhide__ = hides_from_pytest
 
 # what a call returns
 ANSWERED, NOT_OPEN, NO_MEMORY, INVALID, NO_TEXT, TOO_MANY = range(6)

@@ -1,4 +1,4 @@
-"""The pages of failed tests, which are made at the end of pytest's run: then no test's patches are left."""
+"""The pages and stories of failed tests, which are made at the end of pytest's run: then no test's patches are left."""
 
 from __future__ import annotations
 
@@ -9,7 +9,7 @@ from typing import TYPE_CHECKING, Any, Optional, TypeVar
 import pytest
 
 from .records import Folder
-from .sessions import HEAD, Failure, Told, add_to, message_of
+from .sessions import HEAD, Failure, Made, Told, add_to, message_of
 
 if TYPE_CHECKING:
     from _pytest.terminal import TerminalReporter
@@ -80,9 +80,8 @@ class Pages(Told):
     def pytest_sessionfinish(self) -> None:
         with self.guarded("pages"):
             failures = [failure for of_test in self._failures.values() for failure in of_test.values()]
-            for failure, why in zip(failures, _make(failures)):
-                if why is not None:
-                    self._correct(failure, why)
+            for failure, made in zip(failures, _make(failures)):
+                self._complete(failure, made)
 
     def pytest_terminal_summary(self, terminalreporter: TerminalReporter) -> None:
         told = self.told + self._left_by_the_dead()
@@ -91,23 +90,24 @@ class Pages(Told):
             for line in told:
                 terminalreporter.write_line(line)
 
-    def _correct(self, failure: Failure, why: str) -> None:
-        """The reports that name this page say why there is none."""
+    def _complete(self, failure: Failure, made: Made) -> None:
+        """The reports that name this page say why there is none, and tell the story."""
         for report in self._reports.get(failure.scenario, []):
             for at, (title, text) in enumerate(report.sections):
                 if title == HEAD:
-                    report.sections[at] = (title, failure.without_page(text, why))
+                    report.sections[at] = (title, failure.completed(text, made))
+        self.told = [line for told in self.told for line in failure.completed(told, made).splitlines()]
 
 
-def _make(failures: list[Failure]) -> list[Optional[str]]:
-    """Makes the pages. Returns why there is none, or None, for each."""
-    made: list[Optional[str]] = []
+def _make(failures: list[Failure]) -> list[Made]:
+    """Makes the pages and the stories."""
+    all_made: list[Made] = []
     pool = ThreadPoolExecutor(_AT_ONCE)
     try:
-        for why in pool.map(Failure.make_page, failures):
-            made.append(why)
+        for made in pool.map(Failure.make, failures):
+            all_made.append(made)
     except KeyboardInterrupt:  # the run's summary is still to come
         pass
     finally:
         pool.shutdown(cancel_futures=True)
-    return made + ["interrupted"] * (len(failures) - len(made))
+    return all_made + [Made("interrupted", None)] * (len(failures) - len(all_made))

@@ -15,7 +15,9 @@ from time import monotonic  # a test may patch the module's
 from typing import IO
 
 from . import forks
-from .errors import ProgramEnded, SessionClosed, SessionForked
+from .errors import ProgramEnded, SessionClosed, SessionForked, hides_from_pytest
+
+__tracebackhide__ = hides_from_pytest
 
 SECONDS_TO_END = 5.0
 

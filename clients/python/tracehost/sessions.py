@@ -2,6 +2,7 @@
 
 from __future__ import annotations
 
+import os
 import shlex
 from collections.abc import Callable, Iterator
 from contextlib import contextmanager, suppress
@@ -22,6 +23,14 @@ HEAD = "tracehost"
 _MOST_OF_A_MESSAGE = 4000
 
 
+class Made(NamedTuple):
+    """What was made of a failure."""
+
+    why_no_page: Optional[str]
+    """None if there is one."""
+    story: Optional[str]
+
+
 class Failure(NamedTuple):
     """A test that failed in a session. A report of a worker has it as a list."""
 
@@ -34,14 +43,35 @@ class Failure(NamedTuple):
     def page(self) -> Path:
         return Path(self.scenario).with_suffix(".html")
 
+    def _command(self) -> str:
+        return f"to go on from here: tracehost-debug {shlex.quote(self.scenario)}"
+
     def __str__(self) -> str:
         lines = Path(self.scenario).with_suffix(".out")
-        files = f"scenario: {self.scenario}\nlines:    {lines}\npage:     {self.page()}"
-        return f"{files}\nto go on from here: tracehost-debug {shlex.quote(self.scenario)}"
+        return f"scenario: {self.scenario}\nlines:    {lines}\npage:     {self.page()}\n{self._command()}"
 
-    def without_page(self, text: str, why: str) -> str:
-        """A text in which `str` of this is, but for the page."""
-        return text.replace(f"page:     {self.page()}", f"page:     none ({why})")
+    def completed(self, text: str, made: Made) -> str:
+        """A text in which `str` of this is, with why there is no page, and with the story in place of the command, which ends
+        it."""
+        if made.why_no_page is not None:
+            text = text.replace(f"page:     {self.page()}", f"page:     none ({made.why_no_page})")
+        return text if made.story is None else text.replace(self._command(), made.story)
+
+    def make(self) -> Made:
+        """Makes the page, and the story."""
+        return Made(self.make_page(), self._made_story())
+
+    def _made_story(self) -> Optional[str]:
+        """None if it can't be made, or if nobody wants it: ``TRACEHOST_DEBUG`` is empty."""
+        if os.environ.get("TRACEHOST_DEBUG") == "":
+            return None
+        try:
+            from .saving import read_session
+            from .story import story
+
+            return "\n".join(map(shown, story(read_session(self.scenario), self.scenario, self.step)))
+        except BaseException:
+            return None
 
     def make_page(self) -> Optional[str]:
         """Returns why there is none."""

@@ -6,7 +6,10 @@ from collections.abc import Iterable
 from typing import NamedTuple, Union
 
 from .checks import of_kind, whole, word
+from .errors import hides_from_pytest
 from .names import STOP_FLAGS, Call, Decision, StopFlag, names_of
+
+__tracebackhide__ = hides_from_pytest
 
 
 class Compute(NamedTuple):

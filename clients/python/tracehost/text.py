@@ -9,12 +9,14 @@ from typing import Any, NamedTuple, Optional, Protocol
 
 from . import program, replies
 from .blocking import Progress
-from .errors import Held, ProgramEnded, ProtocolError, RefusedStep
+from .errors import Held, ProgramEnded, ProtocolError, RefusedStep, hides_from_pytest
 from .names import EVENTS, OPTIONS, Action, Request, names_of
 from .recording import Recording
 from .replica import Replica
 from .replies import Handled, New, Turned, Waited, answer
 from .steps import Act, Rule
+
+__tracebackhide__ = hides_from_pytest
 
 # replies to steps that may have changed something; the others change nothing
 # tools/format changes

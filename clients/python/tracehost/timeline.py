@@ -14,6 +14,7 @@ from .step_words import words_of
 
 Row = Mapping[str, Any]
 _MOST_LINKS = 8  # of a chain of causes
+_SECONDS = 300.0
 _RESUMES = ("PT_CONTINUE", "PT_STEP", "PT_TO_SCE", "PT_TO_SCX", "PT_SYSCALL", "PT_DETACH", "PT_KILL")
 _MET = ("stopped", "ended", "caught")  # the replies of a turn that has met a signal
 _STOPS = ("trace_stop", "job_stop")
@@ -174,9 +175,13 @@ def scenario_text(steps: Sequence[Mapping[str, Any]], kill_on_debugger_exit: Opt
 def lines_of(scenario: str, *options: str, program: Optional[str] = None) -> list[str]:
     """The lines that the program prints of a scenario. Raises Refused, with what it says, and OSError."""
     command = [program or default(), *options, "--explain=always", "-"]
-    done = subprocess.run(
-        command, input=scenario.encode("utf-8", "surrogateescape"), stdout=subprocess.PIPE, stderr=subprocess.PIPE, check=False
-    )
+    given = scenario.encode("utf-8", "surrogateescape")
+    try:
+        done = subprocess.run(
+            command, input=given, stdout=subprocess.PIPE, stderr=subprocess.PIPE, timeout=_SECONDS, check=False
+        )
+    except subprocess.TimeoutExpired:
+        raise Refused(f"{command[0]}: it didn't end in {_SECONDS:.0f} seconds") from None
     if done.returncode:
         raise Refused(done.stderr.decode("utf-8", "replace").strip() or f"{command[0]}: status {done.returncode}")
     return done.stdout.decode().splitlines()

@@ -9,7 +9,7 @@ from typing import Any, NoReturn
 
 from .blocking import Progress
 from .checks import of_kind, whole, word
-from .errors import Held
+from .errors import Held, hides_from_pytest
 from .library import INVALID, CRule, Reply, Session
 from .names import Action, Call, Decision, EventMask, LwpEvent, Request, Signal, StopFlag
 from .replies import (
@@ -26,6 +26,8 @@ from .replies import (
     status_of,
 )
 from .steps import Act, Block, Compute, Enter, Raise, Rule
+
+__tracebackhide__ = hides_from_pytest
 
 # the library's numbers of acts, calls, actions, decisions, and its bits of flags
 # tools/format numbers
