@@ -39,6 +39,8 @@ class Command:
         """Of all runs of this process."""
         self.sums_of_last = Sums()
         self._covered: dict[Met, bool] = {}
+        self._left: str | None = None
+        """The record of a failure."""
 
     def heard(self, seed: int | None, result: Result) -> None:
         """A run of a search has ended."""
@@ -211,6 +213,12 @@ class Command:
         except OSError as failed:
             raise OSError(f"--record: {path}: {failed.strerror}") from failed
         _tell("--record", f"{path}.html", trouble)
+        self._left = None if why is None else path
+
+    def tell_story(self) -> None:
+        """What the record of a failure comes to."""
+        if self._left is not None:
+            print_lines(report.story(self.setting.model, self._left))
 
     def _failure(self, outcome: Outcome, name: str) -> list[str]:
         """The viewer's options for a run that failed: what it says, who is to blame, and the switches."""
@@ -286,7 +294,10 @@ def _command(words: Sequence[str] | None) -> int:
             raise Broken(f"only {hard} open files are allowed (ulimit -n), and {DESCRIPTORS} are needed")
         resource.setrlimit(resource.RLIMIT_NOFILE, (max(soft, min(hard, 4096)), hard))  # a socket for each thread
         rooms.sweep()
-        return _run(Command(given, _setting(given, model)))
+        command = Command(given, _setting(given, model))
+        status = _run(command)
+        command.tell_story()
+        return status
     except NotRunnable as why:
         if str(why):  # else the program has said it
             say(str(why))

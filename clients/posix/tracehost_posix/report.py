@@ -15,6 +15,7 @@ from .rooms import room
 if TYPE_CHECKING:
     import re
 
+SECONDS_FOR_A_STORY = 60
 NO_VIEWER = "the viewer isn't there: there is no tracehost-view"
 TOP = os.path.realpath(os.path.join(os.path.dirname(__file__), "..", "..", ".."))
 
@@ -179,6 +180,32 @@ def page_of_two(model: str, path: str, scenarios: Mapping[str, str], words: list
     return None if made.returncode == 0 else made.stderr.strip() or f"status {made.returncode}"
 
 
+def story(model: str, path: str) -> list[str]:
+    """What the session of a record comes to, and the command that goes on from there; only this without tracehost-debug.
+
+    $TRACEHOST_DEBUG names that program, and an empty one is none.
+    """
+    import shlex
+    import subprocess
+
+    lines = [f"to go on from here: tracehost-debug {shlex.quote(path)}"]
+    command = os.environ.get("TRACEHOST_DEBUG")
+    if command is None:
+        own = os.path.join(TOP, "bin", "tracehost-debug")
+        command = own if os.path.exists(own) else beside("tracehost-debug") or which("tracehost-debug")
+    if not command:
+        return lines
+    surroundings = {**os.environ, "TRACEHOST": model}
+    try:
+        done = subprocess.run(
+            [command, "--story", "--", path], env=surroundings, stdin=subprocess.DEVNULL, stdout=subprocess.PIPE,
+            stderr=subprocess.DEVNULL, text=True, errors="replace", timeout=SECONDS_FOR_A_STORY,
+        )  # fmt: skip
+    except (OSError, subprocess.TimeoutExpired):
+        return lines
+    return [_with_names_in_words(line) for line in done.stdout.splitlines()] if done.returncode == 0 else lines
+
+
 def beside(name: str) -> str | None:
     """A command of this name beside this one, if both are installed."""
     return which(name, [os.path.dirname(os.path.abspath(sys.argv[0]))])
@@ -198,6 +225,17 @@ def _with_names(trace: str) -> str:
     import re
 
     return re.sub(r'"call":"other","(?:code|argument)":(\d+)', _named_call, trace)
+
+
+def _with_names_in_words(line: str) -> str:
+    import re
+
+    return re.sub(r"\bother, argument (?:none => )?(\d+)|\benter other (\d+)", _named_call_in_words, line)
+
+
+def _named_call_in_words(found: re.Match[str]) -> str:
+    name = CODES.get(int(found[1] or found[2]))
+    return found[0] if name is None else name if found[1] else f"enter {name}"
 
 
 def _named_call(found: re.Match[str]) -> str:
