@@ -405,7 +405,7 @@ private:
         const char *named = std::getenv("TRACEHOST_DEBUG"), *program = named == nullptr ? "tracehost-debug" : named;
         const std::string at = "--at=" + step;
         const char *const words[] = {program, "--story", at.c_str(), "--", scenario().c_str(), nullptr};
-        return *program != '\0' && run(words, TRACEHOST_SECONDS_FOR_A_STORY) == ending::well;
+        return *program != '\0' && run(words, seconds_for_a_story) == ending::well;
     }
 
     // Runs a command with standard error as its output, as a group of processes.
@@ -436,7 +436,7 @@ private:
 #ifndef TRACEHOST_SECONDS_FOR_A_STORY
 #define TRACEHOST_SECONDS_FOR_A_STORY 60
 #endif
-    static constexpr int seconds_for_a_page = TRACEHOST_SECONDS_FOR_A_PAGE;
+    static constexpr int seconds_for_a_page = TRACEHOST_SECONDS_FOR_A_PAGE, seconds_for_a_story = TRACEHOST_SECONDS_FOR_A_STORY;
 
     std::string folder, stem, name;
     std::array<std::string, 5> paths;

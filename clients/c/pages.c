@@ -38,7 +38,7 @@ void thp_page_command(
 }
 
 /* Waits for a group of processes by its first one, and kills it if it doesn't end. Returns whether it ended with status 0. */
-static int wait_for(pid_t child, int seconds)
+static int wait_for_group(pid_t child, int seconds)
 {
     int status;
     for (int times = 0; times < seconds * 100; times++) {
@@ -57,11 +57,11 @@ static int wait_for(pid_t child, int seconds)
 
 void thp_wait_for_page(pid_t child)
 {
-    wait_for(child, TH_SECONDS_FOR_A_PAGE);
+    wait_for_group(child, TH_SECONDS_FOR_A_PAGE);
 }
 
 /* Runs the command with standard error as its output, as a group of processes; its first one, or -1. */
-static pid_t spawn(const char *const argv[])
+static pid_t spawn_group(const char *const argv[])
 {
     posix_spawn_file_actions_t files;
     posix_spawnattr_t attributes;
@@ -90,7 +90,7 @@ int thp_make_page(const struct thp_artifacts *a, const char *test, const char *m
         return -1;
     snprintf(number, sizeof number, "%zu", step);
     thp_page_command(argv, a, test, message, number);
-    pid_t child = spawn(argv);
+    pid_t child = spawn_group(argv);
     if (child < 0)
         return -1;
     thp_wait_for_page(child);
@@ -106,6 +106,6 @@ int thp_tell_story(const struct thp_artifacts *a, size_t step)
     snprintf(number, sizeof number, "--at=%zu", step);
     const char *const argv[] = {program, "--story", number, "--", a->scenario, NULL};
     fflush(stderr);
-    pid_t child = spawn(argv);
-    return child >= 0 && wait_for(child, TH_SECONDS_FOR_A_STORY) ? 0 : -1;
+    pid_t child = spawn_group(argv);
+    return child >= 0 && wait_for_group(child, TH_SECONDS_FOR_A_STORY) ? 0 : -1;
 }

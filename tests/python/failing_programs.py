@@ -18,6 +18,9 @@ from client_programs import CLIENT, IN_PROCESS, SOURCE
 
 CPP = TOP / "clients/cpp/tests"
 SECONDS = 300
+WITH_COMMANDS = {"PATH": f"{TOP / 'bin'}:{os.environ['PATH']}"}  # for tracehost-debug, which tells a story
+STORY = "step 8 of user 1001: wait4 1000 -> 1001 stopped SIGSEGV"
+"""The first line of that of a test that is called `fails`."""
 EMBEDDED = re.compile(r'<script type="application/json" id="embedded">(.*?)</script>', re.DOTALL)
 
 

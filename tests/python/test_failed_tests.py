@@ -20,7 +20,7 @@ from pathlib import Path
 import pytest
 from c_programs import sanitized
 from checking import TOP, needs, run
-from failing_programs import Failing, in_c, in_catch2, in_cpp, in_gtest, in_rust, page_of, stem_of
+from failing_programs import STORY, WITH_COMMANDS, Failing, in_c, in_catch2, in_cpp, in_gtest, in_rust, page_of, stem_of
 
 pytestmark = [needs("cc"), needs("c++")]
 VIEWER = TOP / "viewer/make"
@@ -99,9 +99,9 @@ def test_one_that_passes_leaves_nothing(failing: Failing, tmp_path: Path) -> Non
 
 @languages(*MADE)
 def test_one_that_fails(failing: Failing, tmp_path: Path, program: Path) -> None:
-    """In a folder that isn't there yet. Its files are named, and the assertion is on the page."""
+    """In a folder that isn't there yet. Its files are named, the story is told, and the assertion is on the page."""
     folder, case = tmp_path / "a b" / "left", FAILS.get(key(failing), "fails")
-    ran = failing(case, folder)
+    ran = failing(case, folder, environment=WITH_COMMANDS)
     stem = failing.stem(case)
     assert ran.status != 0 and ran.left == files(stem), ran.said
     check_record(folder, stem, program)
@@ -111,6 +111,7 @@ def test_one_that_fails(failing: Failing, tmp_path: Path, program: Path) -> None
     check_page(folder, stem, case, said)
     for file in ran.left:
         assert str(folder / file) in ran.said
+    assert f"\n{STORY}\n" in ran.said and ran.said.count("to go on from here: ") == 1
 
 
 @languages(*MADE)
