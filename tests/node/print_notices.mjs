@@ -1,7 +1,8 @@
-/** Prints what the viewer's rules say of traces with rows, a line of JSON for each. */
+/** Prints what the viewer says of traces with rows, a line of JSON for each: what to look at, and why steps are refused. */
 
 import { readFileSync } from "node:fs";
 import { nearestFirst, noticesOf } from "../../viewer/src/notices.mjs";
+import { sessionOf } from "../../viewer/src/known.mjs";
 import { pair, readFile } from "../../viewer/src/read.mjs";
 
 for (const path of process.argv.slice(2)) {
@@ -10,5 +11,7 @@ for (const path of process.argv.slice(2)) {
   const last = entries.at(-1);
   const told = ({ at, user, kind, text }) => [at + 1, user, kind, text];
   const ordered = nearestFirst(notices, last.index, last.reply.user).map((one) => [told(one), one.count]);
-  console.log(JSON.stringify([notices.map(told), ordered]));
+  sessionOf(entries, true);
+  const whys = entries.filter(({ why }) => why !== undefined).map(({ index, why }) => [index + 1, why]);
+  console.log(JSON.stringify([notices.map(told), ordered, whys]));
 }

@@ -274,9 +274,10 @@ def test_a_folder_in_place_of_the_scenario(failing: Failing, tmp_path: Path) -> 
 @pytest.mark.parametrize("missing", ["TRACEHOST", "TRACEHOST_VIEW"])
 def test_without_the_program_or_the_viewer(failing: Failing, tmp_path: Path, program: Path, missing: str) -> None:
     case = FAILS.get(key(failing), "fails")
-    ran = failing(case, tmp_path, environment={missing: "/nowhere/program"})
+    ran = failing(case, tmp_path, environment={missing: "/nowhere/program", "TRACEHOST_DEBUG": ""})
     assert ran.status != 0 and ran.left == files(failing.stem(case))[1:]
     assert "there is no /nowhere/program" in ran.said and "page:     none" in ran.said
+    assert ran.said.count(f"tracehost: to go on from here: tracehost-debug {tmp_path / failing.stem(case)}.json\n") == 1
     check_record(tmp_path, failing.stem(case), program)
 
 
@@ -526,10 +527,11 @@ def test_a_test_that_returns_an_error(failing: Failing, tmp_path: Path, program:
 def test_a_test_that_returns_what_a_call_returns(failing: Failing, tmp_path: Path, program: Path, case: str) -> None:
     """By `?`: its last step was refused, and libtest shows the error."""
     stem = failing.stem(case)
-    ran = failing(case, tmp_path)
+    ran = failing(case, tmp_path, environment=WITH_COMMANDS)
     assert (ran.status, ran.left) == (101, files(stem)), ran.said
     check_record(tmp_path, stem, program, 3)
     check_page(tmp_path, stem, case, "error EPERM", 3)
+    assert re.search(r"^step 3 of user 1001: .* -> EPERM   \(1001 isn't traced\)$", ran.said, re.MULTILINE), ran.said
     assert f"tracehost: scenario: {tmp_path / stem}.json\n" in ran.said
 
 

@@ -8,7 +8,7 @@ import json
 import re
 import shutil
 import sys
-from collections.abc import Sequence
+from collections.abc import Mapping, Sequence
 from functools import lru_cache
 from pathlib import Path
 from typing import Any
@@ -19,6 +19,7 @@ from correct_sessions import correct_session
 from viewer_runs import random_scenario
 
 sys.path.insert(0, str(TOP / "clients/python"))
+from tracehost import Held, Host
 from tracehost.notice_rules import RULES
 from tracehost.notices import Notice, _User, nearest_first, notices_of
 from tracehost.program import default as program
@@ -228,9 +229,22 @@ def test_equal_ones_come_once() -> None:
     assert found == [(second, 3), (after, 1), (still_open, 1), (other, 1)]
 
 
+def reasons_of(steps: Sequence[Mapping[str, Any]], setting: bool) -> list[list[Any]]:
+    """Each step that is refused or held, and why."""
+    whys: list[list[Any]] = []
+    with Host(transport="library", kill_on_debugger_exit=setting) as host:
+        for number, step in enumerate(steps, 1):
+            try:
+                host.step(step)
+            except (OSError, Held) as error:
+                said = error.strerror if isinstance(error, OSError) else str(error)
+                whys.append([number, re.split(r": (?:E[A-Z]+|held), ", str(said), maxsplit=1)[1]])
+    return whys
+
+
 @pytest.mark.skipif(shutil.which("node") is None, reason="not installed: node")
 def test_the_viewer_says_the_same(folder: Path, tmp_path: Path) -> None:
-    """Of the faults, of correct sessions that are cut, of random ones and of the examples."""
+    """Of the faults, of correct sessions that are cut, of random ones and of the examples; and why steps are refused."""
     texts = [session_of(steps).text() for steps, _, _ in FAULTS.values()]
     for seed, file in enumerate(correct(folder, 200)[:40]):
         session = read_session(str(file))
@@ -246,10 +260,11 @@ def test_the_viewer_says_the_same(folder: Path, tmp_path: Path) -> None:
         notices = notices_of(steps)
         ordered = [[list(one), count] for one, count in nearest_first(notices, len(steps), steps[-1].user)]
         traces.append(trace)
-        expected.append([sorted(map(list, notices)), ordered])
+        whys = reasons_of(json.loads(text)["steps"], json.loads(text).get("kill_on_debugger_exit") != 0)
+        expected.append([sorted(map(list, notices)), ordered, whys])
     printed = run("node", TOP / "tests/node/print_notices.mjs", *traces)
     assert (printed.status, printed.err) == (0, "")
     for text, line, wanted in zip(texts, printed.out.splitlines(), expected):
-        found, ordered = json.loads(line)
-        assert [sorted(found), ordered] == wanted, text
-    assert sum(len(found) for found, _ in expected) > 100
+        found, ordered, whys = json.loads(line)
+        assert [sorted(found), ordered, whys] == wanted, text
+    assert sum(len(found) for found, _, _ in expected) > 100 and sum(len(whys) for _, _, whys in expected) > 1000

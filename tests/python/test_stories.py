@@ -1,4 +1,4 @@
-"""A test that fails tells its story, in each language: its last step and why, what to look at, and one command that goes on.
+"""A test that fails tells its story, in C, C++ and Python: its last step and why, what to look at, and one command that goes on.
 
 Without tracehost-debug, with one that fails or hangs, and if it is turned off, it says the command. What passes says nothing.
 """
@@ -14,13 +14,12 @@ from pathlib import Path
 
 import pytest
 from checking import TOP, needs, run
-from failing_programs import STORY, WITH_COMMANDS, Failing, in_c, in_cpp, in_rust
+from failing_programs import STORY, WITH_COMMANDS, Failing, in_c, in_cpp
 
 PLAIN = "-fno-sanitize=all"
 MADE: dict[str, Callable[[Path, Path, Path], Failing]] = {
     "c": lambda room, library, program: in_c(room, library, program, "in process", PLAIN, "-DTH_SECONDS_FOR_A_STORY=3"),
     "cpp": lambda room, library, program: in_cpp(room, library, PLAIN, "-DTRACEHOST_SECONDS_FOR_A_STORY=3"),
-    "rust": lambda room, library, program: in_rust(room, library),
 }
 
 
@@ -39,8 +38,6 @@ def failing(
 ) -> Failing:
     """The test program in a language, compiled once. It finds the program, and makes no page."""
     language = request.param
-    if language == "rust" and run("sh", "-c", "command -v cargo").status:
-        pytest.skip("not installed: cargo")
     if language not in programs:
         programs[language] = MADE[language](tmp_path_factory.mktemp("stories"), library, program)
         programs[language].environment = {"TRACEHOST": str(program), "TRACEHOST_VIEW": "/bin/false", **WITH_COMMANDS}
@@ -108,12 +105,6 @@ def test_a_signal_tells_no_story(failing: Failing, tmp_path: Path) -> None:
     """Its handler says the command."""
     ran = failing("aborts", tmp_path)
     assert ran.status == -6 and ran.said.count("tracehost: to go on from here: tracehost-debug ") == 1 and "last steps" not in ran.said
-
-
-@languages("rust")
-def test_a_test_that_returns_what_a_call_returns(failing: Failing, tmp_path: Path) -> None:
-    ran = failing("question_mark", tmp_path)
-    assert "step 3 of user 1001: " in ran.said and "-> EPERM   (1001 isn't traced)" in ran.said, ran.said
 
 
 # ---- Python

@@ -68,6 +68,7 @@ PYTHON = Language("a.{}", "r.{}({})", " and ", " or ", "not ")
 C = Language("a->{}", "{}(r, {})")
 CPP = Language("a.{}", "r.{}({})")
 RUST = CPP
+JAVASCRIPT = Language("a.{}", "r.{}({})", equal="===", unequal="!==")
 
 
 def in_cases(refusals: Refusals, language: Language, field: str, case: str) -> str:
@@ -233,3 +234,35 @@ def rust_tables(refusals: Refusals) -> str:
         order = ", ".join(f"&{name.upper()}" for name in call.order)
         calls += f'    Call {{ op: "{call.op}", request: {call.number(refusals)}, text: "{call.text}", order: &[{order}] }},\n'
     return f"{conditions}\npub static CALLS: &[Call] = &[\n{calls}];\n"
+
+
+# ---- the viewer
+
+
+def viewer_conditions(refusals: Refusals) -> str:
+    rows = ""
+    for condition, possible, holds, asked, argument, row in tests_in(JAVASCRIPT, refusals, "_"):
+        of_rows = "()" if argument == row == "_" else argument if row == "_" else f"({argument}, {row})"
+        rows += (
+            f"  {condition.name}: {{ answer: {json.dumps(condition.answer)}, words: {json.dumps(condition.words)},\n"
+            f"    possible: {'()' if asked == '_' else '(a)'} => {possible}, holds: {of_rows.replace('a', '(a)') if of_rows == 'a' else of_rows} => {holds} }},\n"
+        )
+    return f"export const CONDITIONS = {{\n{rows}}};\n"
+
+
+def viewer_calls(refusals: Refusals) -> str:
+    rows = ""
+    for call in refusals.calls:
+        rows += f"  {{ op: {json.dumps(call.op)}, request: {call.number(refusals)}, order: {json.dumps(list(call.order))} }},\n"
+    return f"export const ASKED_CALLS = [\n{rows}];\n"
+
+
+def viewer_numbers(refusals: Refusals) -> str:
+    """Numbers of requests, acts, system calls and actions by their names in steps, and which requests take a signal or data."""
+    tables = {"REQUEST_NUMBERS": refusals.requests}
+    for kind in ("ACT", "CALL", "ACTION"):
+        found = {name.removeprefix(f"{kind}_").lower(): number for name, number in refusals.numbers.items() if name.startswith(f"{kind}_")}
+        tables[f"{kind}_NUMBERS"] = found
+    lines = [f"export const {name} = {{ {', '.join(f'{key}: {value}' for key, value in table.items())} }};\n" for name, table in tables.items()]
+    lines += [f"export const {name} = {json.dumps(list(numbers))};\n" for name, numbers in refusals.sets.items()]
+    return "".join(lines)

@@ -3,6 +3,7 @@
 import { ConcludedSession } from "./concluded.mjs";
 import { endText } from "./facts.mjs";
 import { noticesOf } from "./notices.mjs";
+import { whyRefused } from "./refusals.mjs";
 import { Session } from "./session.mjs";
 import { History } from "./state.mjs";
 import { bare, callText } from "./words.mjs";
@@ -35,6 +36,9 @@ export class KnownSession extends Session {
   /** The lanes of new processes and LWPs. */
   prepare({ reply, asked }) {
     const rows = this.rowsOf(reply.user);
+    if (asked && (reply.reply === "error" || reply.reply === "held")) {
+      this.entry.why = whyRefused({ user: reply.user, ...asked }, reply.errno ?? "held", rows);
+    }
     for (const row of reply.rows.processes ?? []) {
       if (!rows.processes.has(row.pid)) this.born(row, reply, asked?.op === "turn" ? this.lwp(asked.lwp) : null);
     }

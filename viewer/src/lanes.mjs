@@ -18,9 +18,9 @@ import { firstFrom } from "./sorted.mjs";
  * @property {number} [shift]
  * @property {number} [x]
  *
- * A reply with the step that it answers.
+ * A reply with the step that it answers, and `why` this was refused or held, if the rows say it.
  *
- * @typedef {{index: number, reply: object, asked: object | null}} Entry
+ * @typedef {{index: number, reply: object, asked: object | null, why?: string}} Entry
  *
  * A stretch of a lane between two entries: a stop, a system call, a suspension, a wait for a child of vfork.
  *

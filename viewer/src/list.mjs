@@ -67,7 +67,7 @@ export class StepList {
     const row = tag("div", { className: `row ${mark.kind}${more}` },
       cell("number", this.plan.numberOf[entry.index]), cell("user", reply.user ? `${reply.user} ${reply.step}` : ""),
       this.who(whoText(mark)), cell("asked", asked ? action(asked) + objectText(asked) : ""),
-      cell("reply", plainText(reply)), cell("meaning", meaning(reply)));
+      cell("reply", plainText(reply)), cell("meaning", entry.why || meaning(reply)));
     row.mark = mark;
     row.style.top = `${place * ROW_HEIGHT}px`;
     row.style.setProperty("--user", colourOf(reply.user));

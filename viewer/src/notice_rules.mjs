@@ -7,6 +7,7 @@
  * @typedef {{name: string, kind: "wrong" | "open", of: string, at: string, words: string, holds: (facts: any) => any}} Rule
  */
 
+/** @type {Rule[]} */
 // tools/format rules
 export const RULES = [
   { name: "signal_dropped", kind: "wrong", of: "go_on", at: "", words: "{request} of {pid} drops its {stop_signal}",

@@ -19,6 +19,7 @@ const UNTOLD = { since: 0, reportedAt: 0, wentOnAt: 0, vainAt: 0, missedAt: 0, s
   stepping: 0, haveOthersGoneOn: false };
 const NO_PROCESS = { state: "runs", pending: [], reported: false, tracer: undefined, stop_signal: undefined, stop_lwp: 0 };
 
+/** @param {ProcessRow} row */
 const isReportedStop = ({ state, reported }) => state === "trace_stop" && Boolean(reported);
 const signalNumber = (signal) => (signal ? SIGNALS.indexOf(signal) : 0);
 const factText = (name, value) => (name.endsWith("signal") ? signalName(value) : String(value));
@@ -37,7 +38,8 @@ class UserNotices {
    * @param {Set<number>} users  of the session
    */
   constructor(user, users) {
-    Object.assign(this, { user, users });
+    this.user = user;
+    this.users = users;
     /** @type {Notice[]} */
     this.found = [];
     this.rows = noRows();
@@ -213,6 +215,7 @@ class UserNotices {
 
   // ---- the end
 
+  /** @param {ProcessRow} row */
   factsOfProcess(row) {
     const told = this.toldOf(row.pid);
     const waiter = row.tracer ?? row.parent;
@@ -225,6 +228,7 @@ class UserNotices {
     };
   }
 
+  /** @param {import("./state.mjs").LwpRow} row */
   factsOfLwp({ lwp, pid, vfork_child: child = 0, suspended }) {
     const isLeft = suspended && this.process(pid).state === "runs" && this.lwpsOf(pid).some((one) => one.lwp !== lwp && !one.suspended);
     const { tracer = 0, state } = this.process(child);

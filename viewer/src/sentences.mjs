@@ -25,7 +25,8 @@ export function paragraphs(mark) {
   if (mark.source !== mark.entry) lines.push({ text: `named first by step ${mark.source.reply.step}`, name: "pale" });
   if (asked) lines.push({ text: askedText(asked), name: "asked" });
   lines.push({ text: `→ ${plainText(reply)}`, name: "raw" });
-  if (meaning(reply)) lines.push({ text: meaning(reply), name: "pale" });
+  const more = mark.entry.why || meaning(reply);
+  if (more) lines.push({ text: more, name: "pale" });
   if (asked) lines.push({ text: JSON.stringify(asked), name: "raw pale" });
   return lines;
 }
@@ -49,8 +50,8 @@ export function whoText({ lane, entry: { reply, asked } }) {
 
 /** The words of a mark that a search looks through, in small letters. */
 export function searchText(mark) {
-  const { reply, asked } = mark.entry;
+  const { reply, asked, why } = mark.entry;
   const texts = [whoText(mark), mark.lane.name, mark.label, asked ? askedText(asked) : "", plainText(reply),
-    meaning(reply)];
+    why || meaning(reply)];
   return texts.join(" ").toLowerCase();
 }
