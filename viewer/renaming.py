@@ -2,12 +2,14 @@
 
 from __future__ import annotations
 
+import difflib
 from collections import Counter, defaultdict
 from collections.abc import Callable, Iterable, Mapping, Sequence
 from typing import Any
 
 Row = list[int]  # a user, the user's number of the step, and the places of its values: what was asked, the reply, the rows
 Names = dict[int, int]  # from the right run's numbers to the left one's
+MOST_MATCHED = 2000  # steps of a user
 FIRST = 1000  # the least number of a process; users, signals and codes are no numbers of processes
 # the members of steps, replies and rows whose value is a process or an LWP, or several
 NUMBERS = {"caller", "target", "which", "lwp", "pid", "child", "pids", "lwps", "parent", "tracer", "stop_lwp", "vfork_child"}
@@ -61,17 +63,24 @@ class Renaming:
             del self.names[user]
 
     def _votes(self, left: Sequence[Row], right: Sequence[Row]) -> dict[int, Counter[int]]:
-        """How often a number of the right run is where a number of the left one is, if both runs begin, or end, alike but
-        for their numbers."""
+        """How often a number of the right run is where a number of the left one is, in steps that are alike but for their
+        numbers: those that both runs begin, or end, with, and if they aren't long those that match between. Each counts as
+        often as there are such steps one after the other."""
         shapes = [[(self._shape(row[2]), self._shape(row[3])) for row in rows] for rows in (left, right)]
         most = min(map(len, shapes))
         begin = next((at for at in range(most) if shapes[0][at] != shapes[1][at]), most)
-        end = next((at for at in range(most) if shapes[0][-1 - at] != shapes[1][-1 - at]), most)
+        end = next((at for at in range(most - begin) if shapes[0][-1 - at] != shapes[1][-1 - at]), most - begin)
+        blocks = [(0, 0, begin), (len(left) - end, len(right) - end, end)]
+        middle = [own[begin : len(own) - end] for own in shapes]
+        if begin + end < most and max(map(len, middle)) <= MOST_MATCHED:
+            matched = difflib.SequenceMatcher(None, *middle, autojunk=False).get_matching_blocks()
+            blocks += [(begin + i, begin + j, size) for i, j, size in matched]
         votes: dict[int, Counter[int]] = defaultdict(Counter)
-        for one, other in [*zip(left[:begin], right[:begin]), *(zip(left[-end:], right[-end:]) if end else ())]:
-            for place, other_place in zip(one[2:4], other[2:4]):
-                for old, new in zip(self._numbers_of(place), self._numbers_of(other_place)):
-                    votes[new][old] += 1
+        for i, j, size in blocks:
+            for one, other in zip(left[i : i + size], right[j : j + size]):
+                for place, other_place in zip(one[2:4], other[2:4]):
+                    for old, new in zip(self._numbers_of(place), self._numbers_of(other_place)):
+                        votes[new][old] += size
         return votes
 
     def _shape(self, place: int) -> int:

@@ -21,12 +21,13 @@ import sys
 from collections.abc import Sequence
 from typing import IO, Optional
 
+from .comparing import differences_of
 from .errors import ProgramEnded
 from .prompt import Prompt
 from .saving import Session, read_session
 from .shrinking import Keep, shrink, shrink_refused
 from .story import story
-from .timeline import Refused
+from .timeline import Refused, Timeline
 
 __all__ = ["main"]
 
@@ -78,6 +79,9 @@ def _options() -> argparse.ArgumentParser:
     parser.add_argument(
         "--batch", metavar="COMMANDS", help="do these commands, with ; between two, and leave; status 1 if one fails"
     )
+    parser.add_argument(
+        "--compare", metavar="FILE", help="print how another session differs, whatever numbers processes got; status 1 if it does"
+    )
     parser.add_argument("--shrink", metavar="OUT", help="write a scenario with fewer steps that keeps what --keep says")
     parser.add_argument(
         "--keep",
@@ -93,8 +97,8 @@ def _options() -> argparse.ArgumentParser:
 
 def _session_of(given: argparse.Namespace, parser: argparse.ArgumentParser) -> Session:
     if given.file is None:
-        if given.shrink is not None or given.at is not None or given.story:
-            parser.error("--at, --story and --shrink need a FILE")
+        if given.shrink is not None or given.compare is not None or given.at is not None or given.story:
+            parser.error("--at, --compare, --story and --shrink need a FILE")
         setting = None if given.kill_on_debugger_exit is None else given.kill_on_debugger_exit == "1"
         return Session("session", (), setting)
     if given.kill_on_debugger_exit is not None:
@@ -114,12 +118,24 @@ def _shrink(given: argparse.Namespace, session: Session, parser: argparse.Argume
     return 0
 
 
+def _compare(given: argparse.Namespace, left: Session) -> int:
+    """The status is that of diff(1)."""
+    right = read_session(given.compare, given.program)
+    one, other = (Timeline(session.steps, session.kill_on_debugger_exit, given.program) for session in (left, right))
+    names = (left.name, right.name) if left.name != right.name else (given.file, given.compare)
+    lines, do_differ = differences_of(one, other, names)
+    print("\n".join(lines))
+    return int(do_differ)
+
+
 def _run(words: Optional[Sequence[str]]) -> int:
     parser = _options()
     given = parser.parse_args(words)
     session = _session_of(given, parser)
     if given.shrink is not None:
         return _shrink(given, session, parser)
+    if given.compare is not None:
+        return _compare(given, session)
     if given.at is not None and not 0 <= given.at <= len(session.steps):
         parser.error(f"--at {given.at}: there are {len(session.steps)} steps")
     if given.story:
