@@ -71,6 +71,22 @@ public:
     std::int64_t user, caller, target, which, lwp, signal, data, request, act, action;
     std::int64_t unnamed = 0; // a line has names of events
 
+    // a number that is no signal as it was given: -1 is sent as 4294967295
+    static std::string signal_name(std::int64_t number)
+    {
+        // tools/format signals
+        static const char *const names[] = {
+            "SIGHUP", "SIGINT", "SIGQUIT", "SIGILL", "SIGTRAP", "SIGABRT", "SIGEMT", "SIGFPE", "SIGKILL", "SIGBUS",
+            "SIGSEGV", "SIGSYS", "SIGPIPE", "SIGALRM", "SIGTERM", "SIGURG", "SIGSTOP", "SIGTSTP", "SIGCONT",
+            "SIGCHLD", "SIGTTIN", "SIGTTOU", "SIGIO", "SIGXCPU", "SIGXFSZ", "SIGVTALRM", "SIGPROF", "SIGWINCH",
+            "SIGINFO", "SIGUSR1", "SIGUSR2"
+        };
+        // end
+        if (number >= 1 && number <= TRACEHOST_LAST_SIGNAL)
+            return names[number - 1];
+        return std::to_string(static_cast<std::int32_t>(number));
+    }
+
 private:
     // where the value of a key begins; npos if there is none
     std::size_t find(const std::string &key) const
@@ -106,22 +122,6 @@ private:
     }
 
     static std::int64_t request_named(const std::string &name);
-
-    // a number that is no signal as it was given: -1 is sent as 4294967295
-    static std::string signal_name(std::int64_t number)
-    {
-        // tools/format signals
-        static const char *const names[] = {
-            "SIGHUP", "SIGINT", "SIGQUIT", "SIGILL", "SIGTRAP", "SIGABRT", "SIGEMT", "SIGFPE", "SIGKILL", "SIGBUS",
-            "SIGSEGV", "SIGSYS", "SIGPIPE", "SIGALRM", "SIGTERM", "SIGURG", "SIGSTOP", "SIGTSTP", "SIGCONT",
-            "SIGCHLD", "SIGTTIN", "SIGTTOU", "SIGIO", "SIGXCPU", "SIGXFSZ", "SIGVTALRM", "SIGPROF", "SIGWINCH",
-            "SIGINFO", "SIGUSR1", "SIGUSR2"
-        };
-        // end
-        if (number >= 1 && number <= TRACEHOST_LAST_SIGNAL)
-            return names[number - 1];
-        return std::to_string(static_cast<std::int32_t>(number));
-    }
 };
 
 // A user's rows. What is asked of a process or an LWP that isn't there is 0 or false.

@@ -21,8 +21,56 @@
 #include "tracehost_crashes.hpp"
 
 #include <exception>
+#include <ostream>
 #include <string>
 #include <thread>
+
+// A reply in words: "ok", "held", "error ESRCH", "1001 stopped SIGTRAP". A check of it says what came in place of what:
+// EXPECT_EQ(tracehost_words(reply), "ok").
+inline std::string tracehost_words(const tracehost_reply &reply)
+{
+    // tools/format replies
+    static const char *const kinds[] = {
+        "ok", "new", "number", "status", "nothing", "info", "lwps", "pids", "mask", "handled", "stopped", "caught",
+        "ended", "held", "error"
+    };
+    static const auto error = [](std::uint32_t number) -> std::string {
+        switch (number) {
+        case 1: return "EPERM";
+        case 3: return "ESRCH";
+        case 10: return "ECHILD";
+        case 12: return "ENOMEM";
+        case 16: return "EBUSY";
+        case 22: return "EINVAL";
+        case 35: return "EAGAIN";
+        default: return std::to_string(number);
+        }
+    };
+    // end
+    const std::string name = reply.kind < sizeof kinds / sizeof *kinds ? kinds[reply.kind] : std::to_string(reply.kind);
+    const auto signal = [](std::uint32_t number) { return tracehost_refusals::asked::signal_name(number); };
+    const auto status = [&](std::uint32_t word) {
+        if (word == 0xffff) // WIFCONTINUED
+            return std::string("continued");
+        if ((word & 0xff) == 0x7f)
+            return "stopped " + signal(word >> 8);
+        return (word & 0x7f) == 0 ? "exited " + std::to_string(word >> 8) : "ended by " + signal(word & 0x7f);
+    };
+    switch (reply.kind) {
+    case TRACEHOST_NEW: return "new " + std::to_string(reply.pid) + " " + std::to_string(reply.lwp);
+    case TRACEHOST_NUMBER: return "number " + std::to_string(reply.number);
+    case TRACEHOST_STATUS: return std::to_string(reply.pid) + " " + status(reply.status);
+    case TRACEHOST_HANDLED: return "handled " + std::to_string(reply.pid) + " " + status(reply.status);
+    case TRACEHOST_STOPPED: return "LWP " + std::to_string(reply.lwp) + " stopped " + signal(reply.signal);
+    case TRACEHOST_CAUGHT: return "caught " + signal(reply.signal);
+    case TRACEHOST_ENDED: return status(reply.status);
+    case TRACEHOST_ERROR: return "error " + error(reply.error);
+    default: return name;
+    }
+}
+
+// for GoogleTest and Catch2
+inline std::ostream &operator<<(std::ostream &to, const tracehost_reply &reply) { return to << tracehost_words(reply); }
 
 // A session that is recorded from its beginning, for a test. Nothing that is done for the record throws.
 class tracehost_test : public tracehost_session, private tracehost_open_test {

@@ -500,6 +500,12 @@ def test_googletest(failing: Failing, tmp_path: Path) -> None:
     assert failing("all/numbered.*", tmp_path / "5").left == files(*(failing.stem(f"all/numbered.fails/{n}") for n in range(3)))
 
 
+@languages("gtest")
+def test_replies_in_words(failing: Failing, tmp_path: Path) -> None:
+    said = failing("debugger.compares_replies", tmp_path).said
+    assert [words for words in ('"held"', '"error ESRCH"', "ok, 1001 ended by SIGKILL\n") if words not in said] == [], said
+
+
 @languages("catch2")
 def test_catch2(failing: Failing, tmp_path: Path) -> None:
     assert failing("requires", tmp_path / "1").left == files(failing.stem("requires"))

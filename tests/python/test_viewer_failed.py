@@ -145,6 +145,30 @@ def test_what_is_nearest_to_the_failure_comes_first(opened: Open, pages: Pages) 
 
 
 @needs_browser
+@pytest.mark.parametrize("width", [1400, 390])
+def test_no_name_of_a_lane_loses_digits(opened: Open, pages: Pages, width: int) -> None:
+    """Of processes and LWPs below eight others."""
+    steps = [SPAWN]
+    for lwp in range(100_000, 100_008):
+        steps += [turn(lwp, "enter", call="fork"), turn(lwp, "leave")]
+    tab = opened(scenario(pages, steps), address="lwps=all", width=width)
+    cut = "[...document.querySelectorAll('#names > div')].filter((one) => one.scrollWidth > one.clientWidth).map((one) => one.textContent)"
+    assert tab.value("document.querySelectorAll('#names > div').length") > 10 and tab.value(cut) == []
+
+
+@needs_browser
+def test_a_refused_step_says_its_condition(opened: Open, pages: Pages) -> None:
+    """In the list, in the card, and for a search."""
+    tab = opened(scenario(pages, [*attached(2), ptrace("PT_CONTINUE", 1001), kill(17), turn(100_001), ptrace("PT_CONTINUE", 1001)]))
+    for line, why in ((10, "1001 is in no trace stop"), (13, "no wait has reported the stop of 1001")):
+        tab.value(f"(page.find(''), page.goToEntry({line - 1}))")
+        assert tab.value(f"document.querySelector('.row[data-line=\"{line}\"] .meaning').textContent") == why
+        assert why in tab.value("document.getElementById('card').textContent")
+        tab.value(f"page.find({json.dumps(why)})")
+        assert tab.value("page.list.found.size") == 1
+
+
+@needs_browser
 def test_escape_leaves_a_search_as_it_is(opened: Open) -> None:
     """In the list and in the field, which a browser would empty."""
     tab = opened(COLLECTOR)

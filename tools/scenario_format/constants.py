@@ -84,6 +84,17 @@ def cpp_signals(form: Format) -> str:
     return f"        static const char *const names[] = {{\n{lines(quoted(form.signals), 116, '            ', end='')}        }};\n"
 
 
+def cpp_replies(form: Format) -> str:
+    """The names of replies by their kinds, and of errors."""
+    cases = "".join(f'        case {error.bit}: return "{error.name}";\n' for error in form.errors)
+    kinds = lines(quoted(reply.name for reply in form.shapes.replies), 116, "        ", end="")
+    return (
+        f"    static const char *const kinds[] = {{\n{kinds}    }};\n"
+        f"    static const auto error = [](std::uint32_t number) -> std::string {{\n        switch (number) {{\n{cases}"
+        "        default: return std::to_string(number);\n        }\n    };\n"
+    )
+
+
 # ---- the broker
 
 

@@ -13,6 +13,7 @@ const AROUND_CHANGING = 0.12;
 /** How far a pointer may be from a mark that is drawn as a bar, in pixels. */
 const NEAR = 8;
 const MOST_DEPTH = 6; // deeper lanes are indented no more
+const MOST_DEPTH_WITH_WORDS = 2; // deeper ones have only their numbers
 
 /** @typedef {import("./lanes.mjs").Mark} Mark */
 
@@ -133,7 +134,7 @@ export class Picture {
   }
 
   laneName(lane) {
-    const row = tag("div", { className: lane.kind });
+    const row = tag("div", { className: lane.depth > MOST_DEPTH_WITH_WORDS ? `${lane.kind} deep` : lane.kind });
     const below = lane.isFolded ? ` and ${lane.others.length} lanes below it` : "";
     row.title = (lane.owner ? `${lane.name} of process ${lane.owner.number}` : lane.name) + below;
     Object.assign(row.style, { top: `${lane.top}px`, height: `${lane.height}px` });

@@ -41,6 +41,16 @@ TEST(debugger, throws)
     throw std::runtime_error("the debugger is lost");
 }
 
+// The replies are printed in words.
+TEST(debugger, compares_replies)
+{
+    tracehost_gtest test;
+    signal_after_step(test);
+    EXPECT_EQ(tracehost_words(test.call(tracehost_turn, 1001, 100001, TRACEHOST_COMPUTE, 0, 0)), "ok");
+    EXPECT_EQ(tracehost_words(test.call(tracehost_ptrace, 1001, 1000, TRACEHOST_PT_ATTACH, 1234, 0)), "ok");
+    EXPECT_TRUE(false) << test.call(tracehost_kill, 1001, 1000, 1001, 9) << ", " << test.call(tracehost_wait4, 1001, 1000, -1, 0);
+}
+
 // The check of another object comes before the session.
 TEST(debugger, failed_before)
 {

@@ -202,7 +202,7 @@ def test_one(tracehost):
 
 
 def test_a_second_session_of_a_name(runs: Runs, tmp_path: pathlib.Path) -> None:
-    """It takes the first one's place in the record; the first one goes on."""
+    """It gets a number, and both have a record; a third one takes the place of one that is closed."""
     runs(
         """
 def test_two(new_tracehost):
@@ -213,11 +213,37 @@ def test_two(new_tracehost):
         second.user(1001).spawn()
         first.user(1001).spawn()
     assert first.user(1001).spawn().pid == 1004
+    second.close()
+    new_tracehost().user(1001).spawn()
     assert False
 """
     )
-    (scenario,) = scenarios(tmp_path)
-    assert steps(scenario) == 3
+    second, first = scenarios(tmp_path)
+    assert (steps(first), steps(second)) == (5, 1) and second.stem == f"{first.stem}-2"
+
+
+def test_a_further_session_beside_the_fixture(runs: Runs, tmp_path: pathlib.Path) -> None:
+    """The page of the fixture's shows its own steps; an example of Hypothesis takes the place of the one before."""
+    runs(
+        """
+from hypothesis import given, strategies as st
+
+def test_fixture(tracehost, new_tracehost):
+    tracehost.user(1001).spawn()
+    other = new_tracehost()
+    assert [other.user(1001).spawn() for _ in range(3)] == []
+
+kept = []
+
+@given(n=st.integers(0, 3))
+def test_examples(new_tracehost, n):
+    kept.append(new_tracehost())
+    kept[-1].user(1001).spawn()
+    assert n < 2
+"""
+    )
+    *of_fixture, examples = sorted(scenarios(tmp_path), key=lambda path: "examples" in path.name)
+    assert sorted(map(steps, of_fixture)) == [1, 3] and steps(examples) == 1
 
 
 def test_the_page_has_the_test_and_its_assertion(runs: Runs, tmp_path: pathlib.Path) -> None:

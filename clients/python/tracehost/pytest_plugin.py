@@ -51,7 +51,8 @@ _set_up: list[Any] = []  # the fixtures that are being set up, each by the one b
 
 
 class NewHost(Protocol):
-    """Starts a `Host` that records as `name` of the test. A further one of that name takes its place."""
+    """Starts a `Host` that records as `name` of the test. While it is open a further one gets a number, but takes its
+    place in the next example of a test with ``@given``."""
 
     def __call__(self, name: str = "session", **settings: Any) -> Host:
         ...

@@ -4,6 +4,7 @@ from __future__ import annotations
 
 import os
 import shlex
+import sys
 from collections.abc import Callable, Iterator
 from contextlib import contextmanager, suppress
 from pathlib import Path
@@ -136,7 +137,7 @@ class Sessions(Told):
     def start(self, name: str, settings: dict[str, Any]) -> Host:
         """A host that records as `name`; without a record if its files can't be made.
 
-        An earlier one of that name goes on unrecorded, since the file is no longer its.
+        In another example of Hypothesis an earlier one of that name goes on unrecorded, since the file is no longer its.
         """
         try:
             host = self._recorded(self.record(name), settings)
@@ -149,12 +150,18 @@ class Sessions(Told):
         return host
 
     def record(self, name: str) -> Running:
-        """The record of this name. That of a failure stays, and another gets a number."""
+        """The record of this name. That of a failure stays, as does that of an open session, and another gets a number."""
         label = self._stem if name == "session" else f"{self._stem}.{session_name(name)}"
         path, number = self._folder().path / f"{label}.json", 2
-        while path in self._failures:
+        while path in self._failures or self._is_in_use(path):
             path, number = path.with_name(f"{label}-{number}.json"), number + 1
         return Running(path)
+
+    def _is_in_use(self, path: Path) -> bool:
+        """Whether an open session records there. One of an earlier example of Hypothesis may be open, and is over."""
+        host = self._records.get(path, lambda: None)()
+        is_open = host is not None and host._recording is not None and host._recording.number >= 0
+        return is_open and not _is_in_example()
 
     def _recorded(self, record: Running, settings: dict[str, Any]) -> Host:
         before = self._records.pop(record.scenario, None)
@@ -254,6 +261,12 @@ class Sessions(Told):
             if isinstance(host._made, Pipe) and host._made.was_killed:
                 self.tell("the program of a session didn't end, and was killed")
         self._hosts.clear()
+
+
+def _is_in_example() -> bool:
+    """Whether Hypothesis runs a test."""
+    hypothesis: Any = sys.modules.get("hypothesis")
+    return bool(getattr(hypothesis, "currently_in_test_context", lambda: False)())
 
 
 def _steps(host: Optional[Host]) -> Optional[int]:
