@@ -50,7 +50,7 @@ inline std::string tracehost_words(const tracehost_reply &reply)
     const std::string name = reply.kind < sizeof kinds / sizeof *kinds ? kinds[reply.kind] : std::to_string(reply.kind);
     const auto signal = [](std::uint32_t number) { return tracehost_refusals::asked::signal_name(number); };
     const auto status = [&](std::uint32_t word) {
-        if (word == 0xffff) // WIFCONTINUED
+        if (word == 0x13)
             return std::string("continued");
         if ((word & 0xff) == 0x7f)
             return "stopped " + signal(word >> 8);

@@ -1,4 +1,4 @@
-"""The tables are those of format/scenario.toml and format/refusals.toml: `tools/format check` finds no file that is older.
+"""The tables are those of format/: `tools/format check` finds no file that is older.
 
 In a copy of the sources, each of its files is older once the tables that it has are changed, and none is after `tools/format
 write`. A word of a table that isn't known ends the tool, which tells the file and the line, and writes nothing.
@@ -18,10 +18,10 @@ import pytest
 
 from checking import TOP, run
 
-TABLES = ("format/scenario.toml", "format/refusals.toml")
+TABLES = ("format/scenario.toml", "format/refusals.toml", "format/notices.toml")
 COPIED = (
     "format tools crates schema include reference clients/c clients/posix/broker clients/posix/runtime clients/posix/tracehost_posix"
-    " clients/python clients/rust/src viewer docs/FORMAT.md man"
+    " clients/python clients/rust/src viewer docs/FORMAT.md docs/VIEWER.md man"
 )
 CLIENTS = (
     "clients/c/names.c clients/c/tracehost_client.h clients/python/tracehost/names.py clients/rust/src/steps.rs include/tracehost.h"
@@ -30,7 +30,9 @@ CLIENTS = (
 REFERENCE = "reference/names.py"
 NAMES = "clients/python/tracehost/names.py"
 LIMITS = f"{REFERENCE} {NAMES} include/tracehost.h"
-NOT_IN_C = "clients/python/tracehost/conditions.py clients/rust/src/refusals.rs include/tracehost_explain.hpp"
+NOT_IN_C = (
+    "clients/python/tracehost/conditions.py clients/rust/src/refusals.rs include/tracehost_explain.hpp viewer/src/conditions.mjs"
+)
 REFUSALS = f"clients/c/refusals.c {NOT_IN_C}"
 MANUAL = "clients/python/tracehost/manual.py"
 SCHEMA = "schema/scenario.schema.json"
@@ -72,7 +74,7 @@ CHANGES = [
         "PT_ATTACH",
         "PT_SEIZE",
         f"{EXPLAINED} {SCHEMA} {CLIENTS} {MANUAL} {REFERENCE} docs/FORMAT.md man/tracehost.1 clients/rust/src/refusals.rs"
-        " include/tracehost_explain.hpp",
+        " include/tracehost_explain.hpp viewer/src/conditions.mjs docs/VIEWER.md",
     ),
     Change(
         "another name of an op",
@@ -91,7 +93,7 @@ CHANGES = [
         '"thr_exit"',
         '"thr_end"',
         f"{EXPLAINED} {SCHEMA} clients/c/names.c clients/python/tracehost/names.py {MANUAL} docs/FORMAT.md {REFERENCE}"
-        " clients/posix/broker/model.c clients/python/tracehost/typed.py include/tracehost.h",
+        " clients/posix/broker/model.c clients/python/tracehost/typed.py include/tracehost.h viewer/src/conditions.mjs",
     ),
     Change(
         "another range",
@@ -118,7 +120,8 @@ CHANGES = [
         "the number of an error",
         "^number = 35",
         "number = 11",
-        f"{REFERENCE} clients/c/tracehost_client.h clients/python/tracehost/replies.py clients/rust/src/numbers.rs",
+        f"{REFERENCE} clients/c/tracehost_client.h clients/python/tracehost/replies.py clients/rust/src/numbers.rs"
+        " include/tracehost_test.hpp",
     ),
     Change(
         "FreeBSD's bit of a flag",
@@ -164,6 +167,13 @@ CHANGES = [
         "clients/python/tracehost/library.py clients/python/tracehost/rows.py clients/rust/src/sys.rs include/tracehost.h"
         " viewer/src/forms.mjs viewer/reading.py",
     ),
+    Change(
+        "another rule",
+        "^holds = .owner != 0.",
+        'holds = "owner != 1"',
+        "clients/python/tracehost/notice_rules.py viewer/src/notice_rules.mjs",
+    ),
+    Change("what a rule means", "^means = .another user's number.", 'means = "a foreign number"', "docs/VIEWER.md"),
     Change("another effect", '^effect = "lists the user.s processes.*', 'effect = "lists them"', "docs/FORMAT.md"),
 ]
 
@@ -250,7 +260,20 @@ REFUSAL_MISTAKES = {
         '"no_other_process", ', "", "no call asks for 'no_other_process'", 'name = "no_other_process"'
     ),
 }
-MISTAKES = [(TABLES[0], *made) for made in SCENARIO_MISTAKES.items()] + [(TABLES[1], *made) for made in REFUSAL_MISTAKES.items()]
+NOTICE_MISTAKES = {
+    "a kind": Mistake('^kind = "wrong"', 'kind = "worng"', "'worng' is none of open, wrong"),
+    "what a rule is asked of": Mistake('^of = "go_on"', 'of = "go_no"', "'go_no' is none of debugger, go_on, "),
+    "a step": Mistake('^at = "since"', 'at = "sinse"', "'sinse' is none of "),
+    "a fact": Mistake("^holds = .owner", 'holds = "ownr', "did you mean 'owner'?"),
+    "a fact in words": Mistake("{pid} drops its", "{pdi} drops its", "'pdi' is none of has_trap, is_detach, passed_signal, pid, "),
+    "a text in an expression": Mistake("^holds = .owner", 'holds = "request', "'request' is none of "),
+    "a key of a rule": Mistake("^means = .another user", 'menas = "another user', "'menas' is none of at, holds, "),
+}
+MISTAKES = [
+    (table, *made)
+    for table, mistakes in zip(TABLES, (SCENARIO_MISTAKES, REFUSAL_MISTAKES, NOTICE_MISTAKES))
+    for made in mistakes.items()
+]
 
 
 @pytest.fixture(scope="module")

@@ -72,6 +72,14 @@ def test_words_are_the_step(file: Path) -> None:
         assert first.last_step() == again.last_step()
 
 
+def test_a_continued_process_has_words() -> None:
+    steps = [{"op": "spawn"}, {"op": "turn", "lwp": 100_000, "act": "enter", "call": "fork"}, {"op": "turn", "lwp": 100_000, "act": "leave"}]
+    steps += [{"op": "kill", "caller": 1000, "which": 1001, "signal": 17}, {"op": "turn", "lwp": 100_001, "act": "compute"}]
+    steps += [{"op": "kill", "caller": 1000, "which": 1001, "signal": 19}]
+    steps += [{"op": "wait4", "caller": 1000, "which": -1, "options": ["WCONTINUED"]}]
+    assert Timeline([{"user": 1001, **step} for step in steps]).steps[-1].answer() == "1001 continued"
+
+
 def test_each_reply_has_words() -> None:
     """No kind of reply is shown only by its name, but those that are only a name."""
     seen: dict[str, str] = {}

@@ -3,6 +3,7 @@
 from __future__ import annotations
 
 import dataclasses
+import itertools
 import json
 import pathlib
 
@@ -73,6 +74,7 @@ def viewer_rules(notices: Notices) -> str:
 
 
 def page(notices: Notices) -> str:
-    heads = {"wrong": "may be wrong", "open": "still open"}
-    rows = "".join(f"| {heads[rule.kind]} | {rule.means} |\n" for rule in notices.rules)
-    return f"\n| kind | what |\n|---|---|\n{rows}\n"
+    """The rules of each kind in a column."""
+    columns = [[rule.means for rule in notices.rules if rule.kind == kind] for kind in ("wrong", "open")]
+    rows = "".join(f"| {wrong} | {still_open} |\n" for wrong, still_open in itertools.zip_longest(*columns, fillvalue=""))
+    return f"\n| red: may be wrong | blue: still open at the end |\n|---|---|\n{rows}\n"

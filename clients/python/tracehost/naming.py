@@ -23,6 +23,11 @@ def status_text(status: int) -> str:
     return f"exited {os.WEXITSTATUS(status)}"
 
 
+def word_text(word: int) -> str:
+    """The same of a WORD of docs/FORMAT.md, in which 19 is a continued process, as FreeBSD has it."""
+    return "continued" if word == Signal.SIGCONT else status_text(word)
+
+
 def describe(value: object) -> str:
     """What a call returned, with names for its numbers: ``1001 stopped SIGSTOP`` for ``Waited(1001, 4479)``."""
     if isinstance(value, Waited):

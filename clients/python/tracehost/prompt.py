@@ -14,7 +14,7 @@ from typing import Any, NamedTuple, Optional
 from .completion import complete_words
 from .host import Host
 from .manual import explain
-from .naming import status_text
+from .naming import word_text
 from .refusals import asked_by
 from .replies import Answered
 from .saving import Session, save
@@ -407,8 +407,8 @@ def _line_of(step: Mapping[str, Any]) -> str:
 def _meaning(words: Sequence[str]) -> str:
     """A status by name, after its number."""
     if words[0] in ("status", "handled"):
-        return f"   ({status_text(int(words[2]))})"
-    return f"   ({status_text(int(words[1]))})" if words[0] == "ended" else ""
+        return f"   ({word_text(int(words[2]))})"
+    return f"   ({word_text(int(words[1]))})" if words[0] == "ended" else ""
 
 
 def _why(host: Host, step: Mapping[str, Any], name: Optional[str]) -> str:

@@ -8,7 +8,7 @@ from bisect import bisect_right
 from collections.abc import Callable, Iterator, Mapping, Sequence
 from typing import Any, NamedTuple, Optional
 
-from .naming import status_text
+from .naming import word_text
 from .program import default
 from .step_words import words_of
 
@@ -207,7 +207,7 @@ def _flags(names: Sequence[str]) -> str:
 def _handled(reply: Mapping[str, Any]) -> str:
     by = "no handler" if reply["by"] is None else f"handler {reply['by']}"
     passed = f" with {reply['pass']['signal']}" if reply.get("pass") else ""
-    return f"{reply['pid']} {status_text(reply['word'])}, {by}: {reply['decision']}{passed}"
+    return f"{reply['pid']} {word_text(reply['word'])}, {by}: {reply['decision']}{passed}"
 
 
 def _info(reply: Mapping[str, Any]) -> str:
@@ -220,7 +220,7 @@ def _info(reply: Mapping[str, Any]) -> str:
 _ANSWERS: dict[str, Callable[[Mapping[str, Any]], str]] = {
     "new": lambda reply: f"new process {reply['pid']}, LWP {reply['lwp']}",
     "number": lambda reply: str(reply["number"]),
-    "status": lambda reply: f"{reply['pid']} {status_text(reply['word'])}",
+    "status": lambda reply: f"{reply['pid']} {word_text(reply['word'])}",
     "info": _info,
     "lwps": lambda reply: " ".join(["LWPs", *map(str, reply["lwps"])]),
     "pids": lambda reply: " ".join(["processes", *map(str, reply["pids"])]),
@@ -228,7 +228,7 @@ _ANSWERS: dict[str, Callable[[Mapping[str, Any]], str]] = {
     "handled": _handled,
     "stopped": lambda reply: f"LWP {reply['lwp']} stopped {reply['signal']}, {_flags(reply['flags'])}",
     "caught": lambda reply: f"caught {reply['signal']}",
-    "ended": lambda reply: f"ended: {status_text(reply['word'])}",
+    "ended": lambda reply: f"ended: {word_text(reply['word'])}",
     "error": lambda reply: str(reply["errno"]),
 }
 
