@@ -73,7 +73,7 @@ class Renaming:
         blocks = [(0, 0, begin), (len(left) - end, len(right) - end, end)]
         middle = [own[begin : len(own) - end] for own in shapes]
         if begin + end < most and max(map(len, middle)) <= MOST_MATCHED:
-            matched = difflib.SequenceMatcher(None, *middle, autojunk=False).get_matching_blocks()
+            matched = difflib.SequenceMatcher(None, middle[0], middle[1], autojunk=False).get_matching_blocks()
             blocks += [(begin + i, begin + j, size) for i, j, size in matched]
         votes: dict[int, Counter[int]] = defaultdict(Counter)
         for i, j, size in blocks:

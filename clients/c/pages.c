@@ -55,10 +55,7 @@ static int wait_for_group(pid_t child, int seconds)
     return 0;
 }
 
-void thp_wait_for_page(pid_t child)
-{
-    wait_for_group(child, TH_SECONDS_FOR_A_PAGE);
-}
+void thp_wait_for_page(pid_t child) { wait_for_group(child, TH_SECONDS_FOR_A_PAGE); }
 
 /* Runs the command with standard error as its output, as a group of processes; its first one, or -1. */
 static pid_t spawn_group(const char *const argv[])

@@ -14,7 +14,7 @@ from typing import Any, Optional, TypeVar
 sys.path.insert(0, str(Path(__file__).resolve().parents[2] / "clients/python"))
 from tracehost import Action, Call, Compute, Enter, EventMask, Held, Host, Leave, Raise, Request, Signal, StopFlag
 from tracehost.host import Process, User
-from tracehost.replies import Waited
+from tracehost.replies import LwpInfo, Waited
 from tracehost.rows import LwpMode, ProcessState
 
 _T = TypeVar("_T")
@@ -74,7 +74,7 @@ class Debugger:
 
     def go_on(self, pid: int, signal: Signal) -> None:
         """With the signal, unless it is the tracing's own."""
-        info = answered(self.process.ptrace, Request.PT_LWPINFO, pid)
+        info: Optional[LwpInfo] = answered(lambda: self.process.ptrace(Request.PT_LWPINFO, pid))
         if info is None:  # SIGKILL has ended the stop
             return
         if self.chance.random() < 0.5:

@@ -29,7 +29,7 @@ def compare(folder: Path, left: list[Step], right: list[Step]) -> tuple[int, lis
     for name, steps in (("a", left), ("b", right)):
         (folder / f"{name}.json").write_text(json.dumps({"steps": steps}))
     environment = {**os.environ, "PYTHONPATH": str(TOP / "clients/python")}
-    words = [sys.executable, "-m", "tracehost.debug", folder / "a.json", "--compare", folder / "b.json"]
+    words = [sys.executable, "-m", "tracehost.debug", str(folder / "a.json"), "--compare", str(folder / "b.json")]
     done = subprocess.run(words, env=environment, capture_output=True, text=True, check=False)
     assert done.stderr == ""
     return done.returncode, done.stdout.splitlines()

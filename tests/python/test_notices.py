@@ -251,7 +251,8 @@ def test_the_viewer_says_the_same(folder: Path, tmp_path: Path) -> None:
         texts.append(session._replace(steps=session.steps[: 20 + 2 * seed]).text())
     texts += [json.dumps(random_scenario(seed, 300)) for seed in range(8)]
     texts += [file.read_text() for file in sorted((TOP / "examples").glob("*.json")) if file.stem != "broken"]
-    traces, expected = [], []
+    traces: list[Path] = []
+    expected: list[tuple[list[list[Any]], list[list[Any]], list[list[Any]]]] = []
     for number, text in enumerate(texts):
         scenario, trace = tmp_path / f"{number}.json", tmp_path / f"{number}.trace"
         scenario.write_text(text)
@@ -261,10 +262,10 @@ def test_the_viewer_says_the_same(folder: Path, tmp_path: Path) -> None:
         ordered = [[list(one), count] for one, count in nearest_first(notices, len(steps), steps[-1].user)]
         traces.append(trace)
         whys = reasons_of(json.loads(text)["steps"], json.loads(text).get("kill_on_debugger_exit") != 0)
-        expected.append([sorted(map(list, notices)), ordered, whys])
+        expected.append(([list(one) for one in sorted(notices)], ordered, whys))
     printed = run("node", TOP / "tests/node/print_notices.mjs", *traces)
     assert (printed.status, printed.err) == (0, "")
     for text, line, wanted in zip(texts, printed.out.splitlines(), expected):
         found, ordered, whys = json.loads(line)
-        assert [sorted(found), ordered, whys] == wanted, text
+        assert (sorted(found), ordered, whys) == wanted, text
     assert sum(len(found) for found, _, _ in expected) > 100 and sum(len(whys) for _, _, whys in expected) > 1000

@@ -59,7 +59,11 @@ def test_a_failure_tells_its_story(failing: Failing, tmp_path: Path) -> None:
     assert ran.said.count("\nthe last steps, and what each changed:\n") == 1
     assert ran.said.count("to go on from here: ") == 1 and f"\nto go on from here: tracehost-debug '{quoted}'\n" in ran.said
     passed = failing("passes", folder)
-    assert passed.status == 0 and "step " not in passed.said and "tracehost" not in passed.said.lower().replace(str(failing.program), "")
+    assert (
+        passed.status == 0
+        and "step " not in passed.said
+        and "tracehost" not in passed.said.lower().replace(str(failing.program), "")
+    )
 
 
 @languages(*MADE)
@@ -96,7 +100,9 @@ def test_a_program_that_ignores_its_children(failing: Failing, tmp_path: Path) -
     """It gets no status of theirs, and says the command once more."""
     words = ["sh", "-c", 'trap "" CHLD; exec "$@"', "sh", *failing.command("fails")]
     environment = {**os.environ, **failing.environment, "TRACEHOST_ARTIFACTS": str(tmp_path)}
-    ran = subprocess.run(words, env=environment, stdout=subprocess.PIPE, stderr=subprocess.STDOUT, text=True, timeout=300, check=False)
+    ran = subprocess.run(
+        words, env=environment, stdout=subprocess.PIPE, stderr=subprocess.STDOUT, text=True, timeout=300, check=False
+    )
     assert ran.returncode == 1 and STORY in ran.stdout and "to go on from here: " in ran.stdout.splitlines()[-1]
 
 
@@ -104,7 +110,9 @@ def test_a_program_that_ignores_its_children(failing: Failing, tmp_path: Path) -
 def test_a_signal_tells_no_story(failing: Failing, tmp_path: Path) -> None:
     """Its handler says the command."""
     ran = failing("aborts", tmp_path)
-    assert ran.status == -6 and ran.said.count("tracehost: to go on from here: tracehost-debug ") == 1 and "last steps" not in ran.said
+    assert (
+        ran.status == -6 and ran.said.count("tracehost: to go on from here: tracehost-debug ") == 1 and "last steps" not in ran.said
+    )
 
 
 # ---- Python
@@ -177,7 +185,17 @@ def test_pytest(tmp_path: Path, program: Path) -> None:
 
 @pytest.mark.skipif(run(sys.executable, "-c", "import xdist").status != 0, reason="not installed: pytest-xdist")
 def test_workers(tmp_path: Path, program: Path) -> None:
-    words = ["pytest", "-q", "-n", "2", "-p", "tracehost.pytest_plugin", "-p", "no:cacheprovider", f"--basetemp={tmp_path / 'base'}"]
+    words = [
+        "pytest",
+        "-q",
+        "-n",
+        "2",
+        "-p",
+        "tracehost.pytest_plugin",
+        "-p",
+        "no:cacheprovider",
+        f"--basetemp={tmp_path / 'base'}",
+    ]
     said = suite(tmp_path, program, "pytest", *words, "-k", "fails or passes", "test_suite.py")
     assert said.count(f"\n{STORY}\n") == 1 and said.count("\nto go on from here: tracehost-debug ") == 1
 
@@ -196,7 +214,7 @@ def test_tracehost_run(tmp_path: Path) -> None:
     race, record = tmp_path / "race", tmp_path / "record.json"
     made = run(TOP / "bin/tracehost-cc", "-g", "-o", race, TOP / "clients/posix/races/lost_wakeup.c")
     assert made.status == 0, made.err
-    words = [TOP / "bin/tracehost-run", "--seeds", "1..25", "--record", record, race]
+    words: list[str | Path] = [TOP / "bin/tracehost-run", "--seeds", "1..25", "--record", record, race]
     lines = run(*words).err.splitlines()
     assert any(re.fullmatch(r"step \d+ of user 1001: turn 100000 enter pause -> ok", line) for line in lines), lines
     assert lines[-1] == f"to go on from here: tracehost-debug {record}"

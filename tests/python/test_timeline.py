@@ -73,11 +73,15 @@ def test_words_are_the_step(file: Path) -> None:
 
 
 def test_a_continued_process_has_words() -> None:
-    steps = [{"op": "spawn"}, {"op": "turn", "lwp": 100_000, "act": "enter", "call": "fork"}, {"op": "turn", "lwp": 100_000, "act": "leave"}]
-    steps += [{"op": "kill", "caller": 1000, "which": 1001, "signal": 17}, {"op": "turn", "lwp": 100_001, "act": "compute"}]
-    steps += [{"op": "kill", "caller": 1000, "which": 1001, "signal": 19}]
-    steps += [{"op": "wait4", "caller": 1000, "which": -1, "options": ["WCONTINUED"]}]
-    assert Timeline([{"user": 1001, **step} for step in steps]).steps[-1].answer() == "1001 continued"
+    lines: tuple[str, ...] = (
+        "spawn",
+        "turn 100000 enter fork",
+        "turn 100000 leave",
+        "kill 1000 1001 SIGSTOP",
+        "turn 100001 compute",
+    )
+    lines += ("kill 1000 1001 SIGCONT", "wait4 1000 WCONTINUED")
+    assert Timeline([step_of(line.split(), 1001) for line in lines]).steps[-1].answer() == "1001 continued"
 
 
 def test_each_reply_has_words() -> None:

@@ -261,8 +261,15 @@ def viewer_numbers(refusals: Refusals) -> str:
     """Numbers of requests, acts, system calls and actions by their names in steps, and which requests take a signal or data."""
     tables = {"REQUEST_NUMBERS": refusals.requests}
     for kind in ("ACT", "CALL", "ACTION"):
-        found = {name.removeprefix(f"{kind}_").lower(): number for name, number in refusals.numbers.items() if name.startswith(f"{kind}_")}
+        found = {
+            name.removeprefix(f"{kind}_").lower(): number
+            for name, number in refusals.numbers.items()
+            if name.startswith(f"{kind}_")
+        }
         tables[f"{kind}_NUMBERS"] = found
-    lines = [f"export const {name} = {{ {', '.join(f'{key}: {value}' for key, value in table.items())} }};\n" for name, table in tables.items()]
+    lines = [
+        f"export const {name} = {{ {', '.join(f'{key}: {value}' for key, value in table.items())} }};\n"
+        for name, table in tables.items()
+    ]
     lines += [f"export const {name} = {json.dumps(list(numbers))};\n" for name, numbers in refusals.sets.items()]
     return "".join(lines)

@@ -114,7 +114,9 @@ class _Watched:
             error = more[-1] if more else (None, AssertionError("an unexpected success"), None)
             if error is not None:  # else a subtest that has passed
                 self._failed(message_text(said_by(error[1])))
-            lists = [found for found in (getattr(self._result, kind, None) for kind in ("errors", "failures")) if type(found) is list]
+            lists = [
+                found for found in (getattr(self._result, kind, None) for kind in ("errors", "failures")) if type(found) is list
+            ]
             counts = [*map(len, lists)]
             added = its_own(test, *more)
             for entries, count in zip(lists, counts):

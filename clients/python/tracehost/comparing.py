@@ -86,7 +86,7 @@ def _of_user(user: int, names: Mapping[int, int], steps: Sequence[Sequence[Step]
     end = next((at for at in range(most - begin) if one[-1 - at] != other[-1 - at]), most - begin)
     middle = [own[begin : len(own) - end] for own in keys]
     same, differences = begin + end, []
-    for kind, i, j, k, m in difflib.SequenceMatcher(None, *middle, autojunk=False).get_opcodes():
+    for kind, i, j, k, m in difflib.SequenceMatcher(None, middle[0], middle[1], autojunk=False).get_opcodes():
         if kind == "equal":
             same += j - i
         else:

@@ -128,7 +128,9 @@ class _User:
     def _refusal(self, step: Step) -> Optional[Facts]:
         """The facts of an errno that answers what names a process."""
         asked = step.asked
-        number = asked.get("target", 0) if asked["op"] == "ptrace" else asked.get("which", 0) if asked["op"] in ("kill", "wait4") else 0
+        number = (
+            asked.get("target", 0) if asked["op"] == "ptrace" else asked.get("which", 0) if asked["op"] in ("kill", "wait4") else 0
+        )
         if number <= 0 or step.reply["reply"] != "error":
             if step.reply["reply"] == "ok":
                 self._failed_at.pop((asked.get("caller", 0), number), None)

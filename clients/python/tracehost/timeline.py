@@ -177,9 +177,7 @@ def lines_of(scenario: str, *options: str, program: Optional[str] = None) -> lis
     command = [program or default(), *options, "--explain=always", "-"]
     given = scenario.encode("utf-8", "surrogateescape")
     try:
-        done = subprocess.run(
-            command, input=given, stdout=subprocess.PIPE, stderr=subprocess.PIPE, timeout=_SECONDS, check=False
-        )
+        done = subprocess.run(command, input=given, stdout=subprocess.PIPE, stderr=subprocess.PIPE, timeout=_SECONDS, check=False)
     except subprocess.TimeoutExpired:
         raise Refused(f"{command[0]}: it didn't end in {_SECONDS:.0f} seconds") from None
     if done.returncode:
