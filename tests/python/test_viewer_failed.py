@@ -240,9 +240,16 @@ RIGHT = [
     ids=["lost", "unseen", "wrong", "dropped", "trap", "right"],
 )
 def test_faults_of_a_debugger(opened: Open, pages: Pages, steps: list[Step], told: list[str]) -> None:
-    """They are in the first screen, and their marks have a frame."""
+    """They are in the first screen, and their marks have a frame. What is only open has another colour."""
     tab = opened(scenario(pages, attached(2) + steps))
     assert tab.value(LOOK_AT) == told
+    kinds, colours = (
+        tab.value(f"[...document.querySelectorAll('#notices button')].map((button) => {of_button})")
+        for of_button in ("button.className", "getComputedStyle(button).borderColor")
+    )
+    assert kinds == ["open" if steps in (LOST, UNSEEN) else "wrong"] * len(told)
+    alarm = tab.value("getComputedStyle(document.getElementById('faults')).color")
+    assert [colour == alarm for colour in colours] == [kind == "wrong" for kind in kinds]
     lines = tab.value("[...document.querySelectorAll('.mark.noticed')].map((mark) => Number(mark.dataset.line))")
     assert sorted(set(lines)) == sorted({int(text.split(":")[0]) for text in told})
     for place in range(len(told)):
