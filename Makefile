@@ -34,6 +34,8 @@ SONAME = libtracehost.so.1
 
 PAGES = tracehost.1 tracehost-view.1 tracehost-perfetto.1
 DATA = schema/scenario.schema.json viewer/src/* viewer/*.py
+# tracehost-debug: the package of the client in Python
+DEBUGGER = $(wildcard clients/python/tracehost/*.py) clients/python/tracehost/py.typed
 DOCUMENTS = LICENSE THIRD-PARTY.txt README.md CHANGELOG.md SECURITY.md docs/*.* docs/internals/* examples/*
 # of the library
 HEADERS = include/tracehost.h $(patsubst %,include/tracehost%.hpp,_artifacts _catch2 _crashes _explain _gtest _record _test) include/tracehost.hpp
@@ -71,6 +73,12 @@ install-files:
 	ln -sfr "$(DESTDIR)$(pkgdatadir)/viewer/make" "$(DESTDIR)$(bindir)/tracehost-view"
 	$(INSTALL) viewer/perfetto "$(DESTDIR)$(pkgdatadir)/viewer/perfetto"
 	ln -sfr "$(DESTDIR)$(pkgdatadir)/viewer/perfetto" "$(DESTDIR)$(bindir)/tracehost-perfetto"
+	$(INSTALL) -d "$(DESTDIR)$(pkgdatadir)/python/tracehost"
+	for file in $(DEBUGGER); do $(INSTALL_DATA) $$file "$(DESTDIR)$(pkgdatadir)/python/tracehost" || exit; done
+	printf '%s\n' '#!/bin/sh' 'here=$$(dirname "$$(readlink -f "$$0")")' 'export TRACEHOST="$${TRACEHOST:-$$here/tracehost}"' \
+	  "export PYTHONPATH=\"\$$here/$$(realpath -m --relative-to="$(bindir)" "$(pkgdatadir)")/python\$${PYTHONPATH:+:\$$PYTHONPATH}\"" \
+	  'exec python3 -B -m tracehost.debug "$$@"' >"$(DESTDIR)$(bindir)/tracehost-debug"
+	chmod 755 "$(DESTDIR)$(bindir)/tracehost-debug"
 	$(INSTALL_DATA) clients/c/tracehost_client.h "$(DESTDIR)$(includedir)"
 	$(INSTALL) -d "$(DESTDIR)$(pkgdatadir)/c"
 	for file in $(CLIENT); do $(INSTALL_DATA) clients/c/$$file "$(DESTDIR)$(pkgdatadir)/c" || exit; done
@@ -111,7 +119,7 @@ install-strip:
 
 # folders that other programs may share stay
 uninstall:
-	for file in "$(bindir)/tracehost" "$(bindir)/tracehost-view" "$(bindir)/tracehost-perfetto" \
+	for file in "$(bindir)/tracehost" "$(bindir)/tracehost-view" "$(bindir)/tracehost-perfetto" "$(bindir)/tracehost-debug" \
 	  "$(includedir)/tracehost_client.h" $(HEADERS:include/%="$(includedir)/%") \
 	  "$(libdir)/libtracehost.a" "$(libdir)/libtracehost.so" "$(libdir)/$(SONAME)" \
 	  "$(libpkgconfigdir)/tracehost.pc" "$(pkgconfigdir)/tracehost-client.pc" \
@@ -124,9 +132,10 @@ uninstall:
 	for file in $(CLIENT); do rm -f "$(DESTDIR)$(pkgdatadir)/c/$$file"; done
 	test ! -d "$(DESTDIR)$(pkgdatadir)/c" || rmdir "$(DESTDIR)$(pkgdatadir)/c"
 	for file in $(DATA); do rm -f "$(DESTDIR)$(pkgdatadir)/$$file"; done
+	for file in $(notdir $(DEBUGGER)); do rm -f "$(DESTDIR)$(pkgdatadir)/python/tracehost/$$file"; done
 	for file in $(DOCUMENTS); do rm -f "$(DESTDIR)$(docdir)/$$file"; done
 	for folder in "$(cmakedir)" "$(docdir)/docs/internals" "$(docdir)/docs" "$(docdir)/examples" "$(docdir)" \
-	  "$(pkgdatadir)/schema" "$(pkgdatadir)/viewer/src" "$(pkgdatadir)/viewer" "$(pkgdatadir)"; do \
+	  "$(pkgdatadir)/python/tracehost" "$(pkgdatadir)/python" "$(pkgdatadir)/schema" "$(pkgdatadir)/viewer/src" "$(pkgdatadir)/viewer" "$(pkgdatadir)"; do \
 	  test ! -d "$(DESTDIR)$$folder" || rmdir "$(DESTDIR)$$folder"; done
 
 deb:

@@ -148,6 +148,12 @@ def test_bash_completes(installed: Installed) -> None:
     installed.run("bash", "--norc", "-c", 'source "$1" && complete -p tracehost', "-", folder / "tracehost")
 
 
+def test_the_story_of_a_session(installed: Installed) -> None:
+    """As a failing test in C, C++ or Rust tells it."""
+    assert installed.run("tracehost-debug", "--story", EXAMPLE).splitlines()[-1].startswith("to go on from here: tracehost-debug ")
+
+
+
 def test_the_schema(installed: Installed) -> None:
     name = "schema/scenario.schema.json"
     assert (installed.prefix / "share/tracehost" / name).read_bytes() == (TOP / name).read_bytes()

@@ -51,7 +51,8 @@ class _Values:
 
 def _renaming() -> Any:
     """The module of the viewer that finds the numbers. Raises Refused if the viewer isn't there."""
-    folders = [*viewer_folders(), Path("/usr/local/share/tracehost/viewer"), Path("/usr/share/tracehost/viewer")]
+    installed = (Path(__file__).resolve().parents[2], Path("/usr/local/share/tracehost"), Path("/usr/share/tracehost"))
+    folders = [*viewer_folders(), *(folder / "viewer" for folder in installed)]
     for file in (folder / "renaming.py" for folder in folders):
         spec = importlib.util.spec_from_file_location("tracehost_renaming", file) if file.exists() else None
         if spec is not None and spec.loader is not None:
