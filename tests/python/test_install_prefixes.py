@@ -153,7 +153,6 @@ def test_the_story_of_a_session(installed: Installed) -> None:
     assert installed.run("tracehost-debug", "--story", EXAMPLE).splitlines()[-1].startswith("to go on from here: tracehost-debug ")
 
 
-
 def test_the_schema(installed: Installed) -> None:
     name = "schema/scenario.schema.json"
     assert (installed.prefix / "share/tracehost" / name).read_bytes() == (TOP / name).read_bytes()
