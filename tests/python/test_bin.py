@@ -20,9 +20,9 @@ def test_they_are_those_that_are_installed() -> None:
         word for word in (TOP / "Makefile").read_text().split() if word.startswith("tracehost-") and word.replace("-", "").isalpha()
     }
     assert (
-        {"tracehost", "tracehost-debug", *installed}
+        {"tracehost", "tracehost-debug", "tracehost-coverage", *installed}
         >= set(COMMANDS)
-        >= {"tracehost", "tracehost-debug", "tracehost-cc", "tracehost-run"}
+        >= {"tracehost", "tracehost-debug", "tracehost-coverage", "tracehost-cc", "tracehost-run"}
     )
     assert {"tracehost-corpus", "tracehost-view", "tracehost-perfetto"} <= set(COMMANDS)
 

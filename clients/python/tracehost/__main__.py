@@ -43,6 +43,12 @@ def debug() -> None:
     sys.exit(prompt())
 
 
+def coverage() -> None:
+    from .coverage import main as count
+
+    sys.exit(count())
+
+
 def _of_viewer(name: str) -> None:
     """Runs a script of the viewer by the name that it was called by, in the package or its checkout."""
     sys.dont_write_bytecode = True

@@ -1,0 +1,96 @@
+"""Which rows of the machine sessions have met: the goals of their steps, counted."""
+
+from __future__ import annotations
+
+from collections.abc import Iterator, Mapping, Sequence
+from typing import Any, NamedTuple, Optional
+
+from .goals import ALL, Row, of_lwp, of_process, of_refusal, of_reply
+from .refusals import Rows
+from .timeline import Change, Step, Timeline
+
+_REFUSED = ("held", "error")
+
+
+class Place(NamedTuple):
+    """A step of a trace, from 1."""
+
+    trace: str
+    step: int
+
+
+class Met(NamedTuple):
+    """How often a goal was met, and where first."""
+
+    times: int
+    first: Place
+
+
+class Unnamed(Exception):
+    """A step met what no table names: a fault of these tables, and not of the trace."""
+
+
+class Coverage:
+    """What traces have met."""
+
+    def __init__(self) -> None:
+        self.met: dict[str, Met] = {}
+        self.traces = self.steps = 0
+        self.unread: list[str] = []
+        """What is missing, and why."""
+
+    def add(self, timeline: Timeline, name: str) -> None:
+        """Counts what the steps of a session have met. Raises Unnamed."""
+        self.traces += 1
+        for step in timeline.steps:
+            self.steps += 1
+            for goal in goals_at(timeline, step):
+                if goal not in ALL:
+                    raise Unnamed(f"{name}, step {step.number}: no table has {goal!r}")
+                self._count(goal, 1, Place(name, step.number))
+
+    def add_counts(self, counts: Mapping[str, Any]) -> None:
+        """Those of another process, as `counts` gives them."""
+        self.traces += counts["traces"]
+        self.steps += counts["steps"]
+        self.unread += counts["unread"]
+        for goal, (times, trace, step) in counts["met"].items():
+            self._count(goal, times, Place(trace, step))
+
+    def counts(self) -> dict[str, Any]:
+        """All of it as plain values."""
+        met = {goal: (met.times, *met.first) for goal, met in self.met.items()}
+        return {"traces": self.traces, "steps": self.steps, "unread": self.unread, "met": met}
+
+    def _count(self, goal: str, times: int, place: Place) -> None:
+        before = self.met.get(goal)
+        self.met[goal] = Met(times, place) if before is None else Met(before.times + times, before.first)
+
+
+def goals_at(timeline: Timeline, step: Step) -> Iterator[str]:
+    """What a step of a session met. Raises Unnamed."""
+    before, after = step.number - 1, step.number
+    if step.reply["reply"] in _REFUSED:
+        rows = Rows.of_objects(timeline.rows(before, step.user).values())
+        try:
+            yield of_refusal({**step.asked, "user": step.user}, step.reply.get("errno", "held"), rows)
+        except LookupError as error:
+            raise Unnamed(str(error)) from error
+        return
+    yield of_reply(step.asked, step.reply, lambda number: timeline.row(before, step.user, number))
+    for change in timeline.changes(step.number):
+        yield from _of_change(change, lambda number: timeline.row(after, step.user, number))
+
+
+def _of_change(change: Change, after: Any) -> Iterator[str]:
+    old, new = change.before, change.after
+    row: Optional[Row] = new if new is not None else old
+    if row is not None and old != new:
+        yield from of_lwp(old, new) if "lwp" in row else of_process(old, new, after)
+
+
+def chosen(omitted: Sequence[str]) -> list[str]:
+    """The goals that no pattern leaves out, in their order."""
+    from fnmatch import fnmatchcase
+
+    return [goal for goal in ALL if not any(fnmatchcase(goal, pattern) for pattern in omitted)]
