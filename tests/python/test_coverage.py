@@ -12,11 +12,14 @@ from pathlib import Path
 
 import pytest
 from checking import TOP
+from posix_kit import Posix
 from viewer_runs import random_scenario
 
-sys.path.insert(0, str(TOP / "clients/python"))
+sys.path[:0] = [str(TOP / "clients/python"), str(TOP / "clients/python/tests")]
+import worlds
 from tracehost import Host, goals
 from tracehost.covered import Coverage, Unnamed
+from tracehost.explore import explore
 from tracehost.program import default as program
 from tracehost.step_words import step_of
 from tracehost.timeline import Timeline, scenario_text
@@ -160,6 +163,21 @@ def test_a_row_that_no_table_has(monkeypatch: pytest.MonkeyPatch) -> None:
     monkeypatch.delitem(goals.ALL, "reply spawn new")
     with pytest.raises(Unnamed, match="first, step 1: no table has 'reply spawn new'"):
         Coverage().add(timeline_of(["spawn"]), "first")
+
+
+def test_records_of_other_tools(tmp_path: Path, posix: Posix) -> None:
+    """Of tracehost-run: the lost wake-up of its race. Of a search: a helper's stop that comes before the wait."""
+    record = tmp_path / "run.json"
+    done = posix.run("--schedules", 300, "--record", record, posix.race("lost_wakeup"))
+    assert done.returncode == 1, done.stderr
+    found = explore(worlds.stop_before_wait(False))
+    found.save(tmp_path / "race.json")
+    for trace, wanted in (("run.json", "reply raise ok"), ("race.json", "refusal PT_DETACH stop_not_told")):
+        done = covered(tmp_path / trace, "--omit", "[!r]*", "--lcov", tmp_path / "lcov")
+        assert done.returncode == 0 and done.stderr == ""
+        name, words = goals.words_of(wanted)
+        line = (tmp_path / "lcov.rows").read_text().splitlines().index(f"{name}: {words}") + 1
+        assert f"DA:{line},0" not in (tmp_path / "lcov").read_text().splitlines(), trace
 
 
 # ---- traces that can't be read

@@ -1,4 +1,4 @@
-"""The tables are those of format/scenario.toml and format/refusals.toml: `tools/format check` finds no file that is older.
+"""The tables are those of format/: `tools/format check` finds no file that is older.
 
 In a copy of the sources, each of its files is older once the tables that it has are changed, and none is after `tools/format
 write`. A word of a table that isn't known ends the tool, which tells the file and the line, and writes nothing.
@@ -18,7 +18,7 @@ import pytest
 
 from checking import TOP, run
 
-TABLES = ("format/scenario.toml", "format/refusals.toml")
+TABLES = ("format/scenario.toml", "format/refusals.toml", "format/edges.toml")
 COPIED = (
     "format tools crates schema include reference clients/c clients/posix/broker clients/posix/runtime clients/posix/tracehost_posix"
     " clients/python clients/rust/src viewer docs/FORMAT.md man"
@@ -164,6 +164,7 @@ CHANGES = [
         "clients/python/tracehost/library.py clients/python/tracehost/rows.py clients/rust/src/sys.rs include/tracehost.h"
         " viewer/src/forms.mjs viewer/reading.py",
     ),
+    Change("other words of an edge", "a process is made", "a new process", "clients/python/tracehost/goals.py"),
     Change("another effect", '^effect = "lists the user.s processes.*', 'effect = "lists them"', "docs/FORMAT.md"),
 ]
 
@@ -250,7 +251,15 @@ REFUSAL_MISTAKES = {
         '"no_other_process", ', "", "no call asks for 'no_other_process'", 'name = "no_other_process"'
     ),
 }
-MISTAKES = [(TABLES[0], *made) for made in SCENARIO_MISTAKES.items()] + [(TABLES[1], *made) for made in REFUSAL_MISTAKES.items()]
+EDGE_MISTAKES = {
+    "a table": Mistake(r"^\[lwp\]", "[lpw]", "'lpw' is none of lwp, process, stop"),
+    "words": Mistake('^"suspended" = .*', '"suspended" = 1', "1 has to be a text", "[lwp]"),
+}
+MISTAKES = [
+    (table, *made)
+    for table, mistakes in zip(TABLES, (SCENARIO_MISTAKES, REFUSAL_MISTAKES, EDGE_MISTAKES))
+    for made in mistakes.items()
+]
 
 
 @pytest.fixture(scope="module")
