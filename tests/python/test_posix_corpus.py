@@ -204,69 +204,6 @@ def test_a_process_that_others_have_killed_is_replaced(program: Path, tmp_path: 
 # ---- fuzzers
 
 
-@needs("clang")
-def test_a_fuzzer_fills_a_corpus(library: Path, program: Path, tmp_path: Path) -> None:
-    """libFuzzer begins with the examples. What it keeps is run: each file is accepted or refused."""
-    made, kept = tmp_path / "fuzz", tmp_path / "kept"
-    words: list[str | Path] = [
-        "-g",
-        "-fsanitize=fuzzer,address",
-        "-Wall",
-        "-Wextra",
-        "-Wconversion",
-        "-Werror",
-        f"-I{TOP}/include",
-        "-o",
-        made,
-    ]
-    built = run("clang", *words, TOP / "clients/c/examples/fuzz_scenario.c", library / "libtracehost.a")
-    if "libclang_rt.fuzzer" in built.err:
-        pytest.skip("clang's runtime has no fuzzer: Debian's libclang-rt-14-dev has it")
-    assert built.status == 0, built.err
-    kept.mkdir()
-    for example in TOP.glob("examples/*.json"):
-        shutil.copy(example, kept)
-    before = len(list(kept.iterdir()))
-    ran = run(made, f"-max_total_time={3 * SCALE}", f"-artifact_prefix={tmp_path}/", kept, seconds=60 + 3 * SCALE)
-    assert ran.status == 0, ran.err[-2000:]
-    count = len(list(kept.iterdir()))
-    ended = corpus(program, "--json", kept)
-    sums = json.loads(ended.out)
-    assert count > before and ended.status == 0
-    assert (sums["run"], sums["compared"]) == (count, 0) and sums["run_refused"] < count
-
-
-@needs("cc")
-def test_the_harness_of_afl(library: Path, tmp_path: Path) -> None:
-    """It reads the file that it is given, or standard input. Folders of AFL are run without AFL's own files."""
-    made = tmp_path / "fuzz"
-    words: list[str | Path] = ["-DAFL", "-Wall", "-Wextra", "-Wconversion", "-Werror", f"-I{TOP}/include", "-o", made]
-    built = run("cc", *words, TOP / "clients/c/examples/fuzz_scenario.c", library / "libtracehost.a")
-    assert built.status == 0, built.err
-    assert run(made, TOP / "examples/first.json").status == 0
-    assert run(made, given=SPAWN).status == 0
-    assert run(made, tmp_path / "nothing").status == 1
-
-
-@needs("afl-clang-fast", "afl-fuzz")
-def test_what_afl_keeps_is_run(library: Path, program: Path, tmp_path: Path, monkeypatch: pytest.MonkeyPatch) -> None:
-    """As the harness says it. AFL asks for settings of the machine, which it does without."""
-    seeds, found = tmp_path / "corpus", tmp_path / "found"
-    seeds.mkdir()
-    for example in TOP.glob("examples/*.json"):
-        shutil.copy(example, seeds)
-    harness = TOP / "clients/c/examples/fuzz_scenario.c"
-    words = "-DAFL", f"-I{TOP}/include", harness, library / "libtracehost.a", "-o", tmp_path / "fuzz"
-    assert run("afl-clang-fast", *words).status == 0
-    for setting in ("I_DONT_CARE_ABOUT_MISSING_CRASHES", "NO_UI", "SKIP_CPUFREQ", "TRY_AFFINITY"):
-        monkeypatch.setenv(f"AFL_{setting}", "1")
-    ran = run("afl-fuzz", "-t", "20000", "-E", "3000", "-i", seeds, "-o", found, tmp_path / "fuzz", "@@")
-    assert ran.status == 0, ran.out[-2000:]
-    kept = [path for path in (found / "default/queue").iterdir() if path.is_file()]
-    sums = json.loads(corpus(program, "--json", found / "default/queue").out)
-    assert sums["run"] == len(kept) > len(list(seeds.iterdir())) and sums["run_refused"] < len(kept)
-
-
 def test_a_folder_of_afl(program: Path, tmp_path: Path) -> None:
     queue, crashes = tmp_path / "found/default/queue", tmp_path / "found/default/crashes"
     put(queue / ".state/auto_extras", extra=b"\0")

@@ -7,6 +7,7 @@ use std::ffi::{c_char, c_int, c_void, CStr};
 use std::fs::File;
 use std::io;
 use std::os::fd::AsRawFd;
+use std::sync::atomic::AtomicU8;
 
 #[cfg(not(all(target_os = "linux", target_pointer_width = "64")))]
 compile_error!("the library of tracehost is for 64-bit Linux");
@@ -48,7 +49,14 @@ macro_rules! record {
             $(pub $field: u32,)+
         }
 
-        #[cfg(test)]
+        #[allow(clippy::declare_interior_mutable_const)] // each place of the array has a value of its own
+const UNSEEN: AtomicU8 = AtomicU8::new(0);
+/// The states that a fuzzer tells apart: libFuzzer looks at this section for counters.
+#[used]
+#[link_section = "__libfuzzer_extra_counters"]
+pub static SEEN: [AtomicU8; 1 << 13] = [UNSEEN; 1 << 13];
+
+#[cfg(test)]
         impl $name {
             const FIELDS: &'static [&'static str] = &[$(stringify!($field),)+];
         }
