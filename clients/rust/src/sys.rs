@@ -49,14 +49,7 @@ macro_rules! record {
             $(pub $field: u32,)+
         }
 
-        #[allow(clippy::declare_interior_mutable_const)] // each place of the array has a value of its own
-const UNSEEN: AtomicU8 = AtomicU8::new(0);
-/// The states that a fuzzer tells apart: libFuzzer looks at this section for counters.
-#[used]
-#[link_section = "__libfuzzer_extra_counters"]
-pub static SEEN: [AtomicU8; 1 << 13] = [UNSEEN; 1 << 13];
-
-#[cfg(test)]
+        #[cfg(test)]
         impl $name {
             const FIELDS: &'static [&'static str] = &[$(stringify!($field),)+];
         }
@@ -391,6 +384,13 @@ steps! {
     ptrace = tracehost_ptrace(caller: u32, request: u32, target: u32, data: u32);
     turn = tracehost_turn(lwp: u32, act: u32, call: u32, argument: u32);
 }
+
+#[allow(clippy::declare_interior_mutable_const)] // each place of the array has a value of its own
+const UNSEEN: AtomicU8 = AtomicU8::new(0);
+/// The states that a fuzzer tells apart: libFuzzer looks at this section for counters.
+#[used]
+#[link_section = "__libfuzzer_extra_counters"]
+pub static SEEN: [AtomicU8; 1 << 13] = [UNSEEN; 1 << 13];
 
 #[cfg(test)]
 mod tests {
