@@ -3,9 +3,10 @@
 from __future__ import annotations
 
 from collections.abc import Iterator, Mapping, Sequence
-from typing import Any, NamedTuple, Optional
+from fnmatch import fnmatchcase
+from typing import Any, NamedTuple
 
-from .goals import ALL, Row, of_lwp, of_process, of_refusal, of_reply
+from .goals import ALL, LookUp, Row, of_lwp, of_process, of_refusal, of_reply
 from .refusals import Rows
 from .timeline import Change, Step, Timeline
 
@@ -42,9 +43,10 @@ class Coverage:
     def add(self, timeline: Timeline, name: str) -> None:
         """Counts what the steps of a session have met. Raises Unnamed."""
         self.traces += 1
+        met = _Met(timeline)
         for step in timeline.steps:
             self.steps += 1
-            for goal in goals_at(timeline, step):
+            for goal in met.goals(step):
                 if goal not in ALL:
                     raise Unnamed(f"{name}, step {step.number}: no table has {goal!r}")
                 self._count(goal, 1, Place(name, step.number))
@@ -67,30 +69,42 @@ class Coverage:
         self.met[goal] = Met(times, place) if before is None else Met(before.times + times, before.first)
 
 
-def goals_at(timeline: Timeline, step: Step) -> Iterator[str]:
-    """What a step of a session met. Raises Unnamed."""
-    before, after = step.number - 1, step.number
-    if step.reply["reply"] in _REFUSED:
-        rows = Rows.of_objects(timeline.rows(before, step.user).values())
-        try:
-            yield of_refusal({**step.asked, "user": step.user}, step.reply.get("errno", "held"), rows)
-        except LookupError as error:
-            raise Unnamed(str(error)) from error
-        return
-    yield of_reply(step.asked, step.reply, lambda number: timeline.row(before, step.user, number))
-    for change in timeline.changes(step.number):
-        yield from _of_change(change, lambda number: timeline.row(after, step.user, number))
+class _Met:
+    """What the steps of a session meet, one after the other."""
+
+    def __init__(self, timeline: Timeline) -> None:
+        self._timeline = timeline
+        self._rows: dict[int, dict[int, Row]] = {}
+        """Those of each user, as the steps so far have left them."""
+
+    def goals(self, step: Step) -> Iterator[str]:
+        """What the next step meets. Raises Unnamed."""
+        rows = self._rows.setdefault(step.user, {})
+        if step.reply["reply"] in _REFUSED:
+            known = Rows.of_objects(row for _, row in sorted(rows.items()))
+            try:
+                yield of_refusal({**step.asked, "user": step.user}, step.reply.get("errno", "held"), known)
+            except LookupError as error:
+                raise Unnamed(str(error)) from error
+            return
+        yield of_reply(step.asked, step.reply, rows.get)
+        changes = self._timeline.changes(step.number)
+        for number, _, row in changes:
+            if row is None:
+                rows.pop(number, None)
+            else:
+                rows[number] = row
+        for change in changes:
+            yield from _of_change(change, rows.get)
 
 
-def _of_change(change: Change, after: Any) -> Iterator[str]:
+def _of_change(change: Change, after: LookUp) -> Iterator[str]:
     old, new = change.before, change.after
-    row: Optional[Row] = new if new is not None else old
+    row = new if new is not None else old
     if row is not None and old != new:
         yield from of_lwp(old, new) if "lwp" in row else of_process(old, new, after)
 
 
 def chosen(omitted: Sequence[str]) -> list[str]:
     """The goals that no pattern leaves out, in their order."""
-    from fnmatch import fnmatchcase
-
     return [goal for goal in ALL if not any(fnmatchcase(goal, pattern) for pattern in omitted)]
