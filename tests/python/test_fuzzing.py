@@ -142,7 +142,7 @@ int LLVMFuzzerTestOneInput(const uint8_t *data, size_t size)
     return 0;
 }
 """
-WAYS = {
+WAYS: dict[str, tuple[str, list[str]]] = {
     "a fault of memory": ("memset((void *)size, 0, 1);", []),
     "an overflow": ("volatile char *a = malloc(8); a[8 + size] = 1;", ["-fsanitize=address"]),
     "an abort": ("abort();", []),
@@ -154,7 +154,8 @@ WAYS = {
 @pytest.mark.parametrize("way", WAYS)
 def test_ends_that_are_saved(libfuzzer: None, library: Path, program: Path, tmp_path: Path, way: str) -> None:
     """One step, with the setting. A step that no line has ends the record, which is told."""
-    source, (code, words) = tmp_path / "way.c", WAYS[way]
+    source = tmp_path / "way.c"
+    code, words = WAYS[way]
     source.write_text(f"#include <tracehost_fuzz.h>\nint LLVMFuzzerTestOneInput(const uint8_t *data, size_t size);{BODY % code}")
     made = fuzzer(library, tmp_path / "way", source, "-Wno-sign-conversion", *words)
     done = ran(made, "-runs=1", f"-artifact_prefix={tmp_path}/", folder=tmp_path)

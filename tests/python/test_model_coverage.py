@@ -21,6 +21,7 @@ from tracehost import Host, goals
 from tracehost.covered import Coverage, Unnamed
 from tracehost.explore import explore
 from tracehost.program import default as program
+from tracehost.refusals import Rows, asked_by, conditions
 from tracehost.step_words import step_of
 from tracehost.timeline import Timeline, scenario_text
 
@@ -122,20 +123,19 @@ def test_the_first_place_and_the_times() -> None:
 @pytest.mark.parametrize("seed", range(3))
 def test_random_sessions(seed: int) -> None:
     """Refusals are those that the library's own rows explain, and all that is met is in the tables."""
-    scenario = random_scenario(seed, 400)
+    steps = random_scenario(seed, 400)["steps"]
     coverage = Coverage()
-    coverage.add(Timeline(scenario["steps"], scenario.get("kill_on_debugger_exit")), "random")
-    assert coverage.steps == len(scenario["steps"]) and set(coverage.met) <= set(goals.ALL)
+    coverage.add(Timeline(steps), "random")
+    assert coverage.steps == len(steps) and set(coverage.met) <= set(goals.ALL)
     refused: Counter[str] = Counter()
-    setting = scenario.get("kill_on_debugger_exit")
-    with Host() if setting is None else Host(kill_on_debugger_exit=bool(setting)) as host:
-        for step in scenario["steps"]:
+    with Host() as host:
+        for step in steps:
             words = host.line(json.dumps(step)).split()
             if words[2] in ("error", "held"):
-                asked = goals.asked_by(step)
-                rows = goals.Rows(host._rows(step["user"]))
+                asked = asked_by(step)
+                rows = Rows(host._rows(step["user"]))
                 answer = words[3] if words[2] == "error" else "held"
-                first = next(c for c in goals.conditions(asked) if c.answer == answer and c.holds(asked, rows))
+                first = next(c for c in conditions(asked) if c.answer == answer and c.holds(asked, rows))
                 refused[f"refusal {goals.name_of(step)} {first.name}"] += 1
     assert refused and Counter({goal: n for goal, n in times_of(coverage).items() if goal.startswith("refusal")}) == refused
 
@@ -278,5 +278,7 @@ def test_options(tmp_path: Path) -> None:
     assert covered(first, "--fail-under", "0.1").returncode == 0
     done = covered(first, "--omit", "*")
     assert done.returncode == 1 and "--omit leaves out all rows" in done.stderr
+    for words in (["--fail-under", "nan"], ["--fail-under", "101"], ["--fail-under", "x"], ["--omit", "stops *"]):
+        assert covered(first, *words).returncode == 2, words
     done = covered(first, "--html", "/dev/full")
     assert (done.returncode, done.stderr) == (1, "tracehost-coverage: /dev/full: No space left on device\n")

@@ -16,6 +16,7 @@ from typing import Optional
 
 from .covered import Coverage, Unnamed, chosen
 from .coverage_report import Section, lcov, page, percent, sections, source_text, table, total
+from .goals import ALL
 from .outputs import Parser, status_of
 from .program import default
 from .saving import read_session
@@ -28,6 +29,19 @@ UNREAD, TOO_FEW, BROKEN = 1, 2, 3
 """Statuses: a trace wasn't read; less was met than --fail-under asks for; a fault of ours."""
 
 
+def _percent(text: str) -> float:
+    number = float(text)
+    if not 0 <= number <= 100:
+        raise argparse.ArgumentTypeError(f"{text} is no number from 0 to 100")
+    return number
+
+
+def _pattern(text: str) -> str:
+    if len(chosen([text])) == len(ALL):
+        raise argparse.ArgumentTypeError(f"no row has a name like {text!r}")
+    return text
+
+
 def _options() -> argparse.ArgumentParser:
     parser = Parser(
         prog=_NAME,
@@ -36,8 +50,10 @@ def _options() -> argparse.ArgumentParser:
     )
     parser.add_argument("traces", metavar="TRACE", nargs="+", help="a scenario, a trace, or a folder of them; - for standard input")
     add_reports(parser.add_argument)
-    parser.add_argument("--omit", action="append", default=[], metavar="PATTERN", help="leave out rows with such a name")
-    parser.add_argument("--fail-under", type=float, default=0.0, metavar="PERCENT", help=f"status {TOO_FEW} if less was met")
+    parser.add_argument(
+        "--omit", action="append", type=_pattern, default=[], metavar="PATTERN", help="leave out rows with such names: 'stop SIG*'"
+    )
+    parser.add_argument("--fail-under", type=_percent, default=0.0, metavar="PERCENT", help=f"status {TOO_FEW} if less was met")
     parser.add_argument("--program", help="the program; what Host chooses if it isn't given")
     return parser
 
