@@ -388,7 +388,7 @@ steps! {
 #[allow(clippy::declare_interior_mutable_const)] // each place of the array has a value of its own
 const UNSEEN: AtomicU8 = AtomicU8::new(0);
 /// The states that a fuzzer tells apart: libFuzzer looks at this section for counters.
-#[used]
+#[used] // else its stores are dead
 #[link_section = "__libfuzzer_extra_counters"]
 pub static SEEN: [AtomicU8; 1 << 13] = [UNSEEN; 1 << 13];
 
