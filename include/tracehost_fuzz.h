@@ -67,7 +67,7 @@ typedef struct tracehost_fuzz {
 
 /* ---------------------------------------------------------------- what the fuzzer is told */
 
-#ifdef __AFL_COMPILER
+#if defined(__AFL_COMPILER) && defined(__clang__)
 void __sanitizer_cov_trace_pc_guard(uint32_t *guard);
 void __sanitizer_cov_trace_pc_guard_init(uint32_t *start, uint32_t *stop);
 uint32_t tracehost_fuzz_states[TRACEHOST_FUZZ_STATES] __attribute__((weak));
