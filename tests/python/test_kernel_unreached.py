@@ -55,7 +55,9 @@ def listed(kind: str) -> set[str]:
 
 def steps_of(name: str) -> Iterator[str]:
     """Steps of this name, with arguments of each sort."""
-    if name.startswith("PT_"):
+    if name == "PT_TRACE_ME":
+        yield f"ptrace 1000 {name}"
+    elif name.startswith("PT_"):
         data = ("", "PTRACE_EXEC") if name == "PT_SET_EVENT_MASK" else ("", "0", "1", "31", "32", "77")
         targets = ("0", "1001", "100001")
         yield from (f"ptrace 1000 {name} {target} {word}" for target in targets for word in data)
