@@ -227,6 +227,21 @@ def test_folders(tmp_path: Path) -> None:
     assert covered("-", given=(tmp_path / "a/1.json").read_text()).returncode == 0
 
 
+def test_odd_files(tmp_path: Path) -> None:
+    """Names that are bytes, links in a circle, and a FIFO, which nobody writes. A name's control characters aren't printed."""
+    for name in (b"\xff\n.json", b"<i>.json"):
+        Path(os.fsdecode(os.fsencode(tmp_path) + b"/" + name)).write_text('{"steps":[{"user":1001,"op":"spawn"}]}')
+    (tmp_path / "loop").symlink_to(".")
+    done = covered(tmp_path, "--html", tmp_path / "page.html")
+    assert done.returncode == 0 and "2 traces, 2 steps" in done.stdout
+    assert b"<i>.json" not in (tmp_path / "page.html").read_bytes()
+    os.mkfifo(tmp_path / "fifo.json")
+    (tmp_path / "bad\x1b[31m.json").write_text("[]")
+    done = covered(tmp_path)
+    assert done.returncode == 1 and "\x1b" not in done.stderr and "bad\\x1b[31m.json: neither" in done.stderr
+    assert f"{tmp_path}/fifo.json: it is no file" in done.stderr
+
+
 def test_a_program_that_is_not_there(tmp_path: Path) -> None:
     done = covered("--program", tmp_path / "none", scenario(tmp_path / "s.json", "spawn"))
     assert done.returncode == 1 and f"{tmp_path}/none: No such file or directory" in done.stderr

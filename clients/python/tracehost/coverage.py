@@ -87,10 +87,19 @@ def _files(names: Sequence[str], coverage: Coverage) -> Iterator[str]:
         if not os.path.isdir(name):
             yield name
             continue
-        inside = sorted(str(path) for path in Path(name).rglob("*.json") if not path.is_dir())
-        yield from inside
+        inside = sorted(path for path in Path(name).rglob("*.json") if not path.is_dir())
+        for path in inside:
+            if path.exists() and not path.is_file():  # a FIFO would be waited for
+                coverage.unread.append(f"{path}: it is no file")
+            else:
+                yield str(path)
         if not inside:
             coverage.unread.append(f"{name}: there is no trace in it")
+
+
+def _printable(text: str) -> str:
+    """Without control characters of names: they could be a terminal's commands."""
+    return "\n".join(line if line.isprintable() else ascii(line)[1:-1] for line in text.splitlines())
 
 
 def _read(names: Sequence[str], program: Optional[str]) -> Coverage:
@@ -114,7 +123,7 @@ def _run(given: argparse.Namespace) -> int:
     print("\n".join(table(coverage, found)))
     write_reports(coverage, found, given.html, given.lcov)
     for why in coverage.unread:
-        print(f"{_NAME}: not read: {why}", file=sys.stderr)
+        print(f"{_NAME}: not read: {_printable(why)}", file=sys.stderr)
     if coverage.unread:
         return UNREAD
     met = percent(*total(found))
