@@ -38,7 +38,7 @@ DATA = schema/scenario.schema.json viewer/src/* viewer/*.py
 DEBUGGER = $(wildcard clients/python/tracehost/*.py) clients/python/tracehost/py.typed
 DOCUMENTS = LICENSE THIRD-PARTY.txt README.md CHANGELOG.md SECURITY.md docs/*.* docs/internals/* examples/*
 # of the library
-HEADERS = include/tracehost.h $(patsubst %,include/tracehost%.hpp,_artifacts _catch2 _crashes _explain _gtest _record _test) include/tracehost.hpp
+HEADERS = include/tracehost.h include/tracehost_fuzz.h $(patsubst %,include/tracehost%.hpp,_artifacts _catch2 _crashes _explain _gtest _record _test) include/tracehost.hpp
 # the client in C: tracehost_client.c includes the others
 CLIENT = tracehost_client.c internal.h artifacts.c calls.c crashes.c failing.c in_process.c names.c pages.c pipe.c record.c \
   refusals.c rows.c session.c steps.c threads.c

@@ -18,6 +18,9 @@ RELEASE = TOP / "release" / f"{platform.machine()}-linux"
 # programs that tests start leave nothing in the repository
 sys.dont_write_bytecode = True
 os.environ["PYTHONDONTWRITEBYTECODE"] = "1"
+# where these are set commands also print reasons
+for variable in ("CI", "TRACEHOST_EXPLAIN"):
+    os.environ.pop(variable, None)
 
 from checking import Checks  # noqa: E402  # once no bytecode is written
 from posix_kit import OtherUser, Posix, shared_folder  # noqa: E402

@@ -72,7 +72,7 @@ class BuildPackage(build_py):
 
 built = [file for file in (program, library) if file is not None]
 commands = [f"tracehost-{name} = tracehost.__main__:{name}" for name in ("view", "perfetto") if VIEWER.exists()]
-commands += ["tracehost-debug = tracehost.__main__:debug"] if program else []
+commands += [f"tracehost-{name} = tracehost.__main__:{name}" for name in ("debug", "coverage")] if program else []
 commands += ["tracehost = tracehost.__main__:main"] if program else []
 
 setup(

@@ -10,7 +10,7 @@ import json
 import random
 from collections.abc import Callable, Iterable, Iterator, Sequence
 from functools import lru_cache
-from typing import NamedTuple, TypedDict
+from typing import NamedTuple, Optional, TypedDict, Union
 
 from tracehost.library import Session, find
 from tracehost.names import Signal
@@ -67,6 +67,10 @@ class Rows(NamedTuple):
     """The processes that have not run since their exec: the start of the image makes calls."""
     marked: frozenset[int] = frozenset()
     """The LWPs that were marked to step, and have had no turn since."""
+
+    def row(self, number: int) -> Optional[Union[Process, Lwp]]:
+        """A process or an LWP of this number."""
+        return self.processes.get(number) or self.lwps.get(number)
 
     def of(self, pid: int) -> list[Lwp]:
         """The LWPs of a process, the oldest first."""

@@ -20,9 +20,9 @@ def test_they_are_those_that_are_installed() -> None:
         word for word in (TOP / "Makefile").read_text().split() if word.startswith("tracehost-") and word.replace("-", "").isalpha()
     }
     assert (
-        {"tracehost", "tracehost-debug", *installed}
+        {"tracehost", "tracehost-debug", "tracehost-coverage", *installed}
         >= set(COMMANDS)
-        >= {"tracehost", "tracehost-debug", "tracehost-cc", "tracehost-run"}
+        >= {"tracehost", "tracehost-debug", "tracehost-coverage", "tracehost-cc", "tracehost-run"}
     )
     assert {"tracehost-corpus", "tracehost-view", "tracehost-perfetto"} <= set(COMMANDS)
 
@@ -65,3 +65,31 @@ def test_a_scenario_and_the_packages(folder: Path, shell: str) -> None:
     )
     assert done.returncode == 0, done.stderr
     assert done.stdout.startswith((TOP / "examples/first.out").read_text()) and "tracehost> list" in done.stdout
+
+
+FAULTS = {
+    "nosuch.json": "nosuch.json: No such file or directory",
+    "/tmp": "/tmp: Is a directory",
+    "--expect nosuch.out examples/first.json": "nosuch.out: No such file or directory",
+    "--expect-list nosuch": "nosuch: No such file or directory",
+    "help": "help: No such file or directory",
+}
+ASKS = {"CI=true": True, "TRACEHOST_EXPLAIN=always": True, "CI=true TRACEHOST_EXPLAIN=never": False, "CI=": False}
+
+
+@pytest.mark.parametrize("fault", FAULTS)
+def test_reasons_where_nobody_can_ask_again(folder: Path, fault: str) -> None:
+    """As CI is set, or as the variable says. What the command line asks for comes first."""
+    for variables, explains in ASKS.items():
+        done = said(folder, "sh", f"{variables} tracehost {fault}")
+        wanted = f"tracehost: cannot read\n{f'  {FAULTS[fault]}' if explains else ''}".strip() + "\n"
+        assert (done.returncode, done.stdout, done.stderr) == (3, "", wanted), variables
+    assert said(folder, "sh", f"CI=true tracehost --explain=never {fault}").stderr == "tracehost: cannot read\n"
+    assert said(folder, "sh", "CI=true tracehost --version").stdout.startswith("tracehost ")
+
+
+def test_reasons_by_the_package(folder: Path) -> None:
+    """Its command is the program with the same words."""
+    code = "from tracehost.program import explained; print(*explained(['x']), *explained(['--explain=never', 'x']))"
+    for variables, words in (("CI=1", "--explain=always x"), ("TRACEHOST_EXPLAIN=never", "--explain=never x"), ("CI=", "x")):
+        assert said(folder, "sh", f'{variables} python3 -c "{code}"').stdout == f"{words} --explain=never x\n"

@@ -23,6 +23,8 @@ COMMANDS = {
     "viewer/perfetto TRACE": ("viewer/perfetto", 'viewer/perfetto "$TRACE"'),
     "tools/sbom --help": ("tools/sbom", "tools/sbom --help"),
     "tools/sbom": ("tools/sbom", "tools/sbom"),
+    "tracehost-coverage --help": ("tracehost-coverage", "python3 -m tracehost.coverage --help"),
+    "tracehost-coverage TRACE": ("tracehost-coverage", "python3 -m tracehost.coverage examples/first.json"),
     "tracehost-debug --help": ("tracehost-debug", "python3 -m tracehost.debug --help"),
     "tracehost-debug": ("tracehost-debug", "echo spawn | python3 -m tracehost.debug"),
     "tracehost-debug FILE": ("tracehost-debug", "python3 -m tracehost.debug --batch list examples/first.json"),

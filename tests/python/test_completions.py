@@ -149,7 +149,7 @@ OFFERED_BY = [
     ("tracehost-view -", "--at --failed --help --message --note --output --title --version -h -o -t"),
     ("tracehost-perfetto -", "--help --output --version -h -o"),
     ("tracehost-run --s", "--schedules --seed --seeds --sleeps --strategy --strict --switches"),
-    ("tracehost-corpus -", "--help --jobs --json --model --patience --version --workers -h"),
+    ("tracehost-corpus -", "--bless --help --jobs --json --junit-xml --model --patience --version --workers -h"),
     ("tracehost-run --e", ""),  # --expect is another command's
     ("tracehost-run --strategy ", "random pct"),
     ("tracehost-run --kill-on-debugger-exit = ", "0 1"),

@@ -18,7 +18,7 @@ import pytest
 
 from checking import TOP, run
 
-TABLES = ("format/scenario.toml", "format/refusals.toml", "format/notices.toml")
+TABLES = ("format/scenario.toml", "format/refusals.toml", "format/notices.toml", "format/edges.toml")
 COPIED = (
     "format tools crates schema include reference clients/c clients/posix/broker clients/posix/runtime clients/posix/tracehost_posix"
     " clients/python clients/rust/src viewer docs/FORMAT.md docs/VIEWER.md man"
@@ -174,6 +174,7 @@ CHANGES = [
         "clients/python/tracehost/notice_rules.py viewer/src/notice_rules.mjs",
     ),
     Change("what a rule means", "^means = .another user's number.", 'means = "a foreign number"', "docs/VIEWER.md"),
+    Change("other words of an edge", "a process is made", "a new process", "clients/python/tracehost/goals.py"),
     Change("another effect", '^effect = "lists the user.s processes.*', 'effect = "lists them"', "docs/FORMAT.md"),
 ]
 
@@ -269,9 +270,13 @@ NOTICE_MISTAKES = {
     "a text in an expression": Mistake("^holds = .owner", 'holds = "request', "'request' is none of "),
     "a key of a rule": Mistake("^means = .another user", 'menas = "another user', "'menas' is none of at, holds, "),
 }
+EDGE_MISTAKES = {
+    "a table": Mistake(r"^\[lwp\]", "[lpw]", "'lpw' is none of lwp, process, stop"),
+    "words": Mistake('^"suspended" = .*', '"suspended" = 1', "1 has to be a text", "[lwp]"),
+}
 MISTAKES = [
     (table, *made)
-    for table, mistakes in zip(TABLES, (SCENARIO_MISTAKES, REFUSAL_MISTAKES, NOTICE_MISTAKES))
+    for table, mistakes in zip(TABLES, (SCENARIO_MISTAKES, REFUSAL_MISTAKES, NOTICE_MISTAKES, EDGE_MISTAKES))
     for made in mistakes.items()
 ]
 

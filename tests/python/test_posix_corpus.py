@@ -14,6 +14,7 @@ import subprocess
 import sys
 import time
 from pathlib import Path
+from xml.etree import ElementTree
 
 import pytest
 from by_chance import scenario
@@ -58,21 +59,115 @@ def test_a_list(program: Path, tmp_path: Path) -> None:
 
 
 def test_the_examples_and_the_sums_as_json(program: Path) -> None:
+    """One is to be refused, as its .status and .err say."""
     ended = corpus(program, "--json", "--jobs", "2", TOP / "examples")
-    assert ended.status == 1 and ended.out.count("\n") == 2
-    sums = json.loads(ended.out.splitlines()[-1])
-    with_lines = len(list(TOP.glob("examples/*.out")))
-    wanted = {
-        "compared": with_lines,
-        "differ": 0,
-        "refused": 1,
-        "run": 2,
-        "run_refused": 2,
-        "not_run": 0,
-        "crashed": 0,
-        "status": 1,
-    }
-    assert sums == wanted  # the other two are broken's .err and .status
+    assert ended.status == 0 and ended.out.count("\n") == 1
+    sums = json.loads(ended.out)
+    assert sums.pop("compared") == len(list(TOP.glob("examples/*.json")))
+    assert set(sums.values()) == {0} and set(sums) == {
+        "differ", "refused", "run", "run_refused", "not_run", "crashed", "faults", "status"
+    }  # fmt: skip
+
+
+def test_a_scenario_that_is_refused(program: Path, tmp_path: Path) -> None:
+    """By its name it is one, so it is told. What else a fuzzer keeps may be refused."""
+    put(tmp_path, typo__json=b'{"steps":[{"user":1001,"op":"swapn"}]}', kept=b"no scenario", run__json=SPAWN)
+    ended = corpus(program, tmp_path)
+    assert ended == Ended(1, f"{tmp_path}/typo.json: tracehost: refused: BadName at step 1\n", ALL.format(0, 0, 0, 3, 2, 0, 0))
+
+
+@pytest.mark.parametrize(
+    ("text", "fault", "said"),
+    [
+        (b"[]", "tracehost: refused: BadShape at step 0\n", None),
+        (b"[]", None, None),
+        (
+            b"[]",
+            "tracehost: refused: BadName\n",
+            ": tracehost: refused: BadShape at step 0, in place of tracehost: refused: BadName",
+        ),
+        (SPAWN, None, ": it isn't refused, as its .status says"),
+    ],
+)
+def test_a_scenario_that_is_to_be_refused(program: Path, tmp_path: Path, text: bytes, fault: str | None, said: str | None) -> None:
+    put(tmp_path, a__json=text, a__status="1\n", **({} if fault is None else {"a__err": fault}))
+    ended = corpus(program, tmp_path)
+    told = "" if said is None else f"{tmp_path}/a.json{said}\n"
+    assert ended == Ended(0 if said is None else 1, told, ALL.format(1, 0 if said is None else 1, 0, 0, 0, 0, 0))
+
+
+# ---- new lines, JUnit and reasons
+
+
+@pytest.mark.parametrize("listed", [False, True])
+def test_bless(program: Path, tmp_path: Path, listed: bool) -> None:
+    """What differs gets the lines of this run, and nothing else is written. A refused one stays a failure."""
+    put(tmp_path, a__json=SPAWN, a__out="?\n", b__json=SPAWN, b__out=LINE, c__json=b"[]", c__out="?\n", d__json=SPAWN, d__out="?\n")
+    before = (tmp_path / "b.out").stat().st_mtime_ns
+    rows = tmp_path.with_name("rows")
+    rows.write_text("".join(f"{tmp_path}/{name}.json\t{tmp_path}/{name}.out\n" for name in "abcd"))
+    ended = corpus(program, "--bless", rows if listed else tmp_path)
+    said = [f"{tmp_path}/{name}.out: it has the lines of this run now" for name in "ad"]
+    assert ended.out.splitlines() == [said[0], f"{tmp_path}/c.json: tracehost: refused: BadShape at step 0", said[1]]
+    assert (ended.status, ended.err) == (1, ALL.format(4, 0, 1, 0, 0, 0, 0))
+    assert [(tmp_path / f"{name}.out").read_text() for name in "abcd"] == [LINE, LINE, "?\n", LINE]
+    assert (tmp_path / "b.out").stat().st_mtime_ns == before
+    (tmp_path / "c.json").unlink()
+    (tmp_path / "c.out").unlink()
+    assert corpus(program, tmp_path).status == 0
+
+
+def test_lines_that_cannot_be_written(program: Path, tmp_path: Path) -> None:
+    """The difference stays one. Workers can't write them."""
+    put(tmp_path, a__json=SPAWN, rows=f"{tmp_path}/a.json\t/proc/version\n")
+    ended = corpus(program, "--bless", tmp_path / "rows")
+    assert ended.status == 1 and "/proc/version: tracehost: cannot write" in ended.out and "1 differ" in ended.err, ended
+    ended = corpus(program, "--bless", "--workers", "tcp://localhost:1", tmp_path)
+    assert ended == Ended(2, "", "tracehost-corpus: --bless: the workers have only copies of the files\n")
+
+
+def test_junit(program: Path, tmp_path: Path) -> None:
+    """A case for each file: failures, and errors for what wasn't run. Names are text."""
+    put(tmp_path / "c", a__json=SPAWN, a__out=LINE, b__json=SPAWN, b__out="?\n", typo__json="[]", kept="[]")
+    put(tmp_path / "c", **{"<&\x1b>__json": SPAWN})
+    (tmp_path / "c/circle").symlink_to("circle")
+    report = tmp_path / "junit.xml"
+    ended = corpus(program, "--junit-xml", report, tmp_path / "c")
+    suite = ElementTree.parse(report).getroot()
+    assert ended.status == 3 and (suite.get("tests"), suite.get("failures"), suite.get("errors")) == ("6", "2", "1")
+    cases = {case.get("name"): case[0].tag if len(case) else "" for case in suite}
+    assert cases == {"a.json": "", "b.json": "failure", "typo.json": "failure", "kept": "", "<&\\x1b>.json": "", "circle": "error"}
+    (failure,) = [case[0] for case in suite if case.get("name") == "b.json"]
+    assert failure.get("message") == f'{tmp_path}/c/b.out:1: expected "?", got "{LINE.strip()}"'
+    ended = corpus(program, "--junit-xml", "/dev/full", tmp_path / "c")
+    assert ended.status == 3 and ended.err.endswith("tracehost-corpus: /dev/full: No space left on device\n")
+
+
+@pytest.mark.parametrize(
+    ("variables", "explains"),
+    [
+        ({}, False),
+        ({"CI": "true"}, True),
+        ({"TRACEHOST_EXPLAIN": "always"}, True),
+        ({"CI": "true", "TRACEHOST_EXPLAIN": "never"}, False),
+    ],
+)
+def test_reasons_if_nobody_can_ask_again(
+    program: Path, tmp_path: Path, monkeypatch: pytest.MonkeyPatch, variables: dict[str, str], explains: bool
+) -> None:
+    """Of a scenario that is refused, of one that can't be read, and of lines that can't."""
+    for name, value in variables.items():
+        monkeypatch.setenv(name, value)
+    shutil.copy(TOP / "examples/broken.json", tmp_path)
+    (tmp_path / "rows").write_text(f"{tmp_path}/broken.json\n{tmp_path}/none.json\n")
+    ended = corpus(program, tmp_path / "rows")
+    reasons = [
+        '  steps[2].request: "pt_attach" is no request; did you mean "PT_ATTACH"?',
+        f"  {tmp_path}/none.json: No such file or directory",
+    ]
+    told = [f"{tmp_path}/broken.json: tracehost: refused: BadName at step 3", f"{tmp_path}/none.json: cannot read"]
+    lines = [line for pair in zip(told, reasons) for line in pair] if explains else told
+    assert (ended.status, ended.out.splitlines()) == (3, lines)
 
 
 NAMES = [b"line\nfeed", b"tab\there", b"\xff\xfe", b"esc\x1b]0;x\x07", b"-", b" ", b"a: b", b"x.json", "ä".encode(), b"*", b"\\n"]
@@ -202,69 +297,6 @@ def test_a_process_that_others_have_killed_is_replaced(program: Path, tmp_path: 
 
 
 # ---- fuzzers
-
-
-@needs("clang")
-def test_a_fuzzer_fills_a_corpus(library: Path, program: Path, tmp_path: Path) -> None:
-    """libFuzzer begins with the examples. What it keeps is run: each file is accepted or refused."""
-    made, kept = tmp_path / "fuzz", tmp_path / "kept"
-    words: list[str | Path] = [
-        "-g",
-        "-fsanitize=fuzzer,address",
-        "-Wall",
-        "-Wextra",
-        "-Wconversion",
-        "-Werror",
-        f"-I{TOP}/include",
-        "-o",
-        made,
-    ]
-    built = run("clang", *words, TOP / "clients/c/examples/fuzz_scenario.c", library / "libtracehost.a")
-    if "libclang_rt.fuzzer" in built.err:
-        pytest.skip("clang's runtime has no fuzzer: Debian's libclang-rt-14-dev has it")
-    assert built.status == 0, built.err
-    kept.mkdir()
-    for example in TOP.glob("examples/*.json"):
-        shutil.copy(example, kept)
-    before = len(list(kept.iterdir()))
-    ran = run(made, f"-max_total_time={3 * SCALE}", f"-artifact_prefix={tmp_path}/", kept, seconds=60 + 3 * SCALE)
-    assert ran.status == 0, ran.err[-2000:]
-    count = len(list(kept.iterdir()))
-    ended = corpus(program, "--json", kept)
-    sums = json.loads(ended.out)
-    assert count > before and ended.status == 0
-    assert (sums["run"], sums["compared"]) == (count, 0) and sums["run_refused"] < count
-
-
-@needs("cc")
-def test_the_harness_of_afl(library: Path, tmp_path: Path) -> None:
-    """It reads the file that it is given, or standard input. Folders of AFL are run without AFL's own files."""
-    made = tmp_path / "fuzz"
-    words: list[str | Path] = ["-DAFL", "-Wall", "-Wextra", "-Wconversion", "-Werror", f"-I{TOP}/include", "-o", made]
-    built = run("cc", *words, TOP / "clients/c/examples/fuzz_scenario.c", library / "libtracehost.a")
-    assert built.status == 0, built.err
-    assert run(made, TOP / "examples/first.json").status == 0
-    assert run(made, given=SPAWN).status == 0
-    assert run(made, tmp_path / "nothing").status == 1
-
-
-@needs("afl-clang-fast", "afl-fuzz")
-def test_what_afl_keeps_is_run(library: Path, program: Path, tmp_path: Path, monkeypatch: pytest.MonkeyPatch) -> None:
-    """As the harness says it. AFL asks for settings of the machine, which it does without."""
-    seeds, found = tmp_path / "corpus", tmp_path / "found"
-    seeds.mkdir()
-    for example in TOP.glob("examples/*.json"):
-        shutil.copy(example, seeds)
-    harness = TOP / "clients/c/examples/fuzz_scenario.c"
-    words = "-DAFL", f"-I{TOP}/include", harness, library / "libtracehost.a", "-o", tmp_path / "fuzz"
-    assert run("afl-clang-fast", *words).status == 0
-    for setting in ("I_DONT_CARE_ABOUT_MISSING_CRASHES", "NO_UI", "SKIP_CPUFREQ", "TRY_AFFINITY"):
-        monkeypatch.setenv(f"AFL_{setting}", "1")
-    ran = run("afl-fuzz", "-t", "20000", "-E", "3000", "-i", seeds, "-o", found, tmp_path / "fuzz", "@@")
-    assert ran.status == 0, ran.out[-2000:]
-    kept = [path for path in (found / "default/queue").iterdir() if path.is_file()]
-    sums = json.loads(corpus(program, "--json", found / "default/queue").out)
-    assert sums["run"] == len(kept) > len(list(seeds.iterdir())) and sums["run_refused"] < len(kept)
 
 
 def test_a_folder_of_afl(program: Path, tmp_path: Path) -> None:

@@ -19,6 +19,8 @@ from typing import NamedTuple, Optional
 
 NOTHING = "/dev/null"
 """In place of expected lines: the scenario is only run."""
+REFUSED = ": tracehost: refused: "
+"""How the line of a scenario that is refused goes on after its name."""
 _UNREAD = ": cannot read"
 _COUNTS = re.compile(r"^tracehost: (\d+) compared: (\d+) differ, (\d+) refused, (\d+) not read$", re.MULTILINE)
 _STATUSES = (0, 1, 3, 4)
@@ -41,7 +43,7 @@ class Line(NamedTuple):
 
 
 class Outcome(NamedTuple):
-    """What came of a block. A row that is only run differs if it has any lines."""
+    """What came of a block. A row that is only run differs if it has any lines, which isn't told."""
 
     lines: list[Line]
     differ: int = 0
@@ -106,7 +108,7 @@ def _in_parts(model: str, rows: Sequence[Row], seconds: float, folder: Optional[
 
 
 def _lines(rows: Sequence[Row], text: str) -> list[Line]:
-    """The program's lines, which come in the order of the rows. Of rows that are only run, those that weren't read."""
+    """The program's lines, which come in the order of the rows. Of rows that are only run, those that weren't read, or refused."""
     lines: list[Line] = []
     row = 0
     for said in text.split("\n")[:-1]:
@@ -117,7 +119,7 @@ def _lines(rows: Sequence[Row], text: str) -> list[Line]:
         scenario, expected = rows[row].scenario, rows[row].expected
         of_expected = said.startswith(f"{expected}:") and not said.startswith(f"{scenario}: ")
         line = Line(row, of_expected, said[len(expected if of_expected else scenario) :])
-        if expected != NOTHING or line == Line(row, False, _UNREAD):
+        if expected != NOTHING or line == Line(row, False, _UNREAD) or (not of_expected and line.text.startswith(REFUSED)):
             lines.append(line)
         row += 1
     return lines

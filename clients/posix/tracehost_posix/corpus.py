@@ -12,7 +12,9 @@ from itertools import islice
 from typing import NamedTuple, Optional
 
 from . import comparing, report, rooms
-from .comparing import NOTHING, Line, Outcome, Row, compare, digest_of
+from .comparing import NOTHING, REFUSED, Line, Outcome, Row, compare, digest_of
+from .corpus_files import Corpus, File, shown
+from .corpus_reports import Cases, bless, explains, reasons
 from .options import USAGE, Parser, add_version, begun, count, model_of, seconds
 from .report import say, writing, written
 from .setting import Broken, Refused
@@ -24,11 +26,13 @@ SHARE, SHARE_BYTES, AHEAD = 5000, 16 << 20, 64
 """What a worker is given at a time: at least 0.3 seconds of work. And how many are given out at a time: at most 1 GB."""
 
 
-class File(NamedTuple):
-    """A file of the corpus, and its expected lines, if it has any."""
+class Verdict(NamedTuple):
+    """What came of a file that isn't as it should be."""
 
-    scenario: str
-    expected: Optional[str]
+    file: File
+    name: str
+    text: str
+    is_run: bool = True
 
 
 class Sums:
@@ -38,24 +42,46 @@ class Sums:
         self.compared = self.differ = self.refused = 0
         self.run = self.run_refused = 0
         self.not_run = self.crashed = 0
+        self.faults = 0
+        """Scenarios by their names that are refused, and aren't to be."""
 
-    def add(self, files: Sequence[File], outcome: Outcome) -> None:
-        """Files that all have expected lines, or that all have none."""
+    def add(self, files: Sequence[File], outcome: Outcome) -> list[Verdict]:
+        """Files that all have expected lines, or that all have none. Returns what is wrong with them."""
         left = len(files) - outcome.unread - outcome.crashed
         self.not_run += outcome.unread
         self.crashed += outcome.crashed
         if files[0].expected is None:
-            self.run += left
-            self.run_refused += outcome.refused
-        else:
-            self.compared += left
-            self.differ += outcome.differ
-            self.refused += outcome.refused
+            return self._add_run(files, outcome, left)
+        self.compared += left
+        self.differ += outcome.differ
+        self.refused += outcome.refused
+        return [_verdict(files[line.row], line) for line in outcome.lines]
+
+    def _add_run(self, files: Sequence[File], outcome: Outcome, left: int) -> list[Verdict]:
+        said = {line.row: line for line in outcome.lines}
+        wrong = []
+        for row, file in enumerate(files):
+            line = said.get(row)
+            is_refused = line is not None and line.text.startswith(REFUSED)
+            if line is not None and not is_refused:
+                wrong.append(_verdict(file, line))
+            elif file.fault is not None:
+                left -= 1
+                self.compared += 1
+                why = _unlike(file.fault, line.text if line is not None else None)
+                self.differ += why is not None
+                wrong += [Verdict(file, file.scenario, why)] if why is not None else []
+            elif line is not None:
+                self.run_refused += 1
+                self.faults += file.is_scenario
+                wrong += [_verdict(file, line)] if file.is_scenario else []
+        self.run += left
+        return wrong
 
     def status(self) -> int:
         if self.not_run or self.crashed:
             return BROKEN
-        return DIFFERENT if self.differ or self.refused else 0
+        return DIFFERENT if self.differ or self.refused or self.faults else 0
 
     def text(self) -> str:
         compared = f"{self.compared} scenarios compared: {self.differ} differ, {self.refused} refused"
@@ -63,70 +89,23 @@ class Sums:
         return "; ".join([compared, run, f"{self.not_run} not run, {self.crashed} crashed"])
 
 
-class Corpus:
-    """The files that were named, and those in the folders that were named."""
-
-    def __init__(self, names: Sequence[str]) -> None:
-        self._names = names
-        self.missed = 0
-        """Files that can't be run."""
-
-    def files(self) -> Iterator[File]:
-        for name in self._names:
-            if os.path.isdir(name):
-                yield from self._folder(name)
-            else:
-                yield from self._list(name)
-
-    def _list(self, name: str) -> Iterator[File]:
-        """A list as that of --expect-list; a row without a tab is a scenario that is only run."""
-        try:
-            with open(name, encoding="utf-8", errors="surrogateescape", newline="\n") as file:
-                for line in file:
-                    scenario, tab, expected = line.rstrip("\n").partition("\t")
-                    if scenario:
-                        yield File(scenario, expected if tab else None)
-        except OSError as why:
-            raise Refused(f"{name}: {why.strerror}") from why
-
-    def _folder(self, name: str) -> Iterator[File]:
-        """Files in order of their names. `x.out` is what `x.json` is to print, and hidden ones are a fuzzer's own."""
-        try:
-            with os.scandir(name) as found:
-                entries = sorted((entry for entry in found if not entry.name.startswith(".")), key=lambda entry: entry.name)
-        except OSError as why:
-            self.miss(name, why.strerror)
-            return
-        names = {entry.name for entry in entries}
-        for entry in entries:
-            if entry.is_dir(follow_symlinks=False):
-                yield from self._folder(entry.path)
-            elif not _is_file(entry):
-                self.miss(entry.path, "it is no file")
-            elif not (entry.name.endswith(".out") and f"{entry.name[:-4]}.json" in names):
-                has_lines = entry.name.endswith(".json") and f"{entry.name[:-5]}.out" in names
-                yield File(entry.path, f"{entry.path[:-5]}.out" if has_lines else None)
-
-    def miss(self, name: str, why: str) -> None:
-        self.missed += 1
-        tell(f"{shown(name)}: {why}")
+def _verdict(file: File, line: Line) -> Verdict:
+    name = file.expected if line.of_expected and file.expected is not None else file.scenario
+    is_run = line.text.startswith(REFUSED) or ": expected " in line.text
+    return Verdict(file, name, line.text, is_run)
 
 
-def _is_file(entry: os.DirEntry[str]) -> bool:
-    try:
-        return entry.is_file()
-    except OSError:  # a link in a circle
-        return False
+def _unlike(fault: str, text: Optional[str]) -> Optional[str]:
+    """How a run is unlike the fault that is asked for; None if it isn't."""
+    if text is None:
+        return ": it isn't refused, as its .status says"
+    said = text.removeprefix(": ")
+    return None if fault in ("", said) else f": {said}, in place of {fault}"
 
 
 def tell(line: str) -> None:
     with writing():
         print(line, flush=True)
-
-
-def shown(name: str) -> str:
-    """A name as a line may have it."""
-    return name if name.isprintable() else ascii(name)[1:-1]
 
 
 def blocks(files: Iterable[File], most: int) -> Iterator[list[File]]:
@@ -261,6 +240,8 @@ def _parser() -> Parser:
     add("--jobs", type=count, default=len(os.sched_getaffinity(0)), metavar="N", help="runs N processes at a time (all processors)")
     add("--workers", metavar="URL", help="runs them on the workers of a scheduler of Dask distributed: tcp://.. or tls://..")
     add("--patience", type=seconds, default=60.0, metavar="S", help="a process that needs more for its scenarios hangs (60)")
+    add("--bless", action="store_true", help="writes the lines of scenarios that differ, in place of those expected")
+    add("--junit-xml", metavar="FILE", help="writes what came of each file, as JUnit does")
     add("--json", action="store_true", help="prints what they come to as a JSON object")
     add("--model", metavar="PROGRAM", help="the program tracehost; else $TRACEHOST, else tracehost on the path")
     add_version(made)
@@ -274,22 +255,57 @@ def _print(sums: Sums, status: int) -> None:
     tell(json.dumps({**vars(sums), "status": status}))
 
 
+class _Run:
+    """What is done with the verdicts."""
+
+    def __init__(self, given: argparse.Namespace, model: str) -> None:
+        self._model, self._blesses = model, given.bless
+        self._explains = explains()
+        self.sums = Sums()
+        self.cases = Cases() if given.junit_xml is not None else None
+
+    def take(self, files: Sequence[File], outcome: Outcome) -> None:
+        wrong: dict[File, tuple[str, bool]] = {}
+        for verdict in self.sums.add(files, outcome):
+            if self._is_blessed(verdict):
+                continue
+            wrong[verdict.file] = f"{verdict.name}{verdict.text}", verdict.is_run
+            tell(f"{shown(verdict.name)}{verdict.text}")
+            for line in reasons(self._model, verdict.file.scenario) if self._explains and verdict.file.fault is None else ():
+                tell(line)
+        if self.cases is not None:
+            self.cases.add_all(files, wrong)
+        for why in outcome.again:
+            say(f"run again: {why}")
+
+    def _is_blessed(self, verdict: Verdict) -> bool:
+        expected = verdict.file.expected
+        if not (self._blesses and verdict.is_run and expected is not None and not verdict.text.startswith(REFUSED)):
+            return False
+        why = bless(self._model, verdict.file.scenario, expected)
+        if why:
+            tell(f"{shown(expected)}: {why}")
+            return False
+        self.sums.differ -= 1
+        tell(f"{shown(expected)}: it has the lines of this run now")
+        return True
+
+
 def _run(given: argparse.Namespace, model: str) -> int:
-    corpus, sums = Corpus(given.corpora), Sums()
+    corpus, run = Corpus(given.corpora, tell), _Run(given, model)
+    sums = run.sums
+    if given.bless and given.workers is not None:
+        raise Refused("--bless: the workers have only copies of the files")
     runs: Here | There = Here(model, given.jobs, given.patience)
     if given.workers is not None:
         runs = There(model, given.workers, given.patience)
     for files, outcome in runs.outcomes(corpus.files(), corpus):
-        sums.add(files, outcome)
-        for line in outcome.lines:
-            file = files[line.row]
-            name = file.expected if line.of_expected and file.expected is not None else file.scenario
-            tell(f"{shown(name)}{line.text}")
-        for why in outcome.again:
-            say(f"run again: {why}")
-    sums.not_run += corpus.missed
+        run.take(files, outcome)
+    sums.not_run += len(corpus.missed)
     if not any(vars(sums).values()):
         raise Refused("there is no scenario in these corpora")
+    if run.cases is not None:
+        run.cases.write(given.junit_xml, corpus.missed)
     status = sums.status()
     if given.json:
         _print(sums, status)
@@ -307,7 +323,7 @@ def _command(words: Optional[Sequence[str]]) -> int:
         say(str(why))
         return USAGE
     except (Broken, OSError) as why:
-        say(str(why))
+        say(f"{why.filename}: {why.strerror}" if isinstance(why, OSError) and why.filename else str(why))
         return BROKEN
     except KeyboardInterrupt:
         return 130

@@ -13,7 +13,7 @@ import signal
 import sys
 from typing import NoReturn
 
-from .program import bundled
+from .program import bundled, explained
 from .viewing import viewer_folders
 
 
@@ -26,7 +26,7 @@ def main() -> NoReturn:
         sys.exit("tracehost: this package was installed without the program")
     for ignored in (signal.SIGPIPE, signal.SIGXFSZ):  # by Python; the program would inherit that
         signal.signal(ignored, signal.SIG_DFL)
-    os.execv(program, ["tracehost", *sys.argv[1:]])
+    os.execv(program, ["tracehost", *explained(sys.argv[1:])])
 
 
 def view() -> None:
@@ -41,6 +41,12 @@ def debug() -> None:
     from .debug import main as prompt
 
     sys.exit(prompt())
+
+
+def coverage() -> None:
+    from .coverage import main as count
+
+    sys.exit(count())
 
 
 def _of_viewer(name: str) -> None:

@@ -15,14 +15,14 @@ or a step as JSON. A step in the middle begins a branch, and the session stays a
 from __future__ import annotations
 
 import argparse
-import errno
 import os
 import sys
 from collections.abc import Sequence
-from typing import IO, Optional
+from typing import Optional
 
 from .comparing import differences_of
 from .errors import ProgramEnded
+from .outputs import Parser, closed, status_of
 from .prompt import Prompt
 from .saving import Session, read_session
 from .shrinking import Keep, shrink, shrink_refused
@@ -59,17 +59,8 @@ def _use_history() -> None:
     atexit.register(write)
 
 
-class _Parser(argparse.ArgumentParser):
-    """A parser that raises OSError if the text of --help can't be written."""
-
-    def print_help(self, file: Optional[IO[str]] = None) -> None:
-        stream = sys.stdout if file is None else file
-        stream.write(self.format_help())
-        stream.flush()
-
-
 def _options() -> argparse.ArgumentParser:
-    parser = _Parser(prog=_NAME, description="A prompt over a session, forwards and backwards in time.")
+    parser = Parser(prog=_NAME, description="A prompt over a session, forwards and backwards in time.")
     parser.add_argument(
         "file", metavar="FILE", nargs="?", help="a scenario or a trace, - for standard input; a new session without it"
     )
@@ -163,7 +154,7 @@ def _converse(prompt: Prompt, is_input_used: bool) -> int:
     if is_input_used:
         sys.stdin = open("/dev/tty", encoding="utf-8")
     if sys.stdin is None:
-        raise _closed("standard input")
+        raise closed("standard input")
     terminal = sys.stdin.isatty()
     if terminal:
         _use_history()
@@ -178,30 +169,16 @@ def _converse(prompt: Prompt, is_input_used: bool) -> int:
             prompt.intro = ""
 
 
-def _closed(name: str) -> OSError:
-    """The error of a standard stream that the caller has closed: Python then has none."""
-    return OSError(errno.EBADF, os.strerror(errno.EBADF), name)
-
-
-def _said(error: OSError) -> str:
-    """The file and why; of an error without an errno, such as that there is no program, its text."""
-    return f"{error.filename or 'standard output'}: {error.strerror}" if error.errno else str(error)
-
-
 def main(words: Optional[Sequence[str]] = None) -> int:
     """Runs the prompt until the end of its input."""
+    return status_of(_NAME, lambda: _run_or_say(words))
+
+
+def _run_or_say(words: Optional[Sequence[str]]) -> int:
     try:
-        if sys.stdout is None:
-            raise _closed("standard output")
         return _run(words)
     except Refused as error:
         print(f"{_NAME}: {error}", file=sys.stderr)
-        return 1
-    except OSError as error:  # a file or an output that can't be read or written
-        if sys.stdout is not None:  # so that Python doesn't write the rest when it ends
-            os.dup2(os.open(os.devnull, os.O_WRONLY), sys.stdout.fileno())
-        if not isinstance(error, BrokenPipeError):  # as `tracehost | head` ends
-            print(f"{_NAME}: {_said(error)}", file=sys.stderr)
         return 1
 
 

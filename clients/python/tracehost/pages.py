@@ -18,7 +18,7 @@ _AT_ONCE = 4
 _Hook = TypeVar("_Hook", bound=Callable[..., None])
 optional_hook: Callable[[_Hook], _Hook] = pytest.hookimpl(optionalhook=True)  # untyped in some versions of pytest
 """Of a plugin that may not be there."""
-_last_hook: Callable[[_Hook], _Hook] = pytest.hookimpl(trylast=True)
+last_hook: Callable[[_Hook], _Hook] = pytest.hookimpl(trylast=True)
 
 
 class Pages(Told):
@@ -31,7 +31,7 @@ class Pages(Told):
         self._failures: dict[tuple[object, str], dict[str, Failure]] = {}
         self._reports: dict[str, list[pytest.TestReport]] = {}
 
-    @_last_hook
+    @last_hook
     def pytest_sessionstart(self, session: pytest.Session) -> None:
         """What an earlier run has left is told now, since its tests take it away."""
         terminal: Any = session.config.pluginmanager.get_plugin("terminalreporter")

@@ -3,6 +3,7 @@
 from __future__ import annotations
 
 import os
+from collections.abc import Sequence
 
 from . import checkout, packaged
 
@@ -36,3 +37,10 @@ def command(program: str | os.PathLike[str] | None, kill_on_debugger_exit: bool 
     if kill_on_debugger_exit is not None:
         words += ["--kill-on-debugger-exit", str(int(kill_on_debugger_exit))]
     return words
+
+
+def explained(words: Sequence[str]) -> Sequence[str]:
+    """A command line that also asks for reasons where nobody can ask again: by $TRACEHOST_EXPLAIN, or if $CI is set."""
+    choice = os.environ.get("TRACEHOST_EXPLAIN", "always" if os.environ.get("CI") else "auto")
+    is_chosen = any(word.startswith("--explain") for word in words)
+    return words if is_chosen or choice not in ("always", "never") else [f"--explain={choice}", *words]

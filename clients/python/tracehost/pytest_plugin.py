@@ -11,6 +11,7 @@
   one that ``--tracehost-artifacts``, or the environment's ``TRACEHOST_ARTIFACTS``, names. The report says where, and
   JUnit's XML has the page as the property ``tracehost_page``. Pages are made at the end of the run, when no test's patches
   are left. A test that passes leaves nothing. The record of one that ends its process is told at the end, or by the next run.
+- ``--tracehost-coverage`` says which rows of the machine the sessions of all tests have met: `pytest_coverage`.
 - The plugin changes no test's outcome. What can't be done, as on a full disk, is told in a section of the test's report,
   or of the summary.
 """
@@ -26,6 +27,7 @@ from typing import TYPE_CHECKING, Any, Optional, Protocol, TypeVar
 
 import pytest
 
+from . import pytest_coverage
 from .host import Host
 from .naming import REPLIES, describe, field_text
 from .pages import Pages, optional_hook
@@ -72,6 +74,7 @@ def pytest_addoption(parser: pytest.Parser) -> None:
         metavar="DIR",
         help="the folder for the sessions and pages of failed tests; else $TRACEHOST_ARTIFACTS",
     )
+    pytest_coverage.add_options(group)
 
 
 def pytest_configure(config: pytest.Config) -> None:
@@ -89,6 +92,7 @@ def pytest_configure(config: pytest.Config) -> None:
     if not worker:  # the reports of a worker of xdist come to the process that started it
         pages = Pages(lambda: _folder_in_use(config), lambda node: _stem(config, node))
         config.pluginmanager.register(pages, _PAGES)
+    pytest_coverage.configure(config)
 
 
 @optional_hook
@@ -266,7 +270,9 @@ def _sessions(item: pytest.Item) -> Sessions:
     """The sessions of a test."""
     sessions = item.stash.get(_sessions_of_item, None)
     if sessions is None:
-        sessions = item.stash[_sessions_of_item] = Sessions(lambda: _folder(item.config), _stem(item.config, item.nodeid))
+        sessions = item.stash[_sessions_of_item] = Sessions(
+            lambda: _folder(item.config), _stem(item.config, item.nodeid), pytest_coverage.counter(item.config, item.nodeid)
+        )
     return sessions
 
 

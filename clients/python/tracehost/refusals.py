@@ -10,7 +10,7 @@ import errno
 import os
 import re
 from bisect import bisect_left
-from collections.abc import Callable, Iterator, Mapping, Sequence
+from collections.abc import Callable, Iterable, Iterator, Mapping, Sequence
 from typing import Any, NamedTuple, Optional
 
 from .conditions import CALLS, CONDITIONS, DATA_REQUESTS, SIGNAL_REQUESTS, Condition
@@ -19,6 +19,7 @@ from .library import CLwp, CProcess, RawRows
 from .names import ALL_EVENTS, LAST_PROCESS, LAST_SIGNAL, Action, Call, EventMask, Request, Signal
 from .rows import LwpMode, ProcessState
 from .steps import Act, Block, Compute, Enter, Leave, Raise
+from .typed import CALLS as CALLS_OF_ENTER
 
 _ACTS = (Compute, Raise, Block, Enter, Leave)
 _ACTIONS = tuple(Action)
@@ -109,6 +110,14 @@ class Rows:
         self._processes, self._lwps = raw
         self._pids, self._lwpids = _first_words(self._processes), _first_words(self._lwps)
 
+    @classmethod
+    def of_objects(cls, rows: Iterable[Mapping[str, Any]]) -> Rows:
+        """Those that ``--json=trace+rows`` has, by rising numbers."""
+        objects = list(rows)
+        processes = [_process_of(row) for row in objects if "lwp" not in row]
+        lwps = [_lwp_of(row) for row in objects if "lwp" in row]
+        return cls(((CProcess * len(processes))(*processes), (CLwp * len(lwps))(*lwps)))
+
     def processes(self) -> int:
         return len(self._processes)
 
@@ -175,6 +184,19 @@ def _first_words(rows: Any) -> Sequence[int]:
         return ()
     words: Sequence[int] = memoryview(rows).cast("B").cast("I")
     return words[:: len(words) // len(rows)]
+
+
+def _process_of(row: Mapping[str, Any]) -> CProcess:
+    """With the fields that conditions ask for."""
+    state, told = ProcessState[row["state"].upper()].value, int(row.get("reported", False))
+    return CProcess(pid=row["pid"], parent=row["parent"], tracer=row.get("tracer", 0), state=state, told=told)
+
+
+def _lwp_of(row: Mapping[str, Any]) -> CLwp:
+    """With the fields that conditions ask for."""
+    call = CALLS_OF_ENTER.index(Call(row["call"])) if "call" in row else 0
+    mode, suspended = LwpMode[row["mode"].upper()].value, int(row.get("suspended", False))
+    return CLwp(lwp=row["lwp"], pid=row["pid"], mode=mode, call=call, suspended=suspended)
 
 
 _BY_NAME = {condition.name: condition for condition in CONDITIONS}

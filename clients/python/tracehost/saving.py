@@ -30,7 +30,7 @@ def read_session(path: str, program: Optional[str] = None, may_be_refused: bool 
     program refuses a scenario that may not be refused."""
     text = _input() if path == "-" else Path(path).read_bytes()
     name = "session" if path == "-" else Path(path).name.partition(".")[0]
-    found = _scenario_in(text)
+    found = scenario_in(text)
     if found is None:
         return _session_of_trace(path, name, text, program)
     if not may_be_refused:
@@ -45,7 +45,7 @@ def _input() -> bytes:
     return sys.stdin.buffer.read()
 
 
-def _scenario_in(text: bytes) -> Optional[dict[str, Any]]:
+def scenario_in(text: bytes) -> Optional[dict[str, Any]]:
     """The text as an object with an array of steps; None if it is none."""
     try:
         found = json.loads(text)

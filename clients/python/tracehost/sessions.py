@@ -125,9 +125,10 @@ def said_by(error: BaseException) -> str:
 class Sessions(Told):
     """The sessions of a test, and their records."""
 
-    def __init__(self, folder: Callable[[], Folder], stem: str) -> None:
+    def __init__(self, folder: Callable[[], Folder], stem: str, count: Optional[Callable[[Path], None]] = None) -> None:
+        """`count` is given each record that gets no further steps, while its file is there."""
         super().__init__()
-        self._folder, self._stem = folder, stem
+        self._folder, self._stem, self._count = folder, stem, count
         self._hosts: WeakSet[Host] = WeakSet()
         self._records: dict[Path, Callable[[], Optional[Host]]] = {}
         self._running: dict[Path, Running] = {}
@@ -168,6 +169,8 @@ class Sessions(Told):
         earlier = None if before is None else before()
         if earlier is not None:
             earlier.stop_recording()
+        if record.scenario in self._running:  # by this name's earlier host
+            self._count_record(self._running[record.scenario].now)
         try:
             host = self._recording_host(record, settings)
         except BaseException:
@@ -234,6 +237,8 @@ class Sessions(Told):
 
     def end_attempt(self) -> None:
         """Nothing is left of an attempt that has passed, or of an earlier run. The test may be run once more."""
+        for path in (*(record.now for record in self._running.values()), *self._failures):
+            self._count_record(path)
         for scenario, record in self._running.items():
             with self.guarded("a record is left"):
                 if scenario not in self._failures:
@@ -248,6 +253,10 @@ class Sessions(Told):
         self._records.clear()
         self._running.clear()
         self._failures.clear()
+
+    def _count_record(self, path: Path) -> None:
+        if self._count is not None:
+            self._count(path)
 
     def close(self) -> None:
         """Closes those that the test hasn't closed, with a time limit for all. What it has dropped is closed already."""

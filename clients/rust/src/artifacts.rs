@@ -246,7 +246,7 @@ fn plain(name: &[u8], most: usize) -> String {
 }
 
 /// 48 bits of an FNV-1a of the parts.
-fn digest(parts: &[&[u8]]) -> u64 {
+pub(crate) fn digest(parts: &[&[u8]]) -> u64 {
     let digest = parts
         .concat()
         .iter()

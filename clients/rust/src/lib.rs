@@ -38,6 +38,7 @@ mod earlier;
 mod endings;
 mod error;
 mod flags;
+pub mod fuzz;
 mod numbers;
 mod pages;
 mod record;

@@ -1,6 +1,7 @@
 //! A session, and its calls.
 
 use crate::artifacts::tell_lost;
+use crate::fuzz;
 use crate::record::{self, Recording};
 use crate::refusals::{self, Rows};
 use crate::replies::{checked, new, reply};
@@ -50,6 +51,8 @@ pub struct Session {
     recorded: usize,
     /// Whether the last step was answered by an errno or `held`.
     is_refused: bool,
+    /// Whether a fuzzer is told of each step.
+    is_noted: bool,
 }
 
 impl Session {
@@ -78,6 +81,7 @@ impl Session {
             is_test: false,
             recorded: 0,
             is_refused: false,
+            is_noted: false,
         }
     }
 
@@ -119,6 +123,11 @@ impl Session {
         self.is_test = true;
     }
 
+    /// From now on a fuzzer is told of each step.
+    pub(crate) fn note_steps(&mut self) {
+        self.is_noted = true;
+    }
+
     pub(crate) fn recorded_steps(&self) -> usize {
         self.recorded
     }
@@ -132,8 +141,11 @@ impl Session {
         self.record_error.as_ref()
     }
 
-    /// Adds the last step to the recording, if there is one.
+    /// Adds the last step to the recording, and tells a fuzzer of it, if they are there.
     fn recorded(&mut self) -> Result<(), Error> {
+        if self.is_noted {
+            fuzz::note(self);
+        }
         let Some(mut recording) = self.recording.take() else {
             return Ok(());
         };

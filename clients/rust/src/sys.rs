@@ -7,6 +7,7 @@ use std::ffi::{c_char, c_int, c_void, CStr};
 use std::fs::File;
 use std::io;
 use std::os::fd::AsRawFd;
+use std::sync::atomic::AtomicU8;
 
 #[cfg(not(all(target_os = "linux", target_pointer_width = "64")))]
 compile_error!("the library of tracehost is for 64-bit Linux");
@@ -383,6 +384,13 @@ steps! {
     ptrace = tracehost_ptrace(caller: u32, request: u32, target: u32, data: u32);
     turn = tracehost_turn(lwp: u32, act: u32, call: u32, argument: u32);
 }
+
+#[allow(clippy::declare_interior_mutable_const)] // each place of the array has a value of its own
+const UNSEEN: AtomicU8 = AtomicU8::new(0);
+/// The states that a fuzzer tells apart: libFuzzer looks at this section for counters.
+#[used] // else its stores are dead
+#[link_section = "__libfuzzer_extra_counters"]
+pub static SEEN: [AtomicU8; 1 << 13] = [UNSEEN; 1 << 13];
 
 #[cfg(test)]
 mod tests {
