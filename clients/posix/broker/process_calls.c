@@ -198,6 +198,7 @@ BODY(foreign)
 	(void)call, (void)arguments;
 	l->born = false;
 	l->foreign = true;
+	not_reported(l, "those of a program without the runtime");
 	user(l);
 	say("ok");
 }

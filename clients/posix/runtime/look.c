@@ -157,6 +157,8 @@ static struct kinfo_proc answered(pid_t pid, int thread)
 	process.ki_stat = (char)tracehost_number(), process.ki_ppid = (pid_t)tracehost_number();
 	process.ki_tracer = (pid_t)tracehost_number(), process.ki_numthreads = (int)tracehost_number();
 	process.ki_uid = process.ki_ruid = process.ki_svuid = getuid(), process.ki_rgid = process.ki_svgid = getgid();
+	const int groups = getgroups(KI_NGROUPS, process.ki_groups); /* fails if there are more */
+	process.ki_ngroups = (short)(groups > 0 ? groups : 0);
 	long real = tracehost_number();
 	process.ki_tid = (lwpid_t)tracehost_number();
 	process.ki_flag = tracehost_number() | (process.ki_tracer != 0 ? P_TRACED : 0);

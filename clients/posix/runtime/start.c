@@ -21,7 +21,8 @@
 
 enum {
 	TICK_MS = 50, /* of a thread's processor time */
-	HELD_CALL = 1, /* si_code of a SIGSYS by seccomp(2), SYS_SECCOMP of the kernel's headers */
+	HELD_CALL = 1, /* si_code of a SIGSYS by seccomp(2), SYS_SECCOMP of the kernel's headers; and of one of dispatch.c */
+	DISPATCHED_CALL = 2,
 };
 
 /* Each file that is compiled with <tracehost/posix.h> has an item here. */
@@ -60,9 +61,28 @@ static int is_in_entry(void *context)
 	return at >= __start_tracehost_entry && at < __stop_tracehost_entry;
 }
 
-static void on_poke(int number, siginfo_t *info, void *context)
+/* A handler of the host's signals begins, and ends: in the runtime no call is dispatched. What the program's next call is, a
+ * question in between may have changed. */
+struct handling {
+	char selector, handles;
+};
+
+static struct handling begin_handling(void)
 {
-	(void)number;
+	const struct handling before = {own.now.selector, own.now.handles};
+	own.now.selector = 0, own.now.handles = 1;
+	return before;
+}
+
+static void end_handling(struct handling before, void *context)
+{
+	const int is_program = !before.handles && !own.now.inside && !own.busy && own.fd >= 0 && !is_in_entry(context);
+	own.now.handles = before.handles;
+	own.now.selector = is_program ? own.now.watches : before.selector;
+}
+
+static void look_at_poke(const siginfo_t *info, void *context)
+{
 	if (own.busy || own.fd < 0 || is_in_entry(context))
 		return;
 	if (info->si_code == SI_TIMER && own.seen != own.questions)
@@ -71,15 +91,25 @@ static void on_poke(int number, siginfo_t *info, void *context)
 		tracehost_ask_between(place_of(context), info->si_code == SI_TIMER ? "poke 0" : "poke 1", context);
 }
 
+static void on_poke(int number, siginfo_t *info, void *context)
+{
+	const struct handling before = begin_handling();
+	(void)number;
+	look_at_poke(info, context);
+	end_handling(before, context);
+}
+
 /* If the server and the broker are killed, nobody ends a process that sleeps in a call of the host's: it does itself. */
 static void on_parent_end(int number, siginfo_t *info, void *context)
 {
 	char byte;
 	const int saved = errno;
-	(void)number, (void)info, (void)context;
+	const struct handling before = begin_handling();
+	(void)number, (void)info;
 	for (int i = 0; i < THREADS; i++)
 		if (own_fds[i] != 0 && recv(own_fds[i], &byte, 1, MSG_PEEK | MSG_DONTWAIT) == 0)
 			_exit(0);
+	end_handling(before, context);
 	errno = saved;
 }
 
@@ -127,7 +157,7 @@ static int freebsd_number(int number)
 	return BSD_SIGABRT;
 }
 
-static void on_fault(int number, siginfo_t *info, void *context)
+static void look_at_fault(int number, siginfo_t *info, void *context)
 {
 	char question[64];
 	const char *at = (const char *)((ucontext_t *)context)->uc_mcontext.gregs[REG_RIP];
@@ -145,6 +175,19 @@ static void on_fault(int number, siginfo_t *info, void *context)
 	const struct fault fault = info->si_code <= 0 ? sent : fault_of(number, info, at);
 	snprintf(question, sizeof question, "fault %d %d %ld", fault.number, fault.code, (long)fault.address);
 	tracehost_ask_between(number == SIGTRAP ? at : own.now.inside ? HERE : at + 1, question, context);
+}
+
+static void on_fault(int number, siginfo_t *info, void *context)
+{
+	const struct handling before = begin_handling();
+	if (number == SIGSYS && info->si_code == DISPATCHED_CALL) {
+		if (tracehost_dispatch(info, context)) {
+			own.now.handles = before.handles; /* the selector stays: the call isn't dispatched again */
+			return;
+		}
+	} else
+		look_at_fault(number, info, context);
+	end_handling(before, context);
 }
 
 void tracehost_host_signals(void)
@@ -184,6 +227,7 @@ void tracehost_begin(int fd, int pid, int tid)
 	}
 	own_fds[i] = fd;
 	own.fd = fd, own.tid = tid, own_pid = pid, own_real = getpid();
+	own.dispatches = 0; /* a fork's child has none */
 	if (own_real == syscall(SYS_gettid)) /* its only thread */
 		prctl(PR_SET_PDEATHSIG, PARENT_ENDS);
 	own.busy = 1;
@@ -198,6 +242,7 @@ void tracehost_begin(int fd, int pid, int tid)
 
 void tracehost_let_go(void)
 {
+	own.now.watches = own.now.selector = 0;
 	for (int i = 0; i < THREADS; i++)
 		if (own_fds[i] == own.fd)
 			own_fds[i] = 0;

@@ -9,6 +9,7 @@
 #define SZOMB 5
 
 #define P_TRACED 0x00800
+#define P_WEXIT 0x02000 /* of none */
 #define P_STOPPED_SIG 0x20000
 #define P_STOPPED_TRACE 0x40000
 

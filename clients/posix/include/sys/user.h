@@ -10,6 +10,7 @@
 
 #define COMMLEN 19
 #define TDNAMLEN 16
+#define KI_NGROUPS 16
 
 struct kinfo_proc {
 	int ki_structsize;
@@ -17,6 +18,8 @@ struct kinfo_proc {
 	pid_t ki_pgid, ki_sid, ki_tracer, ki_reaper;
 	uid_t ki_uid, ki_ruid, ki_svuid;
 	gid_t ki_rgid, ki_svgid;
+	short ki_ngroups;
+	gid_t ki_groups[KI_NGROUPS]; /* the caller's, as its user */
 	int ki_numthreads;
 	lwpid_t ki_tid; /* of its first thread, or of each with KERN_PROC_INC_THREAD: then ki_siglist is the thread's own too */
 	sigset_t ki_siglist, ki_sigmask, ki_sigignore, ki_sigcatch;
