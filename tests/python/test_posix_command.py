@@ -173,9 +173,6 @@ int main(int argc, char **argv)
 	TRY(popen, "true", "r");
 	TRY(daemon, 0, 0);
 	TRY(clone, nothing, argv + 1000, 0, NULL);
-	TRY(setsid);
-	TRY(setpgid, 0, 0);
-	TRY(killpg, 0, 0);
 	TRY(sigqueue, 0, 0, (union sigval){0});
 	TRY(clock_settime, 99, &never);
 	TRY(settimeofday, NULL, NULL);
@@ -253,6 +250,28 @@ def test_a_call_that_is_not_there_ends_the_run(folder: pathlib.Path, call: str) 
     assert done.returncode == 1
     assert f"calls {call}, which isn't among the calls of this runtime" in done.stderr
     assert f"in {call} at {folder}/refused.c:" in done.stderr
+
+
+GROUPS = """
+#include <errno.h>
+#include <signal.h>
+#include <sys/wait.h>
+#include <unistd.h>
+int main(void) { return CALL ? 0 : errno; }
+"""
+
+
+@pytest.mark.parametrize("call", ["setsid() == -1", "setpgid(0, 0) == 0", "kill(0, 0) == 0", "getpgrp() == getpid()"])
+def test_process_groups_are_not_proved(call: str, tmp_path: pathlib.Path) -> None:
+    program = compiled(tmp_path, "groups", GROUPS, f"-DCALL={call}")
+    done = run(RUN, program)
+    asks = not call.startswith("getpgrp")
+    assert done.returncode == 0
+    assert ("process groups were used, which the model doesn't have: not proved" in done.stderr) == asks
+    strict = run(RUN, "--strict", program)
+    if call.startswith("set"):
+        assert f"calls {call.partition('(')[0]}, which isn't among the calls of this runtime" in strict.stderr
+    assert strict.returncode == asks and "not proved" not in strict.stderr
 
 
 def test_a_call_of_32_bits_is_held(folder: pathlib.Path) -> None:

@@ -53,6 +53,15 @@ BODY(apply);
 BODY(setstep);
 BODY(thread);
 
+/* group_calls.c */
+BODY(setpgid_call);
+BODY(setsid_call);
+BODY(group_call);
+void use_groups(struct lwp *l, const char *call);
+bool names_group(int64_t which);
+void kill_group(struct lwp *l, int which, int signal);
+int reportable_of_group(struct lwp *l, int64_t which, bool stops, int pids[PROCESSES]);
+
 /* waiting_calls.c */
 BODY(wait_call);
 BODY(enter_only);
@@ -77,6 +86,7 @@ void close_all_described(struct process *p);
 void tell_fork(const struct process *p, const struct process *child);
 
 /* of more than one file */
+void posted(struct lwp *l, struct process *const *targets, size_t count, int signal);
 int send_to_lwp(struct lwp *l, int64_t tid, int64_t signal);
 void ring(struct lwp *timer);
 int find_described(const struct process *p, int64_t pid);

@@ -23,7 +23,7 @@
 /* The runtime's functions that have the arguments of their system call. These ask at once, and that enters the call. */
 #define CALLS_THAT_ASK(CALL) \
 	CALL(read, 3) CALL(write, 4) CALL(close, 6) CALL(dup, 41) CALL(dup2, 90) CALL(pipe2, 542) CALL(socketpair, 135) \
-	CALL(poll, 209) CALL(getpid, 20) CALL(getppid, 39) CALL(getpgrp, 81) CALL(kill, 37) CALL(wait4, 7) CALL(thr_self, 432) \
+	CALL(poll, 209) CALL(getpid, 20) CALL(getppid, 39) CALL(getpgrp, 81) CALL(kill, 37) CALL(setpgid, 82) CALL(setsid, 147) CALL(wait4, 7) CALL(thr_self, 432) \
 	CALL(thr_kill, 433) CALL(sched_yield, 331)
 #define OTHER_CALLS(CALL) \
 	CALL(readv, 120) CALL(writev, 121) CALL(close_range, 575) CALL(select, 93) CALL(kqueue, 362) CALL(kevent, 560) \

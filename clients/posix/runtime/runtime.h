@@ -223,6 +223,9 @@ int tracehost_dup2(int from, int to);
 int tracehost_sigprocmask(int how, const sigset_t *new, sigset_t *old);
 void (*tracehost_signal(int number, void (*handler)(int)))(int);
 
+int tracehost_setpgid(pid_t pid, pid_t group);
+pid_t tracehost_setsid(void);
+
 /* The last handler of exit(3) runs. */
 extern int tracehost_exiting;
 

@@ -99,10 +99,11 @@ static int do_attributes(const posix_spawnattr_t *attributes)
 	sigset_t set;
 	if (attributes != NULL)
 		posix_spawnattr_getflags(attributes, &flags);
-	if (flags & POSIX_SPAWN_SETPGROUP) {
-		tracehost_say("posix_spawn: the model has no process groups (EINVAL)");
-		return EINVAL;
-	}
+	pid_t group;
+	if (flags & POSIX_SPAWN_SETSID && tracehost_setsid() == -1)
+		return errno;
+	if (flags & POSIX_SPAWN_SETPGROUP && posix_spawnattr_getpgroup(attributes, &group) == 0 && tracehost_setpgid(0, group) != 0)
+		return errno;
 	if (flags & POSIX_SPAWN_SETSIGMASK && posix_spawnattr_getsigmask(attributes, &set) == 0)
 		tracehost_sigprocmask(BSD_SIG_SETMASK, &set, NULL);
 	if (flags & POSIX_SPAWN_SETSIGDEF && posix_spawnattr_getsigdefault(attributes, &set) == 0)
