@@ -3,6 +3,8 @@
 #define CALLS_H
 #include "run.h"
 
+enum { COMPUTES, ASLEEP_IN_HOST, SPINS }; /* why a thread asks `poke` */
+
 #define BODY(name) void name(struct lwp *l, const struct call *call, const int64_t *arguments)
 
 /* process_calls.c */

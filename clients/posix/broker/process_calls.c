@@ -3,7 +3,7 @@
 #include <string.h>
 #include "calls.h"
 
-enum { COMPUTED = 50000000 }; /* nanoseconds that a thread has computed that asks `poke` */
+enum { COMPUTED = 50000000, SPUN = 5000000 }; /* nanoseconds that a thread has computed that asks `poke`, or spun */
 
 /* A new thread, process or image: it goes on once it may run. An image learns which signals it ignores. One that is in a
  * call, and traced, asks again as that returns. */
@@ -239,12 +239,12 @@ BODY(cancel)
 /* A thread that computes for long, or is asleep in a call of the host's: others go on, and signals are met. */
 BODY(poke)
 {
-	bool asleep = arguments[0];
+	bool asleep = arguments[0] == ASLEEP_IN_HOST;
 	int pid = l->process->pid;
 	(void)call;
 	l->yields = true;
 	if (!asleep)
-		table.now = later(now(), COMPUTED);
+		table.now = later(now(), arguments[0] == SPINS ? SPUN : COMPUTED);
 	others(l);
 	if (asleep && !is_due(l)) {
 		l->hosted = true;

@@ -250,5 +250,7 @@ enum reading read_question(char *line, struct question *q)
 		return read_enter(end, q) ? ASKS : FOREIGN_TEXT;
 	if (q->call->body == hello)
 		return read_hello(end, q) ? ASKS : FOREIGN_TEXT;
+	if (q->call->body == poke)
+		return read_call(end, q) == ASKS && q->arguments[0] >= COMPUTES && q->arguments[0] <= SPINS ? ASKS : FOREIGN_TEXT;
 	return read_call(end, q);
 }

@@ -151,7 +151,7 @@ struct lwp {
 	int altered; /* at its entry, by a debugger */
 	bool anew; /* its question is void: it makes the call anew */
 	int replaced; /* by its debugger: the code of the call that it makes; 0 if that is the one it has entered */
-	int pokes;
+	double computed; /* seconds, since its last call */
 	/* its question */
 	uint64_t where;
 	char asked[ASKED];

@@ -11,6 +11,7 @@
 #include <sys/types.h>
 #include <sys/wait.h>
 #include <time.h>
+#include <ucontext.h>
 #include "../include/machine/reg.h"
 
 enum {
@@ -83,6 +84,9 @@ struct own {
 	int tid;
 	volatile int busy; /* in a question: a poke is of no use, and a fault is the runtime's own */
 	unsigned questions, seen; /* asked, and asked at the last tick */
+	long since; /* the processor time then, in ms */
+	gregset_t sample; /* registers at the last tick */
+	int has_sample;
 	int passed; /* a descriptor that came with the answer, or -1 */
 	char *at; /* the rest of the answer */
 	const void *where; /* the program's call of exit(3), which asks later */

@@ -20,7 +20,9 @@
 #include "runtime.h"
 
 enum {
-	TICK_MS = 50, /* of a thread's processor time */
+	TICK_MS = 2, /* of a thread's processor time, or as often as the host's kernel looks */
+	COMPUTES_MS = 95, /* after which it is made to ask */
+	LOOP_BYTES = 64, /* of one that waits for another thread's store */
 	HELD_CALL = 1, /* si_code of a SIGSYS by seccomp(2), SYS_SECCOMP of the kernel's headers; and of one of dispatch.c */
 	DISPATCHED_CALL = 2,
 };
@@ -81,14 +83,42 @@ static void end_handling(struct handling before, void *context)
 	own.now.selector = is_program ? own.now.watches : before.selector;
 }
 
+static long computed_ms(void)
+{
+	struct timespec used;
+	clock_gettime(CLOCK_THREAD_CPUTIME_ID, &used);
+	return used.tv_sec * 1000 + used.tv_nsec / 1000000;
+}
+
+/* Whether the thread is where it was at the last tick, with the same registers: a loop that only reads memory. */
+static int spins(void *context)
+{
+	const greg_t *g = ((ucontext_t *)context)->uc_mcontext.gregs;
+	const greg_t moved = g[REG_RIP] - own.sample[REG_RIP];
+	const int is_same = own.has_sample && moved > -LOOP_BYTES && moved < LOOP_BYTES && memcmp(g, own.sample, sizeof(greg_t) * REG_RIP) == 0;
+	memcpy(own.sample, g, sizeof own.sample);
+	own.has_sample = 1;
+	return is_same;
+}
+
+/* The question of a thread that has asked nothing for long; NULL for none. */
+static const char *question_of_tick(void *context)
+{
+	if (own.seen != own.questions) { /* it has asked since the last tick */
+		own.seen = own.questions, own.since = computed_ms(), own.has_sample = 0;
+		spins(context);
+		return NULL;
+	}
+	return spins(context) ? "poke 2" : computed_ms() - own.since >= COMPUTES_MS ? "poke 0" : NULL;
+}
+
 static void look_at_poke(const siginfo_t *info, void *context)
 {
 	if (own.busy || own.fd < 0 || is_in_entry(context))
 		return;
-	if (info->si_code == SI_TIMER && own.seen != own.questions)
-		own.seen = own.questions; /* it has asked since the last tick */
-	else
-		tracehost_ask_between(place_of(context), info->si_code == SI_TIMER ? "poke 0" : "poke 1", context);
+	const char *question = info->si_code == SI_TIMER ? question_of_tick(context) : "poke 1";
+	if (question != NULL)
+		tracehost_ask_between(place_of(context), question, context);
 }
 
 static void on_poke(int number, siginfo_t *info, void *context)
