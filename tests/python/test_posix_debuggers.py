@@ -115,7 +115,12 @@ def lldb_files(outside: Outside, source: pathlib.Path) -> list[pathlib.Path]:
         for name, names in TOGETHER.items()
     ]
     utility = sorted(path for path in source.glob("Utility/*.cpp") if path.stem not in UNUSED.split() and "Trace" not in path.stem)
-    return [*files, together(outside, "utility", utility), *(source / f"{name}.cpp" for name in ALONE.split()), FOREIGN / "lldb.cpp"]
+    return [
+        *files,
+        together(outside, "utility", utility),
+        *(source / f"{name}.cpp" for name in ALONE.split()),
+        FOREIGN / "lldb.cpp",
+    ]
 
 
 @pytest.fixture(scope="module")

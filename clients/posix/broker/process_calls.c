@@ -378,8 +378,8 @@ BODY(stat_call)
 	if (!is_there || !rows_of((int)arguments[0], tid, &row, &thread))
 		say_error(ESRCH);
 	else
-		say("ok %d %u %u %zu %d %d %d %u %u %u %d %u %u %d %d", stat_of(&row), row.parent, row.tracer, count, p != NULL ? p->real : 0,
-			tid, flags_of(&row), row.pending << 1, p != NULL ? p->ignored : 0, p != NULL ? p->catches : 0,
-			stat_of_lwp(&row, &thread), thread.blocked << 1, thread.pending << 1,
-			p != NULL ? p->group : group_of(arguments[0]), p != NULL ? p->session : 0);
+		say("ok %d %u %u %zu %d %d %d %u %u %u %d %u %u %d %d", stat_of(&row), row.parent, row.tracer, count,
+			p != NULL ? p->real : 0, tid, flags_of(&row), row.pending << 1, p != NULL ? p->ignored : 0, p != NULL ? p->catches : 0,
+			stat_of_lwp(&row, &thread), thread.blocked << 1, thread.pending << 1, p != NULL ? p->group : group_of(arguments[0]),
+			p != NULL ? p->session : 0);
 }

@@ -114,10 +114,10 @@ static int convert(const struct row *row, long a[6])
 	if (row->form == SAME || row->form == HOSTS || row->form == OF_PATH_OR_DESCRIPTOR)
 		return row->code;
 	const long flags = row->form == CREATES ? O_CREAT | O_WRONLY | O_TRUNC : a[1];
-	const long last = row->form == CREATES                  ? a[1]
-					  : row->form == FOLDER                 ? a[2]
-					  : row->form == FOLDER_AND_NO_LINK     ? AT_SYMLINK_NOFOLLOW
-															: 0;
+	const long last = row->form == CREATES              ? a[1]
+					  : row->form == FOLDER             ? a[2]
+					  : row->form == FOLDER_AND_NO_LINK ? AT_SYMLINK_NOFOLLOW
+														: 0;
 	a[3] = last, a[2] = flags, a[1] = a[0], a[0] = AT_FDCWD;
 	return row->code;
 }
@@ -151,7 +151,8 @@ static void come_back(void *context, long result)
 		g[REG_RAX] = -error;
 }
 
-static void make_call(void *context, long (*make)(const struct frame *, const struct row *, long[6]), const struct row *row, long a[6])
+static void make_call(
+	void *context, long (*make)(const struct frame *, const struct row *, long[6]), const struct row *row, long a[6])
 {
 	greg_t *g = general(context);
 	const void *place[1] = {(const void *)g[REG_RIP]};

@@ -172,10 +172,7 @@ static void ask_stepped(void *context)
 
 enum { INSTRUCTION = 2 /* bytes of the one that makes a system call */ };
 
-int tracehost_goes_back(void *context, const void *behind)
-{
-	return general(context)[REG_RIP] == (greg_t)behind - INSTRUCTION;
-}
+int tracehost_goes_back(void *context, const void *behind) { return general(context)[REG_RIP] == (greg_t)behind - INSTRUCTION; }
 
 /* A debugger has set the thread back to the call's instruction: it makes a call once more, the one that its registers say. What
  * it returns to is still on its stack. */

@@ -52,7 +52,7 @@ static const struct row {
 #define HOST(name, code, count) {(const void *)(size_t)name, code, OF_HOST},
 	CALLS_THAT_ASK(ASKING) OTHER_CALLS(BEGINNING) OTHER_FORMS(ASKING)
 #include "hosts.inc"
-	{(const void *)(size_t)open, SYSCALL_OPEN, OF_HOST}, /* what the C library doesn't make */
+		{(const void *)(size_t)open, SYSCALL_OPEN, OF_HOST}, /* what the C library doesn't make */
 };
 
 static const struct row *row_of(const void *function)

@@ -95,7 +95,8 @@ static int spins(void *context)
 {
 	const greg_t *g = ((ucontext_t *)context)->uc_mcontext.gregs;
 	const greg_t moved = g[REG_RIP] - own.sample[REG_RIP];
-	const int is_same = own.has_sample && moved > -LOOP_BYTES && moved < LOOP_BYTES && memcmp(g, own.sample, sizeof(greg_t) * REG_RIP) == 0;
+	const int is_same =
+		own.has_sample && moved > -LOOP_BYTES && moved < LOOP_BYTES && memcmp(g, own.sample, sizeof(greg_t) * REG_RIP) == 0;
 	memcpy(own.sample, g, sizeof own.sample);
 	own.has_sample = 1;
 	return is_same;
