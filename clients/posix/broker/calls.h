@@ -59,6 +59,8 @@ BODY(thread);
 BODY(setpgid_call);
 BODY(setsid_call);
 BODY(group_call);
+void tell_orphan_stop(const struct process *p, int signal);
+void tell_orphans(void);
 void use_groups(struct lwp *l, const char *call);
 bool names_group(int64_t which);
 void kill_group(struct lwp *l, int which, int signal);

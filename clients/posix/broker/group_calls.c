@@ -98,6 +98,38 @@ BODY(group_call)
 		say_error(ESRCH);
 }
 
+/* ---- orphaned groups, of which the model knows nothing: what FreeBSD does otherwise is told */
+
+/* Whether no member has a parent in another group of its session. The first process has one, a shell; process 1 is none. */
+static bool is_orphaned(int group)
+{
+	for (EACH_PROCESS(p)) {
+		const struct process *p = table.processes.at[p_at], *parent = live_process(p->parent);
+		if (p->group != group)
+			continue;
+		if (parent == NULL ? p == run.first : parent->session == p->session && parent->group != group)
+			return false;
+	}
+	return true;
+}
+
+void tell_orphan_stop(const struct process *p, int signal)
+{
+	enum { TSTP = 18, TTIN = 21, TTOU = 22 };
+	if ((signal == TSTP || signal == TTIN || signal == TTOU) && !has(p->catches | p->ignored, signal) && is_orphaned(p->group))
+		remark("a process of an orphaned group is sent signal %d, which stops it here, and not on FreeBSD", signal);
+}
+
+/* A process has ended: its group, and those of its children, may be orphaned since. */
+void tell_orphans(void)
+{
+	for (EACH_PROCESS(p)) {
+		const struct process *p = table.processes.at[p_at];
+		if (p->stops && p->tracer == 0 && p->group != run.first->group && is_orphaned(p->group))
+			remark("a process that was stopped is left in an orphaned group: if it still is, FreeBSD sends SIGHUP and SIGCONT");
+	}
+}
+
 /* ---- kill(2) of a group */
 
 bool names_group(int64_t which) { return !options.strict && (which == 0 || which < -1); }

@@ -13,6 +13,7 @@ void posted(struct lwp *l, struct process *const *targets, size_t count, int sig
 	for (size_t i = 0; i < count; i++) {
 		struct process *p = targets[i];
 		send_info(p, (struct info){.signal = signal, .code = BSD_SI_USER, .sender = l->process->pid});
+		tell_orphan_stop(p, signal);
 		count_signal(p, signal);
 		nudge(p, signal);
 		if (signal == CONT) {
