@@ -33,6 +33,15 @@ static void *look(int what, pid_t pid, size_t *size)
 	return NULL;
 }
 
+struct kinfo_file *kinfo_getfile(pid_t pid, int *count);
+WEAK struct kinfo_file *kinfo_getfile(pid_t pid, int *count)
+{
+	tracehost_say("kinfo_getfile: the files of process %d aren't here (ENOSYS)", pid);
+	*count = 0;
+	errno = ENOSYS;
+	return NULL;
+}
+
 struct procstat *procstat_open_sysctl(void);
 WEAK struct procstat *procstat_open_sysctl(void) { return calloc(1, sizeof(struct procstat)); }
 

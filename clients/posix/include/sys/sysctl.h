@@ -17,6 +17,7 @@
 #define KERN_PROC_PATHNAME 12
 #define KERN_PROC_VMMAP 32
 #define KERN_PROC_AUXV 36
+#define KERN_PROC_PS_STRINGS 38 /* ENOENT */
 
 #ifdef __cplusplus
 extern "C"
