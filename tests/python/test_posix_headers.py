@@ -29,7 +29,7 @@ kinfo_proc and kinfo_vmentry have only some members."""
 
 UNNAMED = re.compile(
     r"ATF_|TRACEHOST_|(DBREG|FPE|PSL|SI|VM_PROT|XFEATURE)_"
-    r"|(SYS_futex|EV_KEEPUDATA|KQUEUE_CLOEXEC|WAIT_ANY|AT_COUNT|(MIN)?SIGSTKSZ)$"
+    r"|(SYS_futex|EV_KEEPUDATA|KQUEUE_CLOEXEC|WAIT_ANY|AT_COUNT|SIGSTKSZ)$"
 )
 """What neither copy names: what isn't of FreeBSD, and parts of its headers that they leave out."""
 
