@@ -252,69 +252,6 @@ def test_a_call_that_is_not_there_ends_the_run(folder: pathlib.Path, call: str) 
     assert f"in {call} at {folder}/refused.c:" in done.stderr
 
 
-GROUPS = """
-#include <errno.h>
-#include <signal.h>
-#include <sys/wait.h>
-#include <unistd.h>
-int main(void) { return CALL ? 0 : errno; }
-"""
-
-
-@pytest.mark.parametrize("call", ["setsid() == -1", "setpgid(0, 0) == 0", "kill(0, 0) == 0", "getpgrp() == getpid()"])
-def test_process_groups_are_not_proved(call: str, tmp_path: pathlib.Path) -> None:
-    program = compiled(tmp_path, "groups", GROUPS, f"-DCALL={call}")
-    done = run(RUN, program)
-    asks = not call.startswith("getpgrp")
-    assert done.returncode == 0
-    assert ("process groups were used, which the model doesn't have: not proved" in done.stderr) == asks
-    strict = run(RUN, "--strict", program)
-    if call.startswith("set"):
-        assert f"calls {call.partition('(')[0]}, which isn't among the calls of this runtime" in strict.stderr
-    assert strict.returncode == asks and "not proved" not in strict.stderr
-
-
-ORPHANS = """
-#include <signal.h>
-#include <sys/wait.h>
-#include <unistd.h>
-int main(int argc, char **argv)
-{
-	int status, ends[2];
-	pid_t child, left;
-	pipe(ends);
-	if ((child = fork()) == 0 && argc > 1) {
-		setsid();
-		write(ends[1], &child, sizeof child);
-		pause();
-	} else if (child == 0) {
-		if ((left = fork()) == 0) {
-			setpgid(0, 0);
-			raise(SIGSTOP);
-		}
-		waitpid(left, &status, WUNTRACED);
-		write(ends[1], &left, sizeof left);
-		_exit(0);
-	}
-	read(ends[0], &left, sizeof left);
-	if (argc > 1)
-		kill(child, SIGTSTP), kill(child, SIGKILL);
-	waitpid(child, &status, 0);
-	if (argc == 1)
-		kill(left, SIGKILL);
-	return 0;
-}
-"""
-
-
-def test_orphaned_groups_are_told(tmp_path: pathlib.Path) -> None:
-    program = compiled(tmp_path, "orphans", ORPHANS)
-    left, stopped = run(RUN, program), run(RUN, program, "stop")
-    assert left.returncode == stopped.returncode == 0
-    assert "left in an orphaned group: if it still is, FreeBSD sends SIGHUP and SIGCONT" in left.stderr, left.stderr
-    assert "sent signal 18, which stops it here, and not on FreeBSD" in stopped.stderr, stopped.stderr
-
-
 def test_a_call_of_32_bits_is_held(folder: pathlib.Path) -> None:
     done = run(RUN, folder / "past", "instruction", "int80")
     assert done.returncode == 1 and "calls int80 past the runtime" in done.stderr

@@ -237,6 +237,7 @@ extern int tracehost_exiting;
 void tracehost_say(const char *format, ...) __attribute__((format(printf, 1, 2)));
 
 void tracehost_host_signals(void);
+void tracehost_start_ticks(void);
 int tracehost_send_fault(int host_signal);
 int tracehost_own_descriptor(int fd);
 
