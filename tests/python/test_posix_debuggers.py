@@ -88,8 +88,8 @@ TOGETHER = {
         Host/common/ProcessLaunchInfo Host/common/HostInfoBase Host/common/ThreadLauncher Host/posix/FileSystemPosix
         Host/posix/HostInfoPosix Host/posix/HostProcessPosix Host/posix/HostThreadPosix Host/posix/PipePosix
         Host/freebsd/Host Host/freebsd/HostInfoFreeBSD Host/common/Host Plugins/Process/POSIX/ProcessPOSIXLog
-        Plugins/Process/Utility/RegisterContextFreeBSD_x86_64
-        Plugins/Process/Utility/NativeRegisterContextRegisterInfo Plugins/Process/Utility/RegisterContext_x86 Plugins/Process/Utility/NativeRegisterContextDBReg_x86
+        Plugins/Process/Utility/RegisterContextFreeBSD_x86_64 Plugins/Process/Utility/NativeRegisterContextRegisterInfo
+        Plugins/Process/Utility/RegisterContext_x86 Plugins/Process/Utility/NativeRegisterContextDBReg_x86
         Plugins/Process/Utility/AuxVector""",
     "others": """Utility/LLDBAssert Utility/Reproducer Utility/ReproducerProvider Utility/StructuredData
         Utility/TildeExpressionResolver Utility/DataEncoder Utility/GDBRemote Host/common/FileSystem""",
