@@ -157,4 +157,4 @@ def test_a_thread_misses_the_breakpoint_that_lldb_steps_over(outside: Outside, l
     assert done.returncode == 0, done.stderr
     done = outside.run([sys.executable, RUN, "--schedules", 200, lldb, "threads"], 600)
     assert done.returncode == 1 and "the first process exited with status 1" in done.stderr, done.stderr
-    assert "exit code 7, breakpoints 3, steps 3" in done.stderr, done.stderr
+    assert "exit code 7, breakpoints 3, steps 3" in done.stdout + done.stderr, done.stderr
