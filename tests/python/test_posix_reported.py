@@ -77,14 +77,14 @@ NOT_REPORTED = "calls that PT_SYSCALL doesn't report: "
 NO_EFFECT = "calls that don't take the registers that a debugger sets at their entry: "
 
 
-def run(folder: pathlib.Path, call: str, request: str = "PT_SYSCALL", register: str = "r_rbx") -> str:
+def run(folder: pathlib.Path, call: str, request: str = "PT_SYSCALL", register: str = "r_rbx", status: int = 0) -> str:
     """What a run of the program says."""
     before, _, call = call.rpartition("(), ")
     before = f"{before}()" if before else ""
     (folder / "program.c").write_text(PROGRAM.format(before=before, call=call, request=request, register=register))
     subprocess.run([CC, "-g", "-o", folder / "program", folder / "program.c"], check=True)
     done = subprocess.run([sys.executable, RUN, folder / "program"], capture_output=True, text=True, timeout=60)
-    assert done.returncode == 0, done.stderr
+    assert done.returncode == status, done.stderr
     return done.stderr
 
 
@@ -116,6 +116,14 @@ def test_nothing_is_told_without_pt_syscall(tmp_path: pathlib.Path) -> None:
 def test_registers_that_take_no_effect_are_told(tmp_path: pathlib.Path) -> None:
     told = run(tmp_path, "sleep(0), usleep(1)", register="r_rdi")
     assert NO_EFFECT + "sleep, usleep, nanosleep, clock_nanosleep" in told
+
+
+@pytest.mark.parametrize(
+    "call, name", [('execl("/bin/true", "true", NULL)', "execve's family"), ("fork()", "fork"), ("usleep(1)", "sleep, usleep")]
+)
+def test_a_call_that_would_be_made_all_the_same_ends_the_run(call: str, name: str, tmp_path: pathlib.Path) -> None:
+    told = run(tmp_path, call, register="r_rax", status=1)
+    assert f"is made to make another call, or none, by its debugger, which only a kernel can: {name}" in told
 
 
 def test_registers_of_no_call_are_not_told(tmp_path: pathlib.Path) -> None:

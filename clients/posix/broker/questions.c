@@ -68,7 +68,7 @@ static const struct call calls[] = {
 		"PT_READ_D, PT_WRITE_D, PT_IO, PT_VM_ENTRY and their kin"},
 	{"registers", registers_call,  26, 1, 1, "",                             0, 0, false,
 		"PT_GETREGS and its kin, PT_GET_SC_ARGS, PT_GET_SC_RET"},
-	{"apply",     apply,           26, 3, 3, "",                             0, 0, false, "PT_SETREGS and its kin"},
+	{"apply",     apply,           26, 4, 4, "",                             0, 0, false, "PT_SETREGS and its kin"},
 	{"setstep",   setstep,         26, 2, 2, "",                             0, 0, false, "PT_SETSTEP, PT_CLEARSTEP"},
 	{"thread",    thread,          26, 1, 1, "",                             0, 0, false, "PT_LWPINFO's pl_tdname"},
 	{"wait",      wait_call,       7,  2, 2, "enter wait4 leave compute",    NEWS, NEWS, false,

@@ -149,6 +149,7 @@ struct lwp {
 	int entered; /* the code of the call that it is in, or -1 */
 	bool at_entry, begins, begun; /* stopped at a call's entry; by `begin`; in a call that its next step would enter */
 	int altered; /* at its entry, by a debugger */
+	bool denied; /* a debugger has set another number there than the call's */
 	bool anew; /* its question is void: it makes the call anew */
 	int replaced; /* by its debugger: the code of the call that it makes; 0 if that is the one it has entered */
 	double computed; /* seconds, since its last call */

@@ -104,7 +104,7 @@ static int set_debug(const void *where, pid_t target, const struct dbreg *from)
 		return -1;
 	found.record.debug = *from;
 	if (!is_debug(from) || transfer(found.real, found.at, &found.record, sizeof found.record, 1) != sizeof found.record ||
-		tracehost_ask(where, "apply %d %d 0", target, DEBUG) != 0 || was_refused(&found)) {
+		tracehost_ask(where, "apply %d %d 0 0", target, DEBUG) != 0 || was_refused(&found)) {
 		errno = EINVAL;
 		return -1;
 	}
@@ -153,7 +153,8 @@ static int set_registers(const void *where, pid_t target, const void *from, int 
 		memcpy(&record->gs, from, sizeof record->gs);
 	if (transfer(found.real, found.at, record, sizeof *record, 1) != sizeof *record)
 		return -1;
-	return tracehost_ask(where, "apply %d %d %d", target, kind, changes);
+	const long number = record->general.r_rax;
+	return tracehost_ask(where, "apply %d %d %d %ld", target, kind, changes, number);
 }
 
 /* The target goes on there. */
