@@ -199,7 +199,7 @@ void tracehost_land(void *context)
 	const int lands = own.now.lands;
 	const greg_t result = general(context)[REG_RAX];
 	struct reg registers;
-	own.now.lands = 0;
+	own.now.lands = own.set_at_entry = 0;
 	own.error = (int)result == -1 ? errno : 0;
 	if (lands & LANDS_SET)
 		registers = own.later.general;
