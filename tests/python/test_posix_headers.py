@@ -28,8 +28,7 @@ STRUCTURES = ("kevent", "reg", "fpreg", "ptrace_io_desc", "ptrace_sc_ret", "ptra
 kinfo_proc and kinfo_vmentry have only some members."""
 
 UNNAMED = re.compile(
-    r"ATF_|TRACEHOST_|(DBREG|FPE|PSL|SI|VM_PROT|XFEATURE)_"
-    r"|(SYS_futex|EV_KEEPUDATA|KQUEUE_CLOEXEC|WAIT_ANY|AT_COUNT|SIGSTKSZ)$"
+    r"ATF_|TRACEHOST_|(DBREG|FPE|PSL|SI|VM_PROT|XFEATURE)_" r"|(SYS_futex|EV_KEEPUDATA|KQUEUE_CLOEXEC|WAIT_ANY|AT_COUNT|SIGSTKSZ)$"
 )
 """What neither copy names: what isn't of FreeBSD, and parts of its headers that they leave out."""
 
