@@ -132,7 +132,7 @@ void tell_orphans(void)
 
 /* ---- kill(2) of a group */
 
-bool names_group(int64_t which) { return !options.strict && (which == 0 || which < -1); }
+bool names_group(int64_t which) { return !options.strict && (which == 0 || (which < -1 && which >= INT32_MIN)); }
 
 static int64_t group_named(const struct process *caller, int64_t which) { return which == 0 ? caller->group : -which; }
 
