@@ -173,9 +173,6 @@ int main(int argc, char **argv)
 	TRY(popen, "true", "r");
 	TRY(daemon, 0, 0);
 	TRY(clone, nothing, argv + 1000, 0, NULL);
-	TRY(setsid);
-	TRY(setpgid, 0, 0);
-	TRY(killpg, 0, 0);
 	TRY(sigqueue, 0, 0, (union sigval){0});
 	TRY(clock_settime, 99, &never);
 	TRY(settimeofday, NULL, NULL);

@@ -27,11 +27,14 @@ STRUCTURES = ("kevent", "reg", "fpreg", "ptrace_io_desc", "ptrace_sc_ret", "ptra
 """The structures that are FreeBSD's byte for byte. struct ptrace_lwpinfo isn't: it has the host's sigset_t and siginfo_t.
 kinfo_proc and kinfo_vmentry have only some members."""
 
-UNNAMED = re.compile(r"ATF_|TRACEHOST_|SYS_futex$|EV_KEEPUDATA$|KQUEUE_CLOEXEC$|WAIT_ANY$|(DBREG|FPE|PSL|SI)_|SIGSTKSZ$")
+UNNAMED = re.compile(
+    r"ATF_|TRACEHOST_|(DBREG|FPE|PSL|SI|VM_PROT|XFEATURE)_" r"|(SYS_futex|EV_KEEPUDATA|KQUEUE_CLOEXEC|WAIT_ANY|AT_COUNT|SIGSTKSZ)$"
+)
 """What neither copy names: what isn't of FreeBSD, and parts of its headers that they leave out."""
 
 HEADERS = (
-    "sys/types.h sys/event.h sys/proc.h sys/procctl.h sys/procdesc.h sys/ptrace.h sys/resource.h sys/syscall.h sys/sysctl.h "
+    "sys/types.h sys/mount.h vm/vm.h machine/elf.h x86/specialreg.h sys/event.h sys/proc.h sys/procctl.h sys/procdesc.h "
+    "sys/ptrace.h sys/resource.h sys/syscall.h sys/sysctl.h "
     "sys/time.h sys/user.h sys/wait.h machine/reg.h errno.h pthread.h pthread_np.h signal.h stddef.h stdio.h"
 ).split()
 

@@ -14,15 +14,14 @@ import json
 import os
 import pathlib
 import re
-import shutil
 import subprocess
 import sys
-import tempfile
 from collections.abc import Iterator
 from concurrent.futures import ThreadPoolExecutor
-from typing import Any, NamedTuple
+from typing import NamedTuple
 
 import pytest
+from outside_programs import SUITE, Outside, outside_room
 from posix_kit import POSIX, once, shared_folder
 
 TABLE = POSIX / "tests" / "OUTSIDE.txt"
@@ -51,14 +50,9 @@ RESULTS = {
 }
 """`seeds`: it passes plain, and fails under a seed. `varies`: with the machine or its load."""
 STATUSES = {"1": "fail", "255": "fail", "2": "unresolved", "4": "unsupported", "5": "untested"}
-SECONDS = 120
-APT = """\
-Dir::Etc::SourceList "{room}/sources.list"; Dir::Etc::SourceParts "/dev/null"; Dir::State "{room}/state"; Dir::Cache "{room}/cache";
-"""
-SOURCES = "deb-src [signed-by=/usr/share/keyrings/debian-archive-keyring.gpg] http://deb.debian.org/debian bookworm main\n"
 
 pytestmark = pytest.mark.skipif(
-    os.environ.get("TRACEHOST_OUTSIDE_SUITE") != "1",
+    not SUITE,
     reason="TRACEHOST_OUTSIDE_SUITE=1 runs the outside suite, in a quarter of an hour",
 )
 
@@ -72,46 +66,6 @@ def expected() -> dict[str, Expected]:
     """The programs that don't simply pass."""
     rows = (line.split() for line in TABLE.read_text().splitlines() if line and line[0] != "#")
     return {name: Expected(result, reason) for name, result, reason in rows}
-
-
-class Outside:
-    """Runs commands as an unprivileged user, in a folder of that user's."""
-
-    def __init__(self, room: pathlib.Path, program: pathlib.Path) -> None:
-        self.room = room
-        names = {"HOME": room, "TMPDIR": room, "TRACEHOST": program, "APT_CONFIG": room / "apt.conf"}
-        self._environment = {**os.environ, **{name: str(path) for name, path in names.items()}}
-        self._environment.pop("XDG_CACHE_HOME", None)
-        self._user: dict[str, Any] = {"user": "nobody", "group": "nogroup", "extra_groups": []} if os.geteuid() == 0 else {}
-        if self._user:
-            room.chmod(0o755)
-            shutil.chown(room, "nobody", "nogroup")
-
-    def run(self, words: list[object], seconds: float = SECONDS) -> subprocess.CompletedProcess[str]:
-        return subprocess.run(
-            [str(word) for word in words], capture_output=True, text=True, errors="replace", timeout=seconds,
-            cwd=self.room, env=self._environment, stdin=subprocess.DEVNULL, **self._user,
-        )  # fmt: skip
-
-    def source(self, package: str) -> pathlib.Path:
-        """The package's folder, unpacked here."""
-        given = os.environ.get(package.upper())
-        if given:
-            return pathlib.Path(given)
-        for command in ("apt-get", "dpkg-source"):
-            if shutil.which(command) is None:
-                pytest.skip(f"{command} isn't installed: no source packages")
-        for folder in ("state/lists/partial", "cache/archives/partial"):
-            self.run(["mkdir", "-p", folder])
-        (self.room / "sources.list").write_text(SOURCES)
-        (self.room / "apt.conf").write_text(APT.format(room=self.room))
-        for words in (["apt-get", "-q", "update"], ["apt-get", "-q", "source", "--download-only", package]):
-            done = self.run([*words], 300)
-            if done.returncode != 0:
-                pytest.skip(f"{' '.join(words)}: {done.stderr.strip()[-200:]}")
-        done = self.run(["sh", "-c", f"dpkg-source -x {package}_*.dsc {package}"])
-        assert done.returncode == 0, done.stderr
-        return self.room / package
 
 
 def result(done: subprocess.CompletedProcess[str]) -> str:
@@ -146,15 +100,7 @@ def run_one(outside: Outside, suite: pathlib.Path, source: pathlib.Path) -> str:
 
 @pytest.fixture(scope="module")
 def outside(program: pathlib.Path) -> Iterator[Outside]:
-    root = os.geteuid() == 0  # whose folders for temporary files another user may not enter
-    room = pathlib.Path(tempfile.mkdtemp(prefix="tracehost-outside-", dir="/tmp" if root else None))
-    try:
-        made = Outside(room, program)
-        if made.run(["test", "-r", POSIX / "tracehost-run"]).returncode != 0:
-            pytest.skip("this folder can't be read by an unprivileged user, and the suite isn't run as root")
-        yield made
-    finally:
-        shutil.rmtree(room, ignore_errors=True)
+    yield from outside_room(program)
 
 
 def all_results(outside: Outside) -> dict[str, str]:

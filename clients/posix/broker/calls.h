@@ -3,6 +3,8 @@
 #define CALLS_H
 #include "run.h"
 
+enum { COMPUTES, ASLEEP_IN_HOST, SPINS }; /* why a thread asks `poke` */
+
 #define BODY(name) void name(struct lwp *l, const struct call *call, const int64_t *arguments)
 
 /* process_calls.c */
@@ -53,6 +55,17 @@ BODY(apply);
 BODY(setstep);
 BODY(thread);
 
+/* group_calls.c */
+BODY(setpgid_call);
+BODY(setsid_call);
+BODY(group_call);
+void tell_orphan_stop(const struct process *p, int signal);
+void tell_orphans(void);
+void use_groups(struct lwp *l, const char *call);
+bool names_group(int64_t which);
+void kill_group(struct lwp *l, int which, int signal);
+int reportable_of_group(struct lwp *l, int64_t which, bool stops, int pids[PROCESSES]);
+
 /* waiting_calls.c */
 BODY(wait_call);
 BODY(enter_only);
@@ -77,6 +90,7 @@ void close_all_described(struct process *p);
 void tell_fork(const struct process *p, const struct process *child);
 
 /* of more than one file */
+void posted(struct lwp *l, struct process *const *targets, size_t count, int signal);
 int send_to_lwp(struct lwp *l, int64_t tid, int64_t signal);
 void ring(struct lwp *timer);
 int find_described(const struct process *p, int64_t pid);

@@ -110,6 +110,8 @@ static void end_process(struct process *p, int status, struct lwp *exits)
 		forget_lwp(p->lists.replaced.at[i]);
 	release_parent(p);
 	table_end(p, status);
+	if (p != run.first)
+		tell_orphans();
 	happen(ENDED, p->pid, status);
 	end_news(p, status);
 	for (size_t i = 0; i < tracees.count; i++) {

@@ -7,7 +7,8 @@
 #include "run.h"
 
 enum { LAST = 200 }; /* of a run without an end, so many last questions are told */
-static const double between_pokes = 0.1; /* seconds of its processor's time after which a thread that computes asks `poke` */
+/* Seconds of its processor's time after which a thread asks `poke`. */
+static const double until_poke[] = {[COMPUTES] = 0.1, [ASLEEP_IN_HOST] = 0.1, [SPINS] = 0.005};
 
 /* ---- messages */
 
@@ -233,10 +234,10 @@ static bool hear(struct lwp *l, bool amid)
 	if (reading == HANDLED)
 		return false;
 	bool is_poke = reading == ASKS && q.call->body == poke;
-	l->pokes = is_poke ? l->pokes + 1 : 0;
+	l->computed = is_poke ? l->computed + until_poke[q.arguments[0]] : 0;
 	if (is_poke) /* a thread that computes leaves no time without a message */
 		end_if_python_is_gone();
-	if (l->pokes * between_pokes > options.patience)
+	if (l->computed > options.patience)
 		hangs(l);
 	count_busy(l);
 	note_question(l, &q, reading == ASKS && q.call->body == user_call);

@@ -3,7 +3,7 @@
 #include <string.h>
 #include "calls.h"
 
-enum { COMPUTED = 50000000 }; /* nanoseconds that a thread has computed that asks `poke` */
+enum { COMPUTED = 50000000, SPUN = 5000000 }; /* nanoseconds that a thread has computed that asks `poke`, or spun */
 
 /* A new thread, process or image: it goes on once it may run. An image learns which signals it ignores. One that is in a
  * call, and traced, asks again as that returns. */
@@ -84,6 +84,8 @@ static bool find_in_use(const struct process *p, bool in_use[PROCESSES])
 
 static void inherit(struct process *child, const struct process *p)
 {
+	child->session = p->session;
+	set_group(child, p->group);
 	child->catches = p->catches, child->ignored = p->ignored, child->filters = p->filters;
 	memcpy(child->caught, p->caught, sizeof child->caught);
 	for (int i = 0; i < p->n_awaited; i++)
@@ -181,6 +183,7 @@ BODY(exec_image)
 			replace_lwp(p->lists.lwps.at[i]);
 		else
 			i++;
+	p->execed = true;
 	p->catches = 0;
 	p->n_awaited = 0;
 	p->lists.watched.count = p->lists.counts.count = p->lists.happened.count = 0;
@@ -198,6 +201,7 @@ BODY(foreign)
 	(void)call, (void)arguments;
 	l->born = false;
 	l->foreign = true;
+	not_reported(l, "those of a program without the runtime");
 	user(l);
 	say("ok");
 }
@@ -235,12 +239,12 @@ BODY(cancel)
 /* A thread that computes for long, or is asleep in a call of the host's: others go on, and signals are met. */
 BODY(poke)
 {
-	bool asleep = arguments[0];
+	bool asleep = arguments[0] == ASLEEP_IN_HOST;
 	int pid = l->process->pid;
 	(void)call;
 	l->yields = true;
 	if (!asleep)
-		table.now = later(now(), COMPUTED);
+		table.now = later(now(), arguments[0] == SPINS ? SPUN : COMPUTED);
 	others(l);
 	if (asleep && !is_due(l)) {
 		l->hosted = true;
@@ -374,7 +378,8 @@ BODY(stat_call)
 	if (!is_there || !rows_of((int)arguments[0], tid, &row, &thread))
 		say_error(ESRCH);
 	else
-		say("ok %d %u %u %zu %d %d %d %u %u %u %d %u %u", stat_of(&row), row.parent, row.tracer, count, p != NULL ? p->real : 0,
-			tid, flags_of(&row), row.pending << 1, p != NULL ? p->ignored : 0, p != NULL ? p->catches : 0,
-			stat_of_lwp(&row, &thread), thread.blocked << 1, thread.pending << 1);
+		say("ok %d %u %u %zu %d %d %d %u %u %u %d %u %u %d %d", stat_of(&row), row.parent, row.tracer, count,
+			p != NULL ? p->real : 0, tid, flags_of(&row), row.pending << 1, p != NULL ? p->ignored : 0, p != NULL ? p->catches : 0,
+			stat_of_lwp(&row, &thread), thread.blocked << 1, thread.pending << 1, p != NULL ? p->group : group_of(arguments[0]),
+			p != NULL ? p->session : 0);
 }

@@ -30,14 +30,14 @@ static const struct call calls[] = {
 		"locks, semaphores, barriers, pthread_testcancel"},
 	{"cancel",    cancel,          0,  1, 1, "",                             0, NEWS | LOCKS, false, "pthread_cancel"},
 	{"call",      simple,          0,  1, 1, "enter leave compute",          0, 0, false,
-		"getpid, getpgrp, getpgid, getsid, thr_self, dup, pipe, socketpair, sigaltstack, timer_create, kqueue, procctl, pdgetpid, getrlimit, setrlimit"},
+		"getpid, thr_self, dup, pipe, socketpair, sigaltstack, timer_create, kqueue, procctl, pdgetpid, getrlimit, setrlimit"},
 	{"yield",     sched_yield_call, 331, 0, 0, "enter leave compute",          0, 0, false, "sched_yield, pthread_yield_np"},
 	{"getppid",   getppid_call,    39, 0, 0, "enter leave compute",          0, 0, false, "getppid"},
 	{"join",      join,            454, 2, 2, "enter leave compute",          ENDS | TIME, 0, false,
 		"pthread_join, pthread_timedjoin_np"},
 	{"stat",      stat_call,       202, 1, 2, "enter leave compute",          0, 0, false,
 		"sysctl kern.proc, kinfo_getproc, kinfo_getvmmap"},
-	{"kill",      kill_call,       37, 2, 2, "enter kill leave compute",     0, NEWS | RUNS, false, "kill, pdkill"},
+	{"kill",      kill_call,       37, 2, 2, "enter kill leave compute",     0, NEWS | RUNS, false, "kill, killpg, pdkill"},
 	{"thr_kill",  thr_kill,        433, 2, 2, "enter leave raise compute",    0, NEWS, false,
 		"raise, pthread_kill, thr_kill, abort, SIGPIPE"},
 	{"fault",     fault_call,      0,  3, 3, "raise compute",                0, 0, true, "a trap"},
@@ -60,12 +60,15 @@ static const struct call calls[] = {
 		"alarm, ualarm, setitimer, timer_settime, timer_delete"},
 	{"timer_left", timer_left,      0,  1, 1, "enter leave compute",          0, 0, false, "getitimer, timer_gettime"},
 	{"overrun",   overrun,         239, 1, 1, "enter leave compute",          0, 0, false, "timer_getoverrun"},
+	{"setpgid",   setpgid_call,    82, 2, 2, "enter leave compute",          0, NEWS, false, "setpgid"},
+	{"setsid",    setsid_call,     147, 0, 0, "enter leave compute",         0, NEWS, false, "setsid"},
+	{"group",     group_call,      0,  2, 2, "enter leave compute",          0, 0, false, "getpgrp, getpgid, getsid"},
 	{"ptrace",    ptrace_call,     26, 3, 4, "enter ptrace leave compute",   0, NEWS | RUNS, false, "ptrace"},
 	{"memory",    memory,          26, 1, 2, "",                             0, 0, false,
 		"PT_READ_D, PT_WRITE_D, PT_IO, PT_VM_ENTRY and their kin"},
 	{"registers", registers_call,  26, 1, 1, "",                             0, 0, false,
 		"PT_GETREGS and its kin, PT_GET_SC_ARGS, PT_GET_SC_RET"},
-	{"apply",     apply,           26, 3, 3, "",                             0, 0, false, "PT_SETREGS and its kin"},
+	{"apply",     apply,           26, 4, 4, "",                             0, 0, false, "PT_SETREGS and its kin"},
 	{"setstep",   setstep,         26, 2, 2, "",                             0, 0, false, "PT_SETSTEP, PT_CLEARSTEP"},
 	{"thread",    thread,          26, 1, 1, "",                             0, 0, false, "PT_LWPINFO's pl_tdname"},
 	{"wait",      wait_call,       7,  2, 2, "enter wait4 leave compute",    NEWS, NEWS, false,
@@ -247,5 +250,7 @@ enum reading read_question(char *line, struct question *q)
 		return read_enter(end, q) ? ASKS : FOREIGN_TEXT;
 	if (q->call->body == hello)
 		return read_hello(end, q) ? ASKS : FOREIGN_TEXT;
+	if (q->call->body == poke)
+		return read_call(end, q) == ASKS && q->arguments[0] >= COMPUTES && q->arguments[0] <= SPINS ? ASKS : FOREIGN_TEXT;
 	return read_call(end, q);
 }

@@ -318,6 +318,8 @@ static struct lwp *make_first(void)
 	number_process(NULL);
 	number_lwp();
 	run.first = new_process(r.pid, 1);
+	run.first->session = 1;
+	set_group(run.first, r.pid);
 	run.first->filters = program_filters();
 	return new_lwp(run.first, r.lwp, 0);
 }

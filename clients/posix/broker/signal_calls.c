@@ -8,11 +8,12 @@ static const signals every_signal = ~(signals)1;
 /* ---- sending */
 
 /* What a signal changes for those it was posted to. */
-static void posted(struct lwp *l, struct process *const *targets, size_t count, int signal)
+void posted(struct lwp *l, struct process *const *targets, size_t count, int signal)
 {
 	for (size_t i = 0; i < count; i++) {
 		struct process *p = targets[i];
 		send_info(p, (struct info){.signal = signal, .code = BSD_SI_USER, .sender = l->process->pid});
+		tell_orphan_stop(p, signal);
 		count_signal(p, signal);
 		nudge(p, signal);
 		if (signal == CONT) {
@@ -30,6 +31,10 @@ BODY(kill_call)
 	struct process *targets[PROCESSES];
 	int which = int_of(l, arguments[0]), signal = int_of(l, arguments[1]);
 	size_t count = 0;
+	if (names_group(which)) {
+		kill_group(l, which, signal);
+		return;
+	}
 	enter(l, call->code, NULL);
 	reply r = step_of_call(l, (struct step){.op = SEND, .actor = l->process->pid, .a = signal, .which = which}, true);
 	for (EACH_PROCESS(p)) {

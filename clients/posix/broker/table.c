@@ -107,6 +107,7 @@ void table_begin(void)
 	memset(changes.lwps, 0, next_lwp == 0 ? 0 : lwps * sizeof changes.lwps[0]);
 	memset(by_number, 0, processes * sizeof by_number[0]);
 	memset(table.statuses, 0, processes * sizeof table.statuses[0]);
+	memset(table.groups, 0, processes * sizeof table.groups[0]);
 	changes.io = changes.sync = changes.none = 0;
 	table.processes.count = table.lwps.count = table.news.count = 0;
 	table.now = 0, table.made = 0, table.clock = 0;
@@ -165,6 +166,16 @@ void out_of_table(struct lwp *l)
 }
 
 bool is_of(const struct process *p, const struct lwp *l) { return l != NULL && l->alive && l->process == p; }
+
+/* The group of a process of this run, one that has ended too; 0 if there is none. */
+int group_of(int64_t pid) { return is_number(pid) ? table.groups[pid - FIRST_PROCESS] : 0; }
+
+void set_group(struct process *p, int group)
+{
+	p->group = group;
+	if (is_number(p->pid))
+		table.groups[p->pid - FIRST_PROCESS] = group;
+}
 
 /* Those who watch the process hear of it. */
 void happen(int64_t kind, int64_t number, int64_t status)

@@ -79,6 +79,8 @@ struct news {
 struct lwp;
 struct process {
 	int pid, parent, tracer; /* no tracer is 0 */
+	int group, session;
+	bool execed; /* since its fork */
 	int real; /* the host's number */
 	bool collected; /* there is none any more; it has ended with the status `how` of the host's */
 	int how;
@@ -147,9 +149,10 @@ struct lwp {
 	int entered; /* the code of the call that it is in, or -1 */
 	bool at_entry, begins, begun; /* stopped at a call's entry; by `begin`; in a call that its next step would enter */
 	int altered; /* at its entry, by a debugger */
+	bool denied; /* a debugger has set another number there than the call's */
 	bool anew; /* its question is void: it makes the call anew */
 	int replaced; /* by its debugger: the code of the call that it makes; 0 if that is the one it has entered */
-	int pokes;
+	double computed; /* seconds, since its last call */
 	/* its question */
 	uint64_t where;
 	char asked[ASKED];
@@ -172,6 +175,7 @@ struct table {
 	LIST(struct lwp *) lwps; /* that may be chosen: timers too */
 	LIST(struct news) news;
 	int statuses[PROCESSES]; /* of processes that have ended, by number */
+	int groups[PROCESSES]; /* of all processes, by number */
 	int64_t now; /* virtual time, in nanoseconds */
 	int made; /* how many processes there have been */
 	uint64_t clock;
@@ -205,6 +209,8 @@ struct process *live_process(int64_t pid);
 struct lwp *lwp_of(int64_t tid);
 struct process *process_of(int64_t number);
 
+int group_of(int64_t pid);
+void set_group(struct process *p, int group);
 int reportable(const struct process *p, bool stops, int pids[PROCESSES]);
 bool hides(const struct process *parent, int pid);
 struct news *news_of(int pid);

@@ -213,6 +213,8 @@ BODY(apply)
 	if (arguments[1] == GENERAL)
 		other->lost = false; /* what it has now counts */
 	other->altered |= arguments[2] ? REGISTERS : 0;
+	if (arguments[1] == GENERAL && r.flags & TRACEHOST_PL_FLAG_SCE)
+		other->denied = (uint32_t)arguments[3] != r.code;
 	say("ok");
 }
 

@@ -331,7 +331,7 @@ static bool by_instruction(struct lwp *l, const reply *r)
 /* Nothing of a call is done before the debugger that has seen its entry lets the LWP go on. In a call that is no act. */
 static void stay_at_entry(struct lwp *l)
 {
-	l->at_entry = true, l->altered = 0;
+	l->at_entry = true, l->altered = 0, l->denied = false;
 	do
 		AWAIT(l, NEVER, -l->process->pid);
 	while (make(act_of(l, TRACEHOST_RAISE, 0), false).kind == TRACEHOST_HELD);
@@ -341,6 +341,10 @@ static void stay_at_entry(struct lwp *l)
 	if (strcmp(aside(l, "anew"), "1") == 0) { /* the thread makes the call anew, and asks for it */
 		l->anew = l->begun = true;
 		longjmp(*l->act, 1);
+	}
+	if (l->denied) { /* it would be made all the same */
+		blame(l, "");
+		failed("denied %d %d %s", l->process->pid, l->tid, l->call->of);
 	}
 	if (l->altered & REGISTERS)
 		remark("calls that don't take the registers that a debugger sets at their entry: %s", l->call->of);

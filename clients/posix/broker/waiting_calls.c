@@ -51,16 +51,23 @@ static int first_of(struct lwp *l, const int *children, int count)
 	return first;
 }
 
+/* Whether the broker finds who has news, and the model isn't asked. */
+static bool looks_itself(const struct process *p, int64_t which)
+{
+	return names_group(which) || (which == -1 && p->lists.described.count > 0);
+}
+
 /* A look. Of several children that have news a wait for any reports the one that the schedule names, or the lowest number. */
 static reply taken(struct lwp *l, struct step s, bool stops)
 {
 	int children[PROCESSES];
-	bool any = s.which == -1, has_descriptors = l->process->lists.described.count > 0;
-	int count = any ? reportable(l->process, stops, children) : 0;
+	bool of_group = names_group(s.which), any = s.which == -1 || of_group;
+	int count = of_group ? reportable_of_group(l, s.which, stops, children) : any ? reportable(l->process, stops, children) : 0;
 	int first = count > 1 ? first_of(l, children, count) : 0;
-	if (any && has_descriptors) {
-		if (count == 0)
-			return has_others(l->process) ? (reply){.kind = TRACEHOST_NOTHING} : (reply){.kind = TRACEHOST_ERROR, .error = ECHILD_};
+	if (any && looks_itself(l->process, s.which)) {
+		bool is_there = of_group ? count == 0 : has_others(l->process);
+		if (count <= 0)
+			return is_there ? (reply){.kind = TRACEHOST_NOTHING} : (reply){.kind = TRACEHOST_ERROR, .error = ECHILD_};
 		first = first != 0 ? first : children[0];
 	}
 	if (first != 0) {
@@ -92,12 +99,14 @@ BODY(wait_call)
 	uint32_t bits = arguments[1];
 	struct step s = {.op = WAIT4, .actor = l->process->pid, .a = bits & OPTIONS, .which = arguments[0]};
 	reply r;
+	if (names_group(arguments[0]))
+		use_groups(l, "wait4");
 	enter(l, call->code, NULL);
 	for (;;) {
 		r = taken(l, s, bits & TRACEHOST_WUNTRACED);
 		if (r.kind != TRACEHOST_NOTHING || bits & TRACEHOST_WNOHANG)
 			break;
-		if (!(s.which == -1 && l->process->lists.described.count > 0))
+		if (!looks_itself(l->process, s.which))
 			unkeep();
 		if (linger(l, 0, true, NEVER)) {
 			say_error(EINTR);

@@ -9,6 +9,8 @@
 #define AT_INSIDE 16
 #define AT_LANDS 20
 #define AT_REPORTS 24
+#define AT_SELECTOR 28
+#define AT_WATCHES 29
 
 #define ENTRY(name) \
 	.globl tracehost_##name; \
@@ -44,6 +46,7 @@ enter:
 	movq %r10, -16(%rsp)
 	movq %r11, -24(%rsp)
 	movq tracehost_own@gottpoff(%rip), %r10
+	movb $0, %fs:AT_SELECTOR(%r10)
 	movq %rsp, %r11
 	.cfi_def_cfa %r11, 8
 	movq %fs:AT_TOP(%r10), %rsp
@@ -93,6 +96,8 @@ enter:
 	.cfi_restore %rbp
 	testl %r11d, %r11d
 	jne 2f
+	movb %fs:AT_WATCHES(%r10), %r11b
+	movb %r11b, %fs:AT_SELECTOR(%r10)
 	cmpl $0, %fs:AT_LANDS(%r10)
 	jne 3f
 2:	ret
@@ -103,6 +108,13 @@ tracehost_landing:
 	.cfi_restore_state
 5:	movq %rbp, %rdi
 	call tracehost_reported_call
+	jmp 4b
+	.globl tracehost_restart
+	.type tracehost_restart, @function
+tracehost_restart:
+	movq %rdi, %rbp
+	movq %rdi, %rsp
+	call tracehost_restarted_call
 	jmp 4b
 	.cfi_endproc
 	.size enter, . - enter
@@ -160,5 +172,17 @@ tracehost_handled:
 	ret
 	.cfi_endproc
 	.size tracehost_on_stack, . - tracehost_on_stack
+
+/* Where handlers of the host's signals return to, if their program's system calls are dispatched: its bytes are the C library's,
+ * which unwinders know. */
+	nop
+	.globl tracehost_restorer
+	.type tracehost_restorer, @function
+tracehost_restorer:
+	movq $15, %rax
+	syscall
+	.globl tracehost_restorer_end
+tracehost_restorer_end:
+	.size tracehost_restorer, . - tracehost_restorer
 
 	.section .note.GNU-stack, "", @progbits

@@ -23,7 +23,8 @@ static char no_answer[1];
 static char first_stack[16384]; /* of a thread that isn't the runtime's */
 __thread struct own own = {.now = {.top = first_stack + sizeof first_stack}, .fd = -1, .passed = -1, .at = no_answer};
 _Static_assert(offsetof(struct now, top) == 8 && offsetof(struct now, inside) == 16 && offsetof(struct now, lands) == 20 &&
-				   offsetof(struct now, reports) == 24 && offsetof(struct own, now) == 0 && sizeof(struct frame) == 160,
+				   offsetof(struct now, reports) == 24 && offsetof(struct now, selector) == 28 &&
+				   offsetof(struct now, watches) == 29 && offsetof(struct own, now) == 0 && sizeof(struct frame) == 160,
 	"as entry.S has them");
 int own_pid;
 pid_t own_real;
@@ -229,6 +230,9 @@ int tracehost_ask(const void *where, const char *format, ...)
 		length = sizeof line - 1;
 	jmp_buf *anew = own.anew; /* of a call's first question */
 	own.anew = NULL;
+	const int restarts = anew == NULL && own.now.inside && tracehost_may_restart(own.now.frame);
+	if (own.now.inside)
+		own.now.frame->asked = 1;
 	if (tracehost_has_loaded)
 		tracehost_look_at_loaded();
 	int may_end = is_cancellation_point(question);
@@ -241,15 +245,18 @@ int tracehost_ask(const void *where, const char *format, ...)
 	for (;;) {
 		receive_line();
 		if (strcmp(own.answer, "anew") == 0) {
-			send_line(anew != NULL ? "0 anew 1" : "0 anew 0", 8);
-			if (anew == NULL)
+			send_line(anew != NULL || restarts ? "0 anew 1" : "0 anew 0", 8);
+			if (anew == NULL && !restarts)
 				continue;
 			own.busy = 0;
+			if (restarts)
+				tracehost_restart(own.now.frame);
 			_longjmp(*anew, 1);
 		}
 		if (in_between())
 			continue;
 		own.begun = takes("begun "), own.now.reports = own.begun || takes("calls ");
+		tracehost_watch_calls();
 		steps = takes("step "), lands = takes("land ");
 		if (strncmp(own.answer, "ok", 2) == 0) {
 			own.at = own.answer + 2;

@@ -152,11 +152,13 @@ static int give(const void *from, size_t count, void *to, size_t *size)
 /* The process that the last question was about; `thread`: in the place of its first thread the one that was asked for. */
 static struct kinfo_proc answered(pid_t pid, int thread)
 {
-	struct kinfo_proc process = {.ki_structsize = sizeof process, .ki_pid = pid, .ki_pgid = 1, .ki_sid = 1, .ki_reaper = 1};
+	struct kinfo_proc process = {.ki_structsize = sizeof process, .ki_pid = pid, .ki_reaper = 1};
 	size_t length = 0;
 	process.ki_stat = (char)tracehost_number(), process.ki_ppid = (pid_t)tracehost_number();
 	process.ki_tracer = (pid_t)tracehost_number(), process.ki_numthreads = (int)tracehost_number();
 	process.ki_uid = process.ki_ruid = process.ki_svuid = getuid(), process.ki_rgid = process.ki_svgid = getgid();
+	const int groups = getgroups(KI_NGROUPS, process.ki_groups); /* fails if there are more */
+	process.ki_ngroups = (short)(groups > 0 ? groups : 0);
 	long real = tracehost_number();
 	process.ki_tid = (lwpid_t)tracehost_number();
 	process.ki_flag = tracehost_number() | (process.ki_tracer != 0 ? P_TRACED : 0);
@@ -167,6 +169,7 @@ static struct kinfo_proc answered(pid_t pid, int thread)
 	tracehost_set(&process.ki_sigmask, (unsigned long)tracehost_number());
 	unsigned long thread_pending = (unsigned long)tracehost_number();
 	tracehost_set(&process.ki_siglist, thread ? thread_pending : pending);
+	process.ki_pgid = (pid_t)tracehost_number(), process.ki_sid = (pid_t)tracehost_number();
 	process.ki_stat = thread && process.ki_stat != SZOMB ? thread_stat : process.ki_stat;
 	char *name = read_file(real, "comm", &length);
 	if (length > 0)

@@ -447,14 +447,23 @@ int tracehost_waitid(idtype_t kind, id_t id, siginfo_t *info, int options)
 pid_t tracehost_getpid(void) { return ask("call %d", SYSCALL_GETPID), own_pid; }
 pid_t tracehost_getppid(void) { return ask("getppid"), tracehost_number(); }
 
-/* All processes are in the group and the session of process 1, the parent of the first one: there are no others. */
+/* ---- process groups and sessions */
+
 static pid_t group_of(const void *where, int code, pid_t pid)
 {
-	if (pid == 0 || pid == own_pid)
-		return tracehost_ask(where, "call %d", code), 1;
-	return tracehost_ask(where, "stat %d", pid) != 0 ? -1 : 1;
+	return tracehost_ask(where, "group %d %d", code, pid) != 0 ? -1 : (pid_t)tracehost_number();
 }
 
 pid_t tracehost_getpgrp(void) { return group_of(HERE, SYSCALL_GETPGRP, 0); }
 pid_t tracehost_getpgid(pid_t pid) { return group_of(HERE, SYSCALL_GETPGID, pid); }
-pid_t tracehost_getsid(pid_t pid) { return group_of(HERE, SYSCALL_GETSID, pid); }
+pid_t tracehost_getsid(pid_t pid) { return group_of(HERE, SYSCALL_GETSID, pid) < 0 ? -1 : (pid_t)tracehost_number(); }
+int tracehost_setpgid(pid_t pid, pid_t group) { return ask("setpgid %d %d", pid, group); }
+pid_t tracehost_setsid(void) { return ask("setsid") != 0 ? -1 : (pid_t)tracehost_number(); }
+
+int tracehost_killpg(pid_t group, int number)
+{
+	if (group != 1)
+		return ask("kill %d %d", -group, number);
+	errno = ESRCH;
+	return -1;
+}

@@ -17,11 +17,10 @@
 #include "refused.inc" /* of <tracehost/names.h>: REFUSED(name) for each */
 
 /* futex(2) as the C++ library uses it: who is woken looks again, also for nothing. */
-static long futex(const void *where, va_list arguments)
+long tracehost_futex(const void *where, const int *at, int operation, int value, const struct timespec *until)
 {
-	const volatile int *word = va_arg(arguments, const int *);
-	int operation = va_arg(arguments, int), value = va_arg(arguments, int), kind = operation & FUTEX_CMD_MASK;
-	const struct timespec *until = va_arg(arguments, const struct timespec *);
+	const volatile int *word = at;
+	const int kind = operation & FUTEX_CMD_MASK;
 	tracehost_ask(where, "point");
 	if (kind == FUTEX_WAKE)
 		return 0;
@@ -41,34 +40,16 @@ static long futex(const void *where, va_list arguments)
 	return -1;
 }
 
-/* syscall(2), for calls without arguments, by FreeBSD's numbers. */
+/* syscall(2), by FreeBSD's numbers. */
 long tracehost_syscall(long number, ...)
 {
-	switch (number) {
-	case SYSCALL_GETPID: ask("call %ld", number); return own_pid;
-	case SYSCALL_GETPPID: ask("getppid"); return tracehost_number();
-	case SYSCALL_GETUID: ask("call %ld", number); return getuid();
-	case SYSCALL_SCHED_YIELD: return ask("yield");
-	case SYSCALL_FUTEX: {
-		va_list arguments;
-		va_start(arguments, number);
-		long result = futex(HERE, arguments);
-		va_end(arguments);
-		return result;
-	}
-	case SYSCALL_THR_SELF: {
-		va_list arguments;
-		va_start(arguments, number);
-		long *tid = va_arg(arguments, long *);
-		va_end(arguments);
-		ask("call %ld", number);
-		*tid = own.tid;
-		return 0;
-	}
-	default:
-		tracehost_say("syscall: call %ld does nothing here, and is answered ENOSYS", number);
-		ask("call %ld", number);
-		errno = ENOSYS;
-		return -1;
-	}
+	long a[6];
+	va_list arguments;
+	va_start(arguments, number);
+	for (size_t i = 0; i < sizeof a / sizeof a[0]; i++)
+		a[i] = va_arg(arguments, long);
+	va_end(arguments);
+	if (number == SYSCALL_FUTEX)
+		return tracehost_futex(HERE, (const int *)a[0], (int)a[1], (int)a[2], (const struct timespec *)a[3]);
+	return tracehost_system_call((int)number, a);
 }

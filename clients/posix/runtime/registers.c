@@ -65,12 +65,19 @@ static void floats_to_context(void *context, const struct fpreg *from)
 		image[STATES_AT] |= LEGACY;
 }
 
+void tracehost_fill_frame(struct frame *frame, void *context)
+{
+	struct reg registers;
+	from_context(&registers, context);
+	memcpy(frame, &registers, GENERAL_REGISTERS);
+}
+
 /* As the program has called. */
 static void from_frame(struct reg *to, const struct frame *frame)
 {
 	memset(to, 0, sizeof *to);
 	memcpy(to, frame, GENERAL_REGISTERS);
-	to->r_rip = (int64_t)frame->at[0], to->r_rsp = (int64_t)(frame->at + 1);
+	to->r_rip = (int64_t)frame->at[0], to->r_rsp = (int64_t)tracehost_stack_of(frame);
 	to->r_rflags = (frame->flags & ~(unsigned long)(PSL_T | ARITHMETIC)) | PSL_I | 2;
 	to->r_cs = 0x33, to->r_ss = 0x2b; /* of the host's programs */
 }
@@ -80,11 +87,10 @@ static void from_frame(struct reg *to, const struct frame *frame)
 /* At a call's entry they are as a system call has them. */
 static void fetch_of_entry(struct reg *to, int code)
 {
-	to->r_rax = code, to->r_r10 = to->r_rcx;
-	if (own.reported == own.now.frame) {
-		const long *a = own.arguments;
-		to->r_rdi = a[0], to->r_rsi = a[1], to->r_rdx = a[2], to->r_rcx = to->r_r10 = a[3], to->r_r8 = a[4], to->r_r9 = a[5];
-	}
+	long a[6];
+	tracehost_find_arguments(a, own.now.frame);
+	to->r_rax = code;
+	to->r_rdi = a[0], to->r_rsi = a[1], to->r_rdx = a[2], to->r_rcx = to->r_r10 = a[3], to->r_r8 = a[4], to->r_r9 = a[5];
 }
 
 static void fetch_of_call(struct record *to, int code)
@@ -164,13 +170,36 @@ static void ask_stepped(void *context)
 	tracehost_ask_between((const void *)at, question, context);
 }
 
+enum { INSTRUCTION = 2 /* bytes of the one that makes a system call */ };
+
+int tracehost_goes_back(void *context, const void *behind) { return general(context)[REG_RIP] == (greg_t)behind - INSTRUCTION; }
+
+/* A debugger has set the thread back to the call's instruction: it makes a call once more, the one that its registers say. What
+ * it returns to is still on its stack. */
+static void call_again(void *context, const void *behind)
+{
+	greg_t *g = general(context);
+	if (!tracehost_goes_back(context, behind))
+		return;
+	g[REG_RIP] = (greg_t)enter_call_again;
+	g[REG_RSP] -= (greg_t)sizeof behind;
+	memcpy((void *)g[REG_RSP], &behind, sizeof behind);
+}
+
+long tracehost_call_again(void)
+{
+	const struct frame *f = own.now.frame;
+	const long arguments[6] = {(long)f->rdi, (long)f->rsi, (long)f->rdx, (long)f->rcx, (long)f->r8, (long)f->r9};
+	return tracehost_system_call((int)f->rax, arguments);
+}
+
 /* The program's call is over. Its registers are those that it called with, except the result. */
-static void land(void *context)
+void tracehost_land(void *context)
 {
 	const int lands = own.now.lands;
 	const greg_t result = general(context)[REG_RAX];
 	struct reg registers;
-	own.now.lands = 0;
+	own.now.lands = own.set_at_entry = 0;
 	own.error = (int)result == -1 ? errno : 0;
 	if (lands & LANDS_SET)
 		registers = own.later.general;
@@ -192,7 +221,9 @@ int tracehost_trap(siginfo_t *info, void *context)
 {
 	const char *at = (const char *)general(context)[REG_RIP];
 	if (at == tracehost_landing) {
-		land(context);
+		const void *behind = own.now.frame->at[0];
+		tracehost_land(context);
+		call_again(context, behind);
 		return 1;
 	}
 	if (at == tracehost_birth) { /* the thread is at its routine's first instruction */

@@ -4,6 +4,7 @@
 #define _GNU_SOURCE
 #include <errno.h>
 #include <fcntl.h>
+#include <limits.h>
 #include <poll.h>
 #include <stdio.h>
 #include <string.h>
@@ -22,7 +23,7 @@
 /* The runtime's functions that have the arguments of their system call. These ask at once, and that enters the call. */
 #define CALLS_THAT_ASK(CALL) \
 	CALL(read, 3) CALL(write, 4) CALL(close, 6) CALL(dup, 41) CALL(dup2, 90) CALL(pipe2, 542) CALL(socketpair, 135) \
-	CALL(poll, 209) CALL(getpid, 20) CALL(getppid, 39) CALL(getpgrp, 81) CALL(kill, 37) CALL(wait4, 7) CALL(thr_self, 432) \
+	CALL(poll, 209) CALL(getpid, 20) CALL(getppid, 39) CALL(getpgrp, 81) CALL(kill, 37) CALL(setpgid, 82) CALL(setsid, 147) CALL(wait4, 7) CALL(thr_self, 432) \
 	CALL(thr_kill, 433) CALL(sched_yield, 331)
 #define OTHER_CALLS(CALL) \
 	CALL(readv, 120) CALL(writev, 121) CALL(close_range, 575) CALL(select, 93) CALL(kqueue, 362) CALL(kevent, 560) \
@@ -51,6 +52,7 @@ static const struct row {
 #define HOST(name, code, count) {(const void *)(size_t)name, code, OF_HOST},
 	CALLS_THAT_ASK(ASKING) OTHER_CALLS(BEGINNING) OTHER_FORMS(ASKING)
 #include "hosts.inc"
+		{(const void *)(size_t)open, SYSCALL_OPEN, OF_HOST}, /* what the C library doesn't make */
 };
 
 static const struct row *row_of(const void *function)
@@ -195,6 +197,42 @@ static int is_done_by_itself(const struct row *row, const long given[6], long *r
 	return 1;
 }
 
+/* A call of FreeBSD's that only the host has, with the same arguments. */
+static long call_host(int number)
+{
+	const long result = tracehost_host_call(number, own.arguments);
+	if (result < 0 && result > -4096) {
+		errno = (int)-result;
+		return -1;
+	}
+	return result;
+}
+
+static long fail_unknown(int code)
+{
+	tracehost_say("syscall: call %d does nothing here, and is answered ENOSYS", code);
+	errno = ENOSYS;
+	return -1;
+}
+
+static long make_same(int code, int number)
+{
+	const struct row *row = row_by_code(code);
+	return number != 0 ? call_host(number) : row != NULL ? call_row(row) : fail_unknown(code);
+}
+
+/* Behind the entry; of a call that no function makes the host has the number. */
+static long make_entered(int code, int number)
+{
+	const int now = take_registers(code);
+	const long result = now == code ? make_same(code, number) : call_another(now);
+	const int saved = errno;
+	if (own.begun)
+		tracehost_ask(HERE, "end %d", now < 0 || now >= CODES ? BSD_SIGSYS : 0);
+	errno = saved;
+	return result;
+}
+
 static long report_and_call(const struct frame *frame, const struct row *row, const long given[6])
 {
 	long result;
@@ -204,13 +242,50 @@ static long report_and_call(const struct frame *frame, const struct row *row, co
 		tracehost_ask(HERE, "begin %d", row->code);
 	else if (is_done_by_itself(row, given, &result))
 		return result;
-	int code = take_registers(row->code);
-	result = code == row->code ? call_row(row_by_code(code)) : call_another(code);
-	int saved = errno;
-	if (own.begun)
-		tracehost_ask(HERE, "end %d", code < 0 || code >= CODES ? BSD_SIGSYS : 0);
-	errno = saved;
+	return make_entered(row->code, 0);
+}
+
+/* A call that was entered before its debugger asked for entries: whether it has done nothing yet. */
+int tracehost_may_restart(const struct frame *frame)
+{
+	const struct row *row = frame->was_inside || frame->asked ? NULL : row_of(frame->function);
+	return row != NULL && row->kind == ASKS;
+}
+
+/* Such a call begins anew, behind its entry, with what a debugger has set there. */
+long tracehost_restarted_call(struct frame *frame)
+{
+	const struct row *row = row_of(frame->function);
+	tracehost_find_arguments(own.arguments, frame);
+	own.reported = frame, own.begun = 1;
+	return make_entered(row->code, 0);
+}
+
+/* A call that is no function of the program's. What is known of one that it comes in the midst of is kept. */
+long tracehost_reported_code(const struct frame *frame, int code, int number, const long arguments[6])
+{
+	const struct frame *outer = own.reported;
+	long kept[6];
+	memcpy(kept, own.arguments, sizeof kept);
+	memcpy(own.arguments, arguments, sizeof own.arguments);
+	own.reported = frame, own.set_at_entry = 0;
+	tracehost_ask(HERE, "begin %d", code < 0 ? INT_MAX : code);
+	const long result = make_entered(code, number);
+	own.reported = outer;
+	memcpy(own.arguments, kept, sizeof kept);
 	return result;
+}
+
+/* A system call by FreeBSD's number. */
+long tracehost_system_call(int code, const long arguments[6])
+{
+	const struct row *row = row_by_code(code);
+	if (own.now.reports)
+		return tracehost_reported_code(own.now.frame, code, 0, arguments);
+	if (row != NULL)
+		return call(row->function, arguments);
+	ask("call %d", code);
+	return fail_unknown(code);
 }
 
 /* In place of the call's function. What is known of a call that this one comes in the midst of, by a handler, is kept. */

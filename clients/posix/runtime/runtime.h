@@ -11,6 +11,7 @@
 #include <sys/types.h>
 #include <sys/wait.h>
 #include <time.h>
+#include <ucontext.h>
 #include "../include/machine/reg.h"
 
 enum {
@@ -36,19 +37,22 @@ struct frame {
 	void *function;
 	const void **at; /* the program's stack, with the address that the call returns to */
 	struct frame *outer;
-	unsigned long was_inside;
+	unsigned was_inside, asked; /* asked: a question of its function's is under way, or is over */
 };
 
 /* What is due as the call returns: the first four are a landing's. */
 enum { LANDS_ASKING = 1, LANDS_STEPPED = 2, LANDS_STEPPING = 4, LANDS_SET = 8, LANDS_SET_FLOATS = 16 };
 
-/* Where a thread is; entry.S knows the first five. */
+/* Where a thread is; entry.S knows the first seven. */
 struct now {
 	struct frame *frame; /* of the call that is under way, or of the last one */
 	char *top; /* of the stack that the next call runs on */
 	int inside; /* a call is under way */
 	int lands;
 	int reports; /* a debugger has asked for stops at calls */
+	volatile char selector; /* 1: the host dispatches the thread's system calls, which are the program's now (dispatch.c) */
+	char watches; /* what it is in the program */
+	char handles; /* a handler of the host's signals is under way */
 	char *signals; /* where the host's signals begin */
 	void *context; /* of the program, which a signal of the host's has interrupted; NULL in a call */
 	void *interrupted; /* the same, in a call too */
@@ -80,6 +84,9 @@ struct own {
 	int tid;
 	volatile int busy; /* in a question: a poke is of no use, and a fault is the runtime's own */
 	unsigned questions, seen; /* asked, and asked at the last tick */
+	long since; /* the processor time then, in ms */
+	gregset_t sample; /* registers at the last tick */
+	int has_sample;
 	int passed; /* a descriptor that came with the answer, or -1 */
 	char *at; /* the rest of the answer */
 	const void *where; /* the program's call of exit(3), which asks later */
@@ -92,6 +99,9 @@ struct own {
 	struct record record, later; /* of a stopped thread; and what is set as its call returns */
 	const struct frame *reported; /* the call that PT_SYSCALL reports, and the arguments of its system call */
 	long arguments[6];
+	const struct frame *dispatched; /* of a call that the host has dispatched, and the program's stack pointer there */
+	char *dispatched_stack;
+	int dispatches; /* the host does: 1; it can't: -1 */
 	int at_entry, set_at_entry; /* as a debugger has last read its registers; and set them */
 	jmp_buf *anew; /* where it begins again, until its first question was answered */
 	int begun; /* it is under way, and no question of it has ended it */
@@ -126,6 +136,8 @@ void tracehost_begin(int fd, int pid, int tid);
 void enter_begin_image(int fd, int pid, int tid) __asm__("tracehost_begin_image");
 void enter_end_process(void) __asm__("tracehost_end_process");
 void enter_end_thread(void) __asm__("tracehost_end_thread");
+void enter_call_again(void) __asm__("tracehost_call_again");
+long tracehost_call_again(void);
 void tracehost_begin_image(int fd, int pid, int tid);
 void tracehost_end_process(void);
 void tracehost_end_thread(void);
@@ -147,14 +159,19 @@ void tracehost_back_to(char *top, char *signals);
 
 /* entry.S: how these are called, and the places of its int3. */
 void tracehost_on_stack(struct outcall *call);
+void tracehost_restart(struct frame *frame) __attribute__((noreturn)); /* its function is left, and begins anew */
 void *tracehost_be_born(void *(*routine)(void *), void *argument);
 extern const char tracehost_landing[], tracehost_birth[], tracehost_born[], tracehost_handled[];
+extern const char tracehost_restorer[], tracehost_restorer_end[];
 extern const char __start_tracehost_entry[], __stop_tracehost_entry[];
 
 /* Registers (registers.c). */
 void tracehost_fetch(int code);
 void tracehost_apply(int kind);
 void tracehost_go_on(int steps, int lands);
+void tracehost_land(void *context);
+int tracehost_goes_back(void *context, const void *behind);
+void tracehost_fill_frame(struct frame *frame, void *context);
 int tracehost_trap(siginfo_t *info, void *context);
 void tracehost_handle(int number);
 void tracehost_describe(siginfo_t *info); /* by the next four numbers of the answer */
@@ -162,7 +179,18 @@ void tracehost_say_hello(void *context);
 
 /* Calls under PT_SYSCALL (reports.c): in place of the call's function; and the arguments of its system call. */
 long tracehost_reported_call(struct frame *frame);
+long tracehost_restarted_call(struct frame *frame);
+int tracehost_may_restart(const struct frame *frame);
 void tracehost_find_arguments(long to[6], const struct frame *frame);
+long tracehost_reported_code(const struct frame *frame, int code, int number, const long arguments[6]);
+
+long tracehost_system_call(int code, const long arguments[6]);
+
+/* Calls that come by no function of the runtime's (dispatch.c). */
+int tracehost_dispatch(const siginfo_t *info, void *context);
+void tracehost_watch_calls(void);
+char *tracehost_stack_of(const struct frame *frame);
+long tracehost_futex(const void *where, const int *word, int operation, int value, const struct timespec *until);
 
 /* Debug registers (hardware.c), and that one was hit. */
 int tracehost_set_hardware(const struct dbreg *new);
@@ -199,6 +227,9 @@ int tracehost_dup2(int from, int to);
 int tracehost_sigprocmask(int how, const sigset_t *new, sigset_t *old);
 void (*tracehost_signal(int number, void (*handler)(int)))(int);
 
+int tracehost_setpgid(pid_t pid, pid_t group);
+pid_t tracehost_setsid(void);
+
 /* The last handler of exit(3) runs. */
 extern int tracehost_exiting;
 
@@ -206,6 +237,7 @@ extern int tracehost_exiting;
 void tracehost_say(const char *format, ...) __attribute__((format(printf, 1, 2)));
 
 void tracehost_host_signals(void);
+void tracehost_start_ticks(void);
 int tracehost_send_fault(int host_signal);
 int tracehost_own_descriptor(int fd);
 

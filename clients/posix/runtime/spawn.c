@@ -71,15 +71,21 @@ int tracehost_posix_spawn_file_actions_adddup2(posix_spawn_file_actions_t *actio
 
 /* ---- in the child: 0, or an errno */
 
+/* A debugger that follows the child sees these calls. */
+static int call_by_code(int code, long a, long b, long c, long d)
+{
+	return (int)tracehost_system_call(code, (long[6]){a, b, c, d});
+}
+
 static int do_action(const struct action *action)
 {
 	if (action->kind == CLOSE)
 		return tracehost_close(action->fd) != 0 ? errno : 0;
 	if (action->kind == DUP && action->from == action->fd) /* no FD_CLOEXEC any more */
-		return fcntl(action->fd, F_SETFD, 0) != 0 ? errno : 0;
+		return call_by_code(SYSCALL_FCNTL, action->fd, F_SETFD, 0, 0) != 0 ? errno : 0;
 	if (action->kind == DUP)
 		return tracehost_dup2(action->from, action->fd) < 0 ? errno : 0;
-	int fd = open(action->path, action->flags, action->mode);
+	int fd = call_by_code(SYSCALL_OPENAT, AT_FDCWD, (long)action->path, action->flags, action->mode);
 	if (fd < 0 || fd == action->fd)
 		return fd < 0 ? errno : 0;
 	int error = tracehost_dup2(fd, action->fd) < 0 ? errno : 0;
@@ -93,10 +99,11 @@ static int do_attributes(const posix_spawnattr_t *attributes)
 	sigset_t set;
 	if (attributes != NULL)
 		posix_spawnattr_getflags(attributes, &flags);
-	if (flags & POSIX_SPAWN_SETPGROUP) {
-		tracehost_say("posix_spawn: the model has no process groups (EINVAL)");
-		return EINVAL;
-	}
+	pid_t group;
+	if (flags & POSIX_SPAWN_SETSID && tracehost_setsid() == -1)
+		return errno;
+	if (flags & POSIX_SPAWN_SETPGROUP && posix_spawnattr_getpgroup(attributes, &group) == 0 && tracehost_setpgid(0, group) != 0)
+		return errno;
 	if (flags & POSIX_SPAWN_SETSIGMASK && posix_spawnattr_getsigmask(attributes, &set) == 0)
 		tracehost_sigprocmask(BSD_SIG_SETMASK, &set, NULL);
 	if (flags & POSIX_SPAWN_SETSIGDEF && posix_spawnattr_getsigdefault(attributes, &set) == 0)

@@ -67,8 +67,9 @@ static char *aligned(char *at) { return (char *)((size_t)at & ~15UL); }
 
 void tracehost_leave_runtime(void)
 {
-	own.now.inside = own.now.lands = 0;
+	own.now.inside = own.now.lands = own.now.handles = 0;
 	own.now.context = own.now.interrupted = NULL;
+	own.now.selector = own.now.watches;
 }
 
 /* ---- jumps out of handlers: what runs below is gone */
@@ -90,7 +91,7 @@ static char *program_stack(void)
 {
 	if (own.now.context != NULL)
 		return stack_pointer(own.now.context);
-	return own.now.inside ? (char *)(own.now.frame->at + 1) : NULL;
+	return own.now.inside ? tracehost_stack_of(own.now.frame) : NULL;
 }
 
 static int is_on(const stack_t *stack, const char *at)

@@ -13,163 +13,16 @@
 #include <sys/socket.h>
 #include <sys/syscall.h>
 #include <sys/wait.h>
-#include <ucontext.h>
 #include <unistd.h>
 #include "freebsd.h"
 #include "held.h"
 #include "runtime.h"
-
-enum {
-	TICK_MS = 50, /* of a thread's processor time */
-	HELD_CALL = 1, /* si_code of a SIGSYS by seccomp(2), SYS_SECCOMP of the kernel's headers */
-};
 
 /* Each file that is compiled with <tracehost/posix.h> has an item here. */
 extern const char __start_tracehost_units[] __attribute__((weak));
 extern const char __stop_tracehost_units[] __attribute__((weak));
 
 static unsigned long load_address;
-
-/* ---- the host's own signals */
-
-/* Where a signal has met the program; a call is looked up by the address behind it. */
-static const void *place_of(void *context) { return (const void *)(((ucontext_t *)context)->uc_mcontext.gregs[REG_RIP] + 1); }
-
-/* A question at any place of the program, in the midst of a call of the runtime too: what that has not read yet of its
- * own answer is kept. */
-void tracehost_ask_between(const void *where, const char *question, void *context)
-{
-	int saved = errno, passed = own.passed;
-	void *outer = own.now.context, *interrupted = own.now.interrupted;
-	char *at = own.at;
-	size_t size = strlen(at) + 1;
-	char rest[size];
-	memcpy(rest, at, size);
-	own.now.context = own.now.inside ? NULL : context, own.now.interrupted = context;
-	tracehost_ask(where, "%s", question);
-	own.now.context = outer, own.now.interrupted = interrupted;
-	memcpy(at, rest, size);
-	own.at = at, own.passed = passed;
-	errno = saved;
-}
-
-/* On its way into a call, or out of it. */
-static int is_in_entry(void *context)
-{
-	const char *at = (const char *)((ucontext_t *)context)->uc_mcontext.gregs[REG_RIP];
-	return at >= __start_tracehost_entry && at < __stop_tracehost_entry;
-}
-
-static void on_poke(int number, siginfo_t *info, void *context)
-{
-	(void)number;
-	if (own.busy || own.fd < 0 || is_in_entry(context))
-		return;
-	if (info->si_code == SI_TIMER && own.seen != own.questions)
-		own.seen = own.questions; /* it has asked since the last tick */
-	else
-		tracehost_ask_between(place_of(context), info->si_code == SI_TIMER ? "poke 0" : "poke 1", context);
-}
-
-/* If the server and the broker are killed, nobody ends a process that sleeps in a call of the host's: it does itself. */
-static void on_parent_end(int number, siginfo_t *info, void *context)
-{
-	char byte;
-	const int saved = errno;
-	(void)number, (void)info, (void)context;
-	for (int i = 0; i < THREADS; i++)
-		if (own_fds[i] != 0 && recv(own_fds[i], &byte, 1, MSG_PEEK | MSG_DONTWAIT) == 0)
-			_exit(0);
-	errno = saved;
-}
-
-/* A fault as FreeBSD reports it: sys/amd64/amd64/trap.c. */
-struct fault {
-	int number, code;
-	const void *address;
-};
-
-/* The host tells a page fault by its address, and all else by SI_KERNEL: an address that isn't canonical, a privileged
- * instruction. */
-static struct fault fault_of_memory(int number, const siginfo_t *info, const void *at)
-{
-	if (info->si_code == SI_KERNEL)
-		return (struct fault){BSD_SIGBUS, BUS_OBJERR, at};
-	if (number == SIGSEGV)
-		return (struct fault){BSD_SIGSEGV, info->si_code, info->si_addr};
-	if (info->si_code == BUS_ADRALN)
-		return (struct fault){BSD_SIGBUS, BUS_ADRALN, at};
-	return (struct fault){BSD_SIGBUS, BUS_OBJERR, info->si_addr}; /* behind the end of a file */
-}
-
-/* Both arithmetic codes for integers have each other's numbers. */
-static int code_of_arithmetic(int code) { return code == FPE_INTDIV ? BSD_FPE_INTDIV : code == FPE_INTOVF ? BSD_FPE_INTOVF : code; }
-
-static struct fault fault_of(int number, const siginfo_t *info, const void *at)
-{
-	switch (number) {
-	case SIGFPE: return (struct fault){BSD_SIGFPE, code_of_arithmetic(info->si_code), at};
-	case SIGILL: return (struct fault){BSD_SIGILL, ILL_PRVOPC, at};
-	case SIGTRAP: return (struct fault){BSD_SIGTRAP, info->si_code == HOST_TRAP_PERF ? TRAP_TRACE : TRAP_BRKPT, at};
-	case SIGSYS: return (struct fault){BSD_SIGSYS, info->si_code, at};
-	default: return fault_of_memory(number, info, at);
-	}
-}
-
-/* The host's signal of a fault as FreeBSD has it. */
-static int freebsd_number(int number)
-{
-	static const int table[][2] = {{SIGSEGV, BSD_SIGSEGV}, {SIGBUS, BSD_SIGBUS}, {SIGFPE, BSD_SIGFPE}, {SIGILL, BSD_SIGILL},
-		{SIGTRAP, BSD_SIGTRAP}, {SIGSYS, BSD_SIGSYS}};
-	for (size_t i = 0; i < sizeof table / sizeof table[0]; i++)
-		if (table[i][0] == number)
-			return table[i][1];
-	return BSD_SIGABRT;
-}
-
-static void on_fault(int number, siginfo_t *info, void *context)
-{
-	char question[64];
-	const char *at = (const char *)((ucontext_t *)context)->uc_mcontext.gregs[REG_RIP];
-	if (number == SIGSYS && info->si_code == HELD_CALL) {
-		tracehost_held_call(info, context);
-		return;
-	}
-	if (number == SIGTRAP && tracehost_trap(info, context))
-		return;
-	if (own.busy || own.fd < 0 || is_in_entry(context)) { /* the runtime's own fault; or no stack is left for a handler */
-		signal(number, SIG_DFL);
-		return;
-	}
-	const struct fault sent = {freebsd_number(number), BSD_SI_LWP, NULL};
-	const struct fault fault = info->si_code <= 0 ? sent : fault_of(number, info, at);
-	snprintf(question, sizeof question, "fault %d %d %ld", fault.number, fault.code, (long)fault.address);
-	tracehost_ask_between(number == SIGTRAP ? at : own.now.inside ? HERE : at + 1, question, context);
-}
-
-void tracehost_host_signals(void)
-{
-	static const int faults[] = {SIGSEGV, SIGBUS, SIGFPE, SIGILL, SIGTRAP, SIGABRT, SIGSYS};
-	struct sigaction action = {.sa_sigaction = on_fault, .sa_flags = SA_SIGINFO | SA_NODEFER | SA_RESTART | SA_ONSTACK};
-	for (size_t i = 0; i < sizeof faults / sizeof faults[0]; i++)
-		sigaction(faults[i], &action, NULL);
-	action.sa_sigaction = on_poke;
-	sigaction(POKE, &action, NULL);
-	action.sa_sigaction = on_parent_end;
-	sigaction(PARENT_ENDS, &action, NULL);
-	signal(SIGCHLD, SIG_DFL); /* children of the host are collected by the server, when their parent has ended */
-	signal(SIGPIPE, SIG_IGN); /* a broken pipe is posted by write */
-}
-
-/* A thread that computes for long without a question is made to ask. */
-static void start_ticks(void)
-{
-	struct sigevent event = {.sigev_notify = SIGEV_THREAD_ID, .sigev_signo = POKE};
-	struct itimerspec every = {{0, TICK_MS * 1000000}, {0, TICK_MS * 1000000}};
-	event._sigev_un._tid = syscall(SYS_gettid);
-	if (timer_create(CLOCK_THREAD_CPUTIME_ID, &event, &own.tick) == 0)
-		timer_settime(own.tick, 0, &every, NULL);
-}
 
 /* ---- a thread begins, a process ends */
 
@@ -184,10 +37,11 @@ void tracehost_begin(int fd, int pid, int tid)
 	}
 	own_fds[i] = fd;
 	own.fd = fd, own.tid = tid, own_pid = pid, own_real = getpid();
+	own.dispatches = 0; /* a fork's child has none */
 	if (own_real == syscall(SYS_gettid)) /* its only thread */
 		prctl(PR_SET_PDEATHSIG, PARENT_ENDS);
 	own.busy = 1;
-	start_ticks();
+	tracehost_start_ticks();
 	tracehost_ask(NULL, "hello %d %d %lx %d", (int)syscall(SYS_getpid), (int)syscall(SYS_gettid), load_address, own.now.inside);
 	own_pid = tracehost_number(), own.tid = tracehost_number();
 	unsigned long ignored = tracehost_number();
@@ -198,6 +52,7 @@ void tracehost_begin(int fd, int pid, int tid)
 
 void tracehost_let_go(void)
 {
+	own.now.watches = own.now.selector = 0;
 	for (int i = 0; i < THREADS; i++)
 		if (own_fds[i] == own.fd)
 			own_fds[i] = 0;

@@ -104,7 +104,7 @@ static int set_debug(const void *where, pid_t target, const struct dbreg *from)
 		return -1;
 	found.record.debug = *from;
 	if (!is_debug(from) || transfer(found.real, found.at, &found.record, sizeof found.record, 1) != sizeof found.record ||
-		tracehost_ask(where, "apply %d %d 0", target, DEBUG) != 0 || was_refused(&found)) {
+		tracehost_ask(where, "apply %d %d 0 0", target, DEBUG) != 0 || was_refused(&found)) {
 		errno = EINVAL;
 		return -1;
 	}
@@ -153,7 +153,8 @@ static int set_registers(const void *where, pid_t target, const void *from, int 
 		memcpy(&record->gs, from, sizeof record->gs);
 	if (transfer(found.real, found.at, record, sizeof *record, 1) != sizeof *record)
 		return -1;
-	return tracehost_ask(where, "apply %d %d %d", target, kind, changes);
+	const long number = record->general.r_rax;
+	return tracehost_ask(where, "apply %d %d %d %ld", target, kind, changes, number);
 }
 
 /* The target goes on there. */
@@ -171,10 +172,11 @@ static int set_counter(const void *where, pid_t target, const char *address)
 /* clang-format off */
 /* Of FreeBSD's calls: their numbers, and how many arguments they have. */
 static const unsigned short argument_counts[][2] = {
-	{1, 1}, {3, 3}, {4, 3}, {6, 1}, {7, 4}, {26, 4}, {37, 2}, {41, 1}, {53, 2}, {59, 3}, {83, 3}, {86, 2}, {90, 2}, {93, 5},
+	{1, 1}, {3, 3}, {4, 3}, {5, 3}, {6, 1}, {7, 4}, {26, 4}, {37, 2}, {41, 1}, {53, 2}, {82, 2}, {59, 3}, {83, 3}, {86, 2}, {90, 2}, {93, 5},
 	{120, 3}, {121, 3}, {135, 4}, {202, 6}, {207, 1}, {209, 3}, {232, 2}, {235, 3}, {236, 1}, {237, 4}, {238, 2}, {239, 1},
-	{240, 2}, {310, 1}, {340, 3}, {341, 1}, {343, 1}, {345, 3}, {416, 3}, {431, 1}, {432, 1}, {433, 2}, {454, 5}, {455, 2},
-	{519, 2}, {520, 2}, {522, 6}, {542, 2}, {544, 4}, {545, 4}, {560, 6}, {575, 3},
+	{240, 2}, {310, 1}, {340, 3}, {341, 1}, {326, 2}, {343, 1}, {345, 3}, {416, 3}, {431, 1}, {432, 1}, {433, 2}, {454, 5}, {455, 2},
+	{519, 2}, {520, 2}, {522, 6}, {542, 2}, {544, 4}, {545, 4}, {547, 4}, {554, 4},
+	{555, 2}, {556, 2}, {560, 6}, {575, 3},
 #define HOST(name, code, count) {code, count},
 #include "hosts.inc"
 };

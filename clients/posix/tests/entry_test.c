@@ -302,6 +302,25 @@ ATF_TC_BODY(number_is_set, tc)
 	ATF_REQUIRE(go_on(pid) && wait_exit(pid, 3));
 }
 
+/* At the exit the target is set back to the call's instruction: it makes the call that its registers say. */
+ATF_TC_WITHOUT_HEAD(call_is_made_again);
+ATF_TC_BODY(call_is_made_again, tc)
+{
+	pid_t pid = start_traced(calls_getppid);
+	struct reg r;
+
+	until_entry(pid, SYS_getppid);
+	ATF_REQUIRE(request(PT_TO_SCX, pid, 0) && wait_stop(pid, SIGTRAP));
+	r = registers(pid);
+	r.r_rip -= 2, r.r_rax = SYS_getpid;
+	set_registers(pid, &r);
+	until_entry(pid, SYS_getpid);
+	ATF_REQUIRE(request(PT_TO_SCX, pid, 0) && wait_stop(pid, SIGTRAP));
+	ATF_REQUIRE(registers(pid).r_rax == pid);
+	set_events(pid, 0);
+	ATF_REQUIRE(go_on(pid) && wait_exit(pid, 3));
+}
+
 static char folder[] = "/tmp/entry.XXXXXX", path[64], other_path[64];
 
 static void
@@ -468,6 +487,7 @@ ATF_TP_ADD_TCS(tp)
 	ATF_TP_ADD_TC(tp, argument_is_set);
 	ATF_TP_ADD_TC(tp, buffer_is_set);
 	ATF_TP_ADD_TC(tp, number_is_set);
+	ATF_TP_ADD_TC(tp, call_is_made_again);
 	ATF_TP_ADD_TC(tp, call_is_denied);
 	ATF_TP_ADD_TC(tp, path_is_set);
 	ATF_TP_ADD_TC(tp, structure_is_set);

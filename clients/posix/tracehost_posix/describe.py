@@ -190,6 +190,14 @@ CODES = {
     195: "setrlimit",
     117: "getrusage",
     575: "close_range",
+    5: "open",
+    82: "setpgid",
+    147: "setsid",
+    326: "getcwd",
+    547: "utimensat",
+    554: "getdents",
+    555: "statfs",
+    556: "fstatfs",
 }
 """The program's calls, by the numbers of FreeBSD's that the model is given."""
 

@@ -97,9 +97,11 @@ def ended_by(status: int) -> str:
 
 
 def unheard_of(name: str, words: list[str]) -> str:
-    """What a question of the names `refused` and `outside` says."""
+    """What a question of the names `refused` and `outside` says, and a call that a debugger has denied."""
     if name == "refused":
         return f"calls {words[0]}, which isn't among the calls of this runtime (docs/POSIX.md lists them)"
+    if name == "denied":
+        return f"is made to make another call, or none, by its debugger, which only a kernel can: {' '.join(words)}"
     if words[0] == "held":
         return f"{' '.join(words[1:])}, which has no runtime, was ended by the host's SIGSYS: it calls kill, or its kin"
     if words[0] == "posix_spawn":
@@ -167,7 +169,7 @@ def failure(text: str, all_waiting: Sequence[Waiting], options: Options) -> str:
     name, *words = text.split(" ")
     if name == "behind":
         return behind(words[0], " ".join(words[1:]))
-    numbers = [int(word) for word in words] if name not in ("refused", "outside") else [int(word) for word in words[:2]]
+    numbers = [int(word) for word in words] if name not in ("refused", "outside", "denied") else [int(word) for word in words[:2]]
     if name == "endless":
         return endless(options.limit)
     if name == "rings":

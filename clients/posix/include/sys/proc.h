@@ -7,8 +7,12 @@
 #define SSLEEP 3
 #define SSTOP 4
 #define SZOMB 5
+#define SWAIT 6 /* of none, as the next one */
+#define SLOCK 7
 
+#define P_PPWAIT 0x00010 /* of none */
 #define P_TRACED 0x00800
+#define P_WEXIT 0x02000 /* of none */
 #define P_STOPPED_SIG 0x20000
 #define P_STOPPED_TRACE 0x40000
 

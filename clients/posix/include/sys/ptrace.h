@@ -5,6 +5,8 @@
 #include <signal.h>
 #include <stdint.h>
 #include <sys/types.h>
+#include "../machine/reg.h"
+#include "../vm/vm.h"
 
 #define PT_TRACE_ME 0
 #define PT_READ_I 1
@@ -42,6 +44,9 @@
 #define PT_VM_TIMESTAMP 40
 #define PT_VM_ENTRY 41
 #define PT_FIRSTMACH 64
+#define PT_GETXSTATE_INFO (PT_FIRSTMACH + 4) /* these three: EINVAL */
+#define PT_GETXSTATE (PT_FIRSTMACH + 5)
+#define PT_SETXSTATE (PT_FIRSTMACH + 6)
 #define PT_GETFSBASE (PT_FIRSTMACH + 7)
 #define PT_SETFSBASE (PT_FIRSTMACH + 8) /* EINVAL */
 #define PT_GETGSBASE (PT_FIRSTMACH + 9)
@@ -101,6 +106,11 @@ typedef int64_t syscallarg_t;
 struct ptrace_sc_ret {
 	syscallarg_t sr_retval[2];
 	int sr_error;
+};
+
+struct ptrace_xstate_info {
+	uint64_t xsave_mask;
+	uint32_t xsave_len;
 };
 
 struct ptrace_vm_entry {

@@ -5,6 +5,10 @@
 #include <stddef.h>
 
 #define CTL_KERN 1
+#define KERN_OSTYPE 1 /* these four: ENOENT */
+#define KERN_OSRELEASE 2
+#define KERN_OSREV 3
+#define KERN_VERSION 4
 #define KERN_PROC 14
 #define KERN_PROC_ALL 0 /* ENOENT */
 #define KERN_PROC_PID 1
@@ -13,6 +17,7 @@
 #define KERN_PROC_PATHNAME 12
 #define KERN_PROC_VMMAP 32
 #define KERN_PROC_AUXV 36
+#define KERN_PROC_PS_STRINGS 38 /* ENOENT */
 
 #ifdef __cplusplus
 extern "C"

@@ -1,0 +1,2 @@
+/* As FreeBSD has it. */
+#include <x86/fpu.h>
