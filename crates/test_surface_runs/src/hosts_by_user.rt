@@ -5,12 +5,13 @@ use std::alloc::Global;
 use stop_handlers::ByPolicy;
 use test_kit::{Row, TestError, expect, rows_of, step_in};
 use trace_stop::Settings;
-use user_hosts::UserHosts;
+use user_hosts::{CopyRefusal, UserHosts};
 
 pub fn check<R: Print>(rt: &R, alloc: Global) -> Result<(), TestError> {
     two_users_are_apart(alloc)?;
     a_copy_is_of_one_user(alloc)?;
-    println!(rt; "a host for each user: 2 checks passed")?;
+    a_copy_is_of_all(alloc)?;
+    println!(rt; "a host for each user: 3 checks passed")?;
     Ok(())
 }
 
@@ -35,7 +36,7 @@ const GOES_ON: &str = "\
 ";
 
 fn new_hosts(alloc: Global) -> Result<UserHosts<ByPolicy>, TestError> {
-    Ok(UserHosts::new(alloc, Settings::standard())?)
+    Ok(UserHosts::new(alloc, Settings::standard()))
 }
 
 fn make(alloc: Global, hosts: &mut UserHosts<ByPolicy>, line: &Row<'_>) -> Result<(), TestError> {
@@ -58,14 +59,62 @@ fn two_users_are_apart(alloc: Global) -> Result<(), TestError> {
     follow(alloc, &mut hosts, GOES_ON)
 }
 
+/// Copies one user, whose debugger goes on. To the other one the copy is as it was, with no process.
 fn a_copy_is_of_one_user(alloc: Global) -> Result<(), TestError> {
     let (first, second) = (Uid::new(1001)?, Uid::new(1002)?);
     let mut hosts = new_hosts(alloc)?;
     follow(alloc, &mut hosts, TWO_USERS)?;
     let mut copy = new_hosts(alloc)?;
-    copy.copy_user(alloc, first, &hosts)?;
-    expect(copy.host(first).is_some(), "a copied host isn't there")?;
-    expect(copy.host(second).is_none(), "another user's host is copied")?;
+    expect(
+        copy.copy_user(alloc, first, &hosts).is_ok(),
+        "a user isn't copied",
+    )?;
+    expect(
+        copy.view(alloc, first)? == hosts.view(alloc, first)?,
+        "a copy shows something else",
+    )?;
+    expect(
+        copy.view(alloc, second)?.processes.is_empty(),
+        "another user is copied",
+    )?;
     follow(alloc, &mut copy, GOES_ON)?;
-    follow(alloc, &mut hosts, GOES_ON)
+    follow(alloc, &mut hosts, GOES_ON)?;
+    a_copy_has_the_same_settings(alloc, first, &hosts)
+}
+
+fn a_copy_has_the_same_settings(
+    alloc: Global,
+    user: Uid,
+    hosts: &UserHosts<ByPolicy>,
+) -> Result<(), TestError> {
+    let settings = Settings {
+        kill_on_debugger_exit: !hosts.settings().kill_on_debugger_exit,
+    };
+    let mut other = UserHosts::new(alloc, settings);
+    let copied = other.copy_user(alloc, user, hosts);
+    expect(
+        copied == Err(CopyRefusal::Settings),
+        "a user is copied to other settings",
+    )?;
+    expect(
+        other.view(alloc, user)?.processes.is_empty(),
+        "a refused copy is there",
+    )
+}
+
+/// Copies all users at once, also over hosts that have more.
+fn a_copy_is_of_all(alloc: Global) -> Result<(), TestError> {
+    let second = Uid::new(1002)?;
+    let mut hosts = new_hosts(alloc)?;
+    follow(alloc, &mut hosts, TWO_USERS)?;
+    let mut copy = hosts.copy(alloc)?;
+    follow(alloc, &mut copy, GOES_ON)?;
+    copy.copy_from(alloc, &hosts)?;
+    follow(alloc, &mut copy, GOES_ON)?;
+    copy.copy_from(alloc, &new_hosts(alloc)?)?;
+    expect(
+        copy.view(alloc, second)?.processes.is_empty(),
+        "a host is left",
+    )?;
+    follow(alloc, &mut copy, TWO_USERS)
 }

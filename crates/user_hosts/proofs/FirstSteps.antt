@@ -1,6 +1,6 @@
 -- The first step of a user.
-use Rattle.requests.proofs.CommonNames.{◌≡◌, ◌≢◌, ◌+◌, ◌-◌, ◌<◌, ℕ, Bool, true, false, not, Option, Some, option_map, refl, ap, ap₂, ◌∙◌, inl, inr, arith, IsUser, pid_block, tid_block, ESRCH, PlainStep, Step, Reply, Settings, Machine, empty, spawn_with}
-use Rattle.std.specs.Prelude.{option_and_then}
+use Rattle.requests.proofs.CommonNames.{◌≡◌, ◌≢◌, ◌+◌, ◌-◌, ◌<◌, ℕ, Bool, true, false, not, Option, Some, None, option_map, refl, ap, ap₂, ◌∙◌, inl, inr, arith, IsUser, pid_block, tid_block, ESRCH, PlainStep, Step, Reply, Settings, Machine, empty, spawn_with}
+use Rattle.std.specs.Prelude.{option_and_then, IfSome}
 use Rattle.pid_blocks.specs.{declared.Block.Block, Blocks.next_free}
 use Rattle.step_types.specs.Replies.{is_refusal}
 use Rattle.requests.specs.CommonNames.{ENOMEM}
@@ -10,6 +10,7 @@ use Rattle.requests.specs.Isolation.{reply_of, host_after}
 use Rattle.requests.specs.Leave.{Numbers, room_for_process}
 use Rattle.requests.specs.Memory.{may_want}
 use Rattle.requests.specs.Hosts.{Steps as HostSteps}
+use Rattle.requests.specs.Making.{Makes}
 use Rattle.pid_blocks.proofs.FirstFree.{first_free-here}
 use Rattle.requests.proofs.IsolationLaws.{at_slot}
 use Rattle.requests.proofs.SoundAfterSpawn.{empty_sound}
@@ -63,3 +64,15 @@ nobody settings u (Step.Turn tid a) other = (refl, refl)
 
 pub no_process : (settings : Settings) (u : ℕ) (s : PlainStep) → s ≢ Step.Spawn → HostSteps u s (empty settings) (empty settings) (Reply.Errno ESRCH)
 no_process settings u s other = record { machine = λ given. nobody settings u s other; memory = λ wanted. absurd cc; refused = λ no. refl; sound = empty_sound settings }
+
+-- ---- a step that may need a handler
+
+pub unmade : (u : ℕ) (s : Option PlainStep) (m n : Machine) (r : Option Reply) → Makes u s m n r → r ≡ None → n ≡ m
+unmade u None m n r made none = made.1
+unmade u (Some s) m n None made none = absurd made
+unmade u (Some s) m n (Some r) made none = cc none
+
+pub refused_before : (u : ℕ) (s : Option PlainStep) (m n : Machine) (r : Option Reply) → Makes u s m n r → IfSome r (λ r. is_refusal r ≡ true → Some n ≡ Some m)
+refused_before u None m n r made = rw made.0 tt
+refused_before u (Some s) m n None made = tt
+refused_before u (Some s) m n (Some r) made = λ no. ap (λ x. Some x) (made.refused no)

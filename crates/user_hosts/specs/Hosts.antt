@@ -1,5 +1,5 @@
 -- A host for each user, and what it has to do with one host of all users.
-use Rattle.std.specs.Prelude.{◌≡◌, ◌≢◌}
+use Rattle.std.specs.Prelude.{◌≡◌, ◌≢◌, ◌++◌, ◌-◌, length, replicate}
 use Rattle.requests.specs.CommonNames.{ℕ, true, List, Option, Some, None, map, set, get_or, slot, users, IsUser, ENOMEM, Settings, PlainStep, Reply}
 use Rattle.step_types.specs.Replies.{is_refusal}
 use Rattle.requests.specs.Machine.{Machine, empty}
@@ -12,6 +12,10 @@ use Rattle.requests.specs.Hosts.{Steps as HostSteps}
 pub record Hosts : Type 0 where
   pub settings : Settings
   pub made : List (Option Machine)
+
+-- no host for the users after the last of these
+abbrev pub padded : List (Option Machine) → List (Option Machine)
+padded made = made ++ replicate (64 - length made) None
 
 abbrev pub unused : Settings → Hosts
 unused settings = record { settings = settings; made = map (λ u. None) users }
@@ -39,7 +43,13 @@ pub record Steps (u : ℕ) (s : PlainStep) (old new : Hosts) (r : Reply) : Type 
   pub settings : new.settings ≡ old.settings
   pub refused : is_refusal r ≡ true → new ≡ old
 
--- the same beside a machine of all users: the reply is the machine's, and the hosts show the machine after the step; or,
+-- the same of a step that may need a handler, if none is given; one that needs a handler is not made
+abbrev pub MakesIn : ℕ → Option PlainStep → (old new : Hosts) → Option Reply → Type 0
+MakesIn u None old new r = (r ≡ None) × (new ≡ old)
+MakesIn u (Some s) old new None = ⊥
+MakesIn u (Some s) old new (Some r) = Steps u s old new r
+
+-- a step beside a machine of all users: the reply is the machine's, and the hosts show the machine after the step; or,
 -- if the step takes memory and the machine wouldn't refuse it, ENOMEM and the hosts as they were
 pub record Answers (u : ℕ) (s : PlainStep) (old new : Hosts) (r : Reply) (m : Machine) : Type 0 where
   pub machine : r ≢ Reply.Errno ENOMEM → (r ≡ reply_of u s m) × Shows new (host_after u s m)

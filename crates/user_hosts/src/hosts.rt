@@ -1,188 +1,211 @@
-//! A host for each user.
+//! A host for each user, and the machine of all users that they show.
 
-ghost use Rattle.std.specs.Prelude.{◌≡◌, None, true, IfOk, OnOk, OnErr, map, box_value, option_map};
-ghost use Rattle.pid_blocks.specs.Blocks.{users};
-ghost use Rattle.step_types.specs.Replies.{is_refusal};
-ghost use Rattle.requests.specs.Machine.{Machine, empty};
-ghost use Rattle.requests.specs.Sound.{sound};
-ghost use Rattle.requests.specs.Hosts.{Steps as HostSteps};
-ghost use Rattle.user_hosts.specs.Hosts.{Steps, Shows, Answers, unused, made_of, host_or, host_of, copied};
+ghost use Rattle.std.specs.Prelude.{◌≡◌, ◌≢◌, ◌↔◌, None, IfOk, IfErr, IsTrue, OnOk, OnErr};
+ghost use Rattle.step_types.specs.Plain.{with_handler};
+ghost use Rattle.step_types.specs.declared.step.Step.TheVariants.{Install};
+ghost use Rattle.requests.specs.Machine.{empty};
+ghost use Rattle.requests.specs.Hosts.{Steps};
+ghost use Rattle.requests.specs.Making.{Makes};
+ghost use Rattle.requests.specs.View.{view};
+ghost use Rattle.user_hosts.specs.Made.{CopiesUser};
+ghost use Rattle.user_hosts.specs.declared.hosts.CopyRefusal.TheVariants.{Memory, Settings as OtherSettings};
 
-use pid_blocks::{Errno, Uid};
-use requests::{Host, Reply, Step};
+use crate::made::{Made, nothing_made, one_more, same_steps, steps_with_user};
+use crate::own_hosts::OwnHosts;
+use pid_blocks::Uid;
+use requests::laws::fits;
+use requests::{Host, PlainStep, Reply, Step};
 use std::alloc::{AllocError, Global};
 use std::marker::Model;
+use std::snapshot::Snapshot;
 use stop_handlers::{ByPolicy, Decider, Handler};
 use trace_rows::Settings;
+use visibility::{View, user_view};
 
-/// A user's host: none before the user's first spawn.
-#[derive(Drop)]
-struct UserHost<F: Decider + Send + Drop> {
-    host: Option<Box<Host<F>>>,
+/// Why one user's host wasn't copied.
+#[derive(Clone, Copy, Debug, PartialEq, Eq)]
+pub enum CopyRefusal {
+    /// Memory ran out.
+    Memory,
+    /// The source has other settings.
+    Settings,
 }
 
-impl<F: Decider + Send + Drop> Model for UserHost<F> {
-    ghost use Rattle.std.specs.Prelude.{Option, option_map, box_value};
-    ghost use Rattle.requests.specs.Machine.{Machine};
+impl From<AllocError> for CopyRefusal {
+    ghost from_gives = { λ _ e. e ≡ Memory };
 
-    ghost Value = { Option Machine };
-
-    ghost view = { λ h. option_map box_value h.host };
+    fn from(_refused: AllocError) -> CopyRefusal {
+        CopyRefusal::Memory
+    }
 }
 
-/// Creates an unused host. An error means out of memory.
-fn new_host<F: Decider + Send + Drop>(
-    alloc: Global,
-    settings: Settings,
-) -> Result<Box<Host<F>>, AllocError>
-    ensures { IfOk result (λ host. box_value host ≡ empty settings) }
+fn same_settings(these: Settings, others: Settings) -> bool
+    ensures { IsTrue result ↔ (these ≡ others) }
 {
-    let host = Host::new(alloc, settings)?;
-    Ok(Box::new(alloc, host)?)
+    these == others
 }
 
-impl<F: Decider + Send + Drop> UserHost<F> {
-    fn none() -> UserHost<F>
-        ensures { result ≡ None }
-    {
-        UserHost { host: None }
-    }
-
-    /// Makes a step of a user without a host. Only a spawn isn't refused, and leaves a host.
-    fn begin(
-        &mut self,
-        alloc: Global,
-        settings: Settings,
-        user: Uid,
-        step: Step<Handler<F>>,
-    ) -> Reply
-        requires none { self.old ≡ None }
-        ensures steps { HostSteps user step (empty settings) (host_or settings self.new) result }
-        ensures refused { is_refusal result ≡ true → self.new ≡ None }
-    {
-        let _user = user.get();
-        let Step::Spawn = step else {
-            return Reply::Errno(Errno::ESRCH);
-        };
-        let Ok(mut host) = new_host(alloc, settings) else {
-            return Reply::Errno(Errno::ENOMEM);
-        };
-        let reply = host.step(alloc, user, Step::Spawn);
-        if let Reply::New { .. } = reply {
-            self.host = Some(host);
-        }
-        reply
-    }
-
-    /// Makes a step of the user. A refused step changes nothing.
-    fn step(
-        &mut self,
-        alloc: Global,
-        settings: Settings,
-        user: Uid,
-        step: Step<Handler<F>>,
-    ) -> Reply
-        ensures steps { HostSteps user step (host_or settings self.old) (host_or settings self.new) result }
-        ensures refused { is_refusal result ≡ true → self.new ≡ self.old }
-        ensures sound { sound (host_or settings self.old) ≡ true }
-    {
-        match &mut self.host {
-            Some(host) => {
-                host.assert_invariant();
-                host.step(alloc, user, step)
-            }
-            None => self.begin(alloc, settings, user, step),
-        }
-    }
-}
-
-/// Returns no host for each user. An error means out of memory.
-fn no_hosts<F: Decider + Send + Drop>(alloc: Global) -> Result<Vec<UserHost<F>>, AllocError>
-    ensures { IfOk result (λ made. made.items ≡ map (λ u. None) users) }
-{
-    let mut made = Vec::with_capacity(alloc, 64)?;
-    for _ in 0u32..64 {
-        made.push(UserHost::none())?;
-    }
-    Ok(made)
-}
-
-/// A host for each user. A new one has these settings.
+/// A host for each user. Contracts see them as one host of all users, as they see a `Host`: a machine with the rows of
+/// all, which every step of these hosts was made on.
 #[derive(Drop)]
 pub struct UserHosts<F: Decider + Send + Drop> {
-    made: Vec<UserHost<F>>,
-    settings: Settings,
+    hosts: OwnHosts<F>,
+    made: Snapshot<Made>,
 }
 
 impl<F: Decider + Send + Drop> Model for UserHosts<F> {
-    ghost use Rattle.std.specs.Prelude.{◌≡◌, length};
-    ghost use Rattle.user_hosts.specs.Hosts.{Hosts};
+    ghost use Rattle.requests.specs.Machine.{Machine};
+    ghost use Rattle.user_hosts.specs.Made.{Kept, machine_after};
 
-    ghost Value = { Hosts };
+    ghost Value = { Machine };
 
-    ghost view = { λ h. record { settings = h.settings; made = h.made.items } };
+    ghost view = { λ h. machine_after h.hosts.settings h.made.value };
 
-    ghost invariant = { λ h. length h.made.items ≡ 64 };
+    ghost invariant = { λ h. Kept h.hosts h.made.value };
 }
 
 impl<F: Decider + Send + Drop> UserHosts<F> {
-    /// Creates unused hosts, which takes a place for each user. An error means out of memory.
-    pub fn new(alloc: Global, settings: Settings) -> Result<UserHosts<F>, AllocError>
-        ensures { IfOk result (λ hosts. hosts ≡ unused settings) }
+    /// Returns unused hosts. They take no memory before the first spawn.
+    pub fn new(alloc: Global, settings: Settings) -> UserHosts<F>
+        ensures { result ≡ empty settings }
     {
-        let made = no_hosts(alloc)?;
-        Ok(UserHosts { made, settings })
+        UserHosts {
+            hosts: OwnHosts::new(alloc, settings),
+            made: nothing_made(),
+        }
     }
 
-    /// Returns the user's host, if the user has one.
-    pub fn host(&self, user: Uid) -> Option<&Host<F>>
-        ensures { option_map (λ h. h.now) result ≡ made_of user self.now }
+    /// Returns the settings: whether a debugger's end kills its tracees.
+    pub fn settings(&self) -> Settings
+        ensures { result ≡ self.now.settings }
     {
-        let _settings = self.settings;
-        match &self.made[user.slot()].host {
-            Some(host) => Some(host.as_ref()),
-            None => None,
-        }
+        self.hosts.settings()
     }
 
     /// Makes a step of the user in the user's host. No other host is looked at. Refused as the manual page of its call
     /// says, and with ENOMEM if memory runs out. A refused step changes nothing.
     pub fn step(&mut self, alloc: Global, user: Uid, step: Step<Handler<F>>) -> Reply
-        ensures steps { Steps user step self.old self.new result }
-        ensures answers { (m : Machine) → Shows self.old m → Answers user step self.old self.new result m }
+        ensures { Steps user step self.old self.new result }
     {
-        let _user = user.get();
-        self.own_step(alloc, user, step)
+        if let Some(reply) = self.step_without_handler(alloc, user, &step) {
+            return reply;
+        }
+        let Step::Install { caller, handler } = step else {
+            unreachable!()
+        };
+        self.install(alloc, user, caller, handler)
     }
 
-    /// Makes a step of the user in the user's host.
-    fn own_step(&mut self, alloc: Global, user: Uid, step: Step<Handler<F>>) -> Reply
-        ensures steps { Steps user step self.old self.new result }
-        ensures sound { sound (host_of user self.old) ≡ true }
+    /// Installs a handler of the caller.
+    fn install(&mut self, alloc: Global, user: Uid, caller: u32, handler: Handler<F>) -> Reply
+        ensures { Steps user (Install caller handler) self.old self.new result }
     {
         let _user = user.get();
-        let settings = self.settings;
-        self.made[user.slot()].step(alloc, settings, user, step)
+        let asked = PlainStep::Install {
+            caller,
+            handler: handler.policy(),
+        };
+        fits(asked);
+        let reply = self
+            .hosts
+            .step(alloc, user, Step::Install { caller, handler });
+        self.made = one_more(&self.made, user, &asked, &reply);
+        reply
+    }
+
+    /// Makes a step of the user as `step` does, if it needs no handler. For an install it returns `None` and changes
+    /// nothing.
+    #[inline(always)]
+    pub fn step_without_handler<H>(
+        &mut self,
+        alloc: Global,
+        user: Uid,
+        step: &Step<H>,
+    ) -> Option<Reply>
+        ensures { Makes user (with_handler None step.now) self.old self.new result }
+    {
+        let _user = user.get();
+        let asked: PlainStep = step.with_handler(None)?;
+        fits(asked);
+        let reply = self.hosts.step_without_handler(alloc, user, step)?;
+        self.made = one_more(&self.made, user, &asked, &reply);
+        Some(reply)
+    }
+
+    /// Returns what the user sees. An error means out of memory.
+    pub fn view(&self, alloc: Global, user: Uid) -> Result<View, AllocError>
+        ensures { IfOk result (λ v. v ≡ view user self.now) }
+    {
+        let _user = user.get();
+        match self.hosts.host(user) {
+            Some(host) => user_view(alloc, host, user),
+            None => {
+                let host: Host<ByPolicy> = Host::new(alloc, self.hosts.settings())?;
+                user_view(alloc, &host, user)
+            }
+        }
+    }
+
+    /// Returns other hosts that show every user the same. Each of their handlers answers by its policy. From then on both
+    /// go their own ways. It takes the time and the memory of the hosts of those who have one. An error means out of memory.
+    pub fn copy(&self, alloc: Global) -> Result<UserHosts<ByPolicy>, AllocError>
+        ensures { IfOk result (λ copy. copy ≡ self.now) }
+    {
+        let mut hosts = OwnHosts::new(alloc, self.hosts.settings());
+        hosts.copy_from(alloc, &self.hosts)?;
+        Ok(UserHosts {
+            hosts,
+            made: same_steps(&self.made),
+        })
     }
 }
 
 impl UserHosts<ByPolicy> {
-    /// Makes the user's host equal to the source's one, as `Host::copy` does: it has the source's settings too. It takes the
-    /// time and the memory of only this user's host. An error means out of memory, and changes nothing.
+    /// Makes these hosts equal to the source's, as `copy` does, in their own memory as far as that goes. An error means
+    /// out of memory, and then the hosts are unused.
+    pub fn copy_from<F: Decider + Send + Drop>(
+        &mut self,
+        alloc: Global,
+        source: &UserHosts<F>,
+    ) -> Result<(), AllocError>
+        ensures { OnOk result (self.new ≡ source.now) }
+    {
+        match self.hosts.copy_from(alloc, &source.hosts) {
+            Ok(()) => {
+                self.made = same_steps(&source.made);
+                Ok(())
+            }
+            Err(_) => {
+                self.hosts.clear();
+                self.made = nothing_made();
+                Err(AllocError)
+            }
+        }
+    }
+
+    /// Makes the user's host equal to the source's one, as `copy` does. It takes the time and the memory of only this
+    /// user's host. All other hosts stay.
+    ///
+    /// # Errors
+    ///
+    /// `Settings` if the source has other settings, and `Memory`. Nothing has changed.
     pub fn copy_user<F: Decider + Send + Drop>(
         &mut self,
         alloc: Global,
         user: Uid,
         source: &UserHosts<F>,
-    ) -> Result<(), AllocError>
-        ensures done { OnOk result (self.new ≡ copied user self.old source.now) }
+    ) -> Result<(), CopyRefusal>
+        ensures done { OnOk result (CopiesUser user self.old source.now self.new) }
         ensures refused { OnErr result (self.new ≡ self.old) }
+        ensures settings { IfErr result (λ e. e ≡ OtherSettings → source.now.settings ≢ self.old.settings) }
     {
-        let host = match source.host(user) {
-            Some(host) => Some(Box::new(alloc, host.copy(alloc)?)?),
-            None => None,
-        };
-        self.made[user.slot()] = UserHost { host };
+        let _user = user.get();
+        self.hosts.assert_places();
+        if !same_settings(self.hosts.settings(), source.hosts.settings()) {
+            return Err(CopyRefusal::Settings);
+        }
+        self.hosts.copy_user(alloc, user, &source.hosts)?;
+        self.made = steps_with_user(&self.made, user, &source.made);
         Ok(())
     }
 }

@@ -3,14 +3,17 @@
 //! `UserHosts` has up to 64 hosts of `requests`. A user's host is made at the user's first spawn: before it every other
 //! step is refused with ESRCH, since the user has no process.
 //!
-//! Begin with `UserHosts::step`. Its clause `answers` ties the hosts to the machine of all users: for every machine that
-//! the hosts show (`Shows`, specs/Hosts), the reply is the machine's, and they show the machine after the step. `laws`
-//! says the same of whole lists of steps, without hosts and without memory.
+//! Contracts see `UserHosts` as they see one `Host` of all users: `UserHosts::step` has the same clause. The machine in it
+//! is that of all steps that these hosts made, which no code keeps (`made`). An invariant says that each host shows its
+//! user what this machine shows (`Kept`, specs/Made). `own_hosts` has the hosts without it. `laws` says of whole lists of
+//! steps that one machine and many answer alike, without hosts and without memory.
 //!
 //! It is above `visibility`, whose laws of one machine of all users it rests on.
 #![tactic(auto)]
 
 mod hosts;
 pub mod laws;
+mod made;
+mod own_hosts;
 
-pub use hosts::UserHosts;
+pub use hosts::{CopyRefusal, UserHosts};

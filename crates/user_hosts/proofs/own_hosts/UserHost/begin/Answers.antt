@@ -2,8 +2,8 @@ use Rattle.requests.proofs.CommonNames.{true≢false, sym, ap, subst, ◌∙◌,
 use Rattle.step_types.specs.Replies.{is_refusal}
 use Rattle.requests.specs.Hosts.{Steps as HostSteps}
 use Rattle.user_hosts.proofs.FirstSteps.{no_memory, no_process, unspawned}
-use Rattle.user_hosts.proofs.hosts.UserHost.begin.Goals.{in-Some-1, in-None-1}
-use Rattle.user_hosts.proofs.hosts.UserHost.begin.Goals as goal
+use Rattle.user_hosts.proofs.own_hosts.UserHost.begin.Goals.{in-Some-1, in-None-1}
+use Rattle.user_hosts.proofs.own_hosts.UserHost.begin.Goals as goal
 
 pub returns-in_default : goal.returns-in_default
 returns-in_default g c = record { steps = rw c.requires.none (no_process c.args.settings c.args.user c.args.step c.in_default.not-Spawn); refused = λ no. c.requires.none }

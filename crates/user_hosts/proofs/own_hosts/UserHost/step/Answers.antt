@@ -3,7 +3,7 @@ use Rattle.std.specs.Prelude.{box_value}
 use Rattle.requests.specs.Hosts.{Steps as HostSteps}
 use Rattle.requests.proofs.SoundAfterSpawn.{empty_sound}
 use Rattle.user_hosts.specs.Hosts.{host_or}
-use Rattle.user_hosts.proofs.hosts.UserHost.step.Goals as goal
+use Rattle.user_hosts.proofs.own_hosts.UserHost.step.Goals as goal
 
 pub returns-in-Some-clause-steps : goal.returns-in-Some-clause-steps
 returns-in-Some-clause-steps g c = subst (λ o. HostSteps c.args.user c.args.step (host_or c.args.settings o) c.step.new.self c.step.result)

@@ -1,0 +1,12 @@
+use Rattle.requests.proofs.CommonNames.{◌∙◌}
+use Rattle.user_hosts.proofs.MadeLemmas.{kept_at_first, kept_same, machine_same}
+use Rattle.user_hosts.proofs.hosts.UserHosts+ByPolicy.copy_from.Goals as goal
+
+pub invariant_of-self : goal.invariant_of-self
+invariant_of-self g c = rw (c.in-Ok.ensures, c.same_steps.ensures) (kept_same c.source.inside.hosts c.source.inside.made.value c.source.invariant)
+
+pub returns-in-Ok : goal.returns-in-Ok
+returns-in-Ok g c = rw (c.in-Ok.ensures, c.same_steps.ensures) (machine_same c.source.inside.hosts.settings c.source.inside.made.value ∙ c.source.view_is)
+
+pub invariant_of-self-in-Err : goal.invariant_of-self-in-Err
+invariant_of-self-in-Err g c = rw (c.clear.ensures, c.nothing_made.ensures) (kept_at_first c.copy_from.new.self.settings)
