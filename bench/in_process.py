@@ -10,7 +10,8 @@ difference of two runs; `-` if there is no valgrind, for Python, and for a pipe,
 The clients in C and Python make typed calls. Without cargo or c++ their rows are left out.
 Then come the instructions of one tracehost_view of a user, by the number of other users with 250 processes and 1,000
 LWPs each, and those of copying a session and closing the copy, of opening and closing one, and of copying one over
-another, by the number of its processes.
+another, by the number of its processes; the last one also after 8,000 processes that have ended, and beside 63 users
+with 250 processes each.
 """
 
 from __future__ import annotations
@@ -164,6 +165,9 @@ def print_copies(copies: pathlib.Path) -> None:
     for what in ("copy_and_close", "open_and_close", "copy_over"):
         counts = [instructions_of_copies(copies, processes, what) for processes in PROCESSES]
         print(f"{what:15}" + "".join(f"{count:10,}" for count in counts))
+    for more in ("history", "users"):
+        counts = [instructions_of_copies(copies, processes, "copy_over", more) for processes in PROCESSES]
+        print(f"{'  ' + more:15}" + "".join(f"{count:10,}" for count in counts))
     print("bytes          " + "".join(f"{bytes_of_copy(copies, processes):10,}" for processes in PROCESSES))
 
 

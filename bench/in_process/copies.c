@@ -2,17 +2,19 @@
  * Copies, opens and closes sessions. bench/in_process.py counts the instructions of one `copy_and_close`, of one
  * `open_and_close` and of one `copy_over`.
  *
- *     copies PROCESSES [gaps]
+ *     copies PROCESSES [gaps | history | users]
  *
- * The session that is copied has PROCESSES processes of one LWP; with `gaps` as many more ended, each between two of them.
+ * The session that is copied has PROCESSES processes of one LWP. With `gaps` as many more ended, each between two of them; with
+ * `history` 8,000 ended before them; with `users` the 63 other users have 250 processes each.
  * Linked with --wrap for malloc, realloc and free, the program prints the bytes that its copy was given, and fails if memory is
  * left at the end.
  */
 #include <stdio.h>
 #include <stdlib.h>
+#include <string.h>
 #include <tracehost.h>
 
-enum { USER = 1001, FIRST_LWP = 100000 };
+enum { USER = 1001, LAST_USER = 1064, FIRST_LWP = 100000, ENDED_BEFORE = 8000, FULL = 250 };
 
 static size_t bytes; /* that were asked for */
 static long blocks;  /* that weren't freed */
@@ -72,20 +74,38 @@ __attribute__((noinline)) static void copy_over(tracehost *h, tracehost *to)
     wanted(tracehost_copy_over(h, to) == TRACEHOST_ANSWERED, "tracehost_copy_over");
 }
 
+static uint32_t spawn(tracehost *h, uint32_t user)
+{
+    tracehost_reply reply;
+    wanted(tracehost_spawn(h, user, &reply) == TRACEHOST_ANSWERED && reply.kind == TRACEHOST_NEW, "spawn");
+    return reply.lwp;
+}
+
+static void end(tracehost *h, uint32_t lwp)
+{
+    tracehost_reply reply;
+    wanted(tracehost_turn(h, USER, lwp, TRACEHOST_ENTER, TRACEHOST_EXIT, 0, &reply) == TRACEHOST_ANSWERED, "exit");
+    wanted(reply.kind == TRACEHOST_OK, "exit");
+    wanted(tracehost_turn(h, USER, lwp, TRACEHOST_LEAVE_CALL, 0, 0, &reply) == TRACEHOST_ANSWERED, "end");
+    wanted(reply.kind == TRACEHOST_ENDED, "end");
+}
+
 int main(int count, char **words)
 {
     tracehost h = TRACEHOST_CLOSED, copy = TRACEHOST_CLOSED;
-    tracehost_reply reply;
-    wanted(count == 2 || count == 3, "PROCESSES [gaps]");
+    const char *more = count == 3 ? words[2] : "";
+    wanted(count == 2 || count == 3, "PROCESSES [gaps | history | users]");
     wanted(tracehost_open(true, &h) == TRACEHOST_ANSWERED, "tracehost_open");
-    long processes = strtol(words[1], NULL, 10), more = count == 3 ? processes : 0;
-    for (long i = 0; i < processes + more; i++)
-        wanted(tracehost_spawn(&h, USER, &reply) == TRACEHOST_ANSWERED && reply.kind == TRACEHOST_NEW, "spawn");
-    for (uint32_t i = 0; i < more; i++) {
-        uint32_t lwp = FIRST_LWP + 2 * i;
-        wanted(tracehost_turn(&h, USER, lwp, TRACEHOST_ENTER, TRACEHOST_EXIT, 0, &reply) == TRACEHOST_ANSWERED, "exit");
-        wanted(reply.kind == TRACEHOST_OK, "exit");
-    }
+    long processes = strtol(words[1], NULL, 10), ended = strcmp(more, "gaps") == 0 ? processes : 0;
+    for (int i = 0; strcmp(more, "history") == 0 && i < ENDED_BEFORE; i++)
+        end(&h, spawn(&h, USER));
+    for (uint32_t user = USER + 1; strcmp(more, "users") == 0 && user <= LAST_USER; user++)
+        for (int i = 0; i < FULL; i++)
+            spawn(&h, user);
+    for (long i = 0; i < processes + ended; i++)
+        spawn(&h, USER);
+    for (uint32_t i = 0; i < ended; i++)
+        end(&h, FIRST_LWP + 2 * i);
     bytes = 0;
     wanted(tracehost_copy(&h, &copy) == TRACEHOST_ANSWERED, "tracehost_copy");
     printf("%zu\n", bytes);
