@@ -75,6 +75,8 @@ def test_installing(stale: Stale, command: str) -> None:
 def test_c_for_freebsd(stale: Stale) -> None:
     """The broker isn't linked with the release's library."""
     said = stale.run(f"clients/posix/tracehost-cc -o '{stale.room}/traced' clients/posix/examples/traced.c", 1)
+    begun, _, said = said.partition("\n")
+    assert begun.startswith("tracehost-cc: building the runtime and the broker in ")
     assert said.startswith(LIBRARY)
     assert not (stale.clone / "clients/posix/build/tracehost-broker").exists()
 

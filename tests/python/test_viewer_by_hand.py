@@ -256,7 +256,7 @@ class ByHand(unittest.TestCase):
 
     def test_a_phone(self) -> None:
         tab = self.open(self.random[300], width=390, height=844)
-        self.assertLessEqual(tab.value("corner.offsetWidth"), 80)
+        self.assertLessEqual(tab.value("corner.offsetWidth"), 390 / 4)  # the names have all their digits
         self.assertLessEqual(tab.value("document.documentElement.scrollWidth"), 390)
         self.assertGreater(tab.value("scroller.clientHeight"), 300)
 

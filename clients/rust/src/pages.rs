@@ -45,7 +45,13 @@ pub fn story(scenario: &Path, called: &Path, step: usize) -> Option<String> {
     let mut name = OsString::from("--called=");
     name.push(called);
     let at = format!("--at={step}");
-    let words = [OsStr::new("--story"), &name, OsStr::new(&at), OsStr::new("--"), scenario.as_os_str()];
+    let words = [
+        OsStr::new("--story"),
+        &name,
+        OsStr::new(&at),
+        OsStr::new("--"),
+        scenario.as_os_str(),
+    ];
     let said = printed(&program, &words, Vec::new(), TIME_FOR_A_STORY).ok()?;
     Some(String::from_utf8_lossy(&said).trim_end().to_owned())
 }
