@@ -18,7 +18,7 @@ RELEASE = TOP / "release" / f"{platform.machine()}-linux"
 # programs that tests start leave nothing in the repository
 sys.dont_write_bytecode = True
 os.environ["PYTHONDONTWRITEBYTECODE"] = "1"
-# where these are set commands also print reasons
+# commands print reasons, too, if these are set
 for variable in ("CI", "TRACEHOST_EXPLAIN"):
     os.environ.pop(variable, None)
 

@@ -63,7 +63,7 @@ class Renaming:
             del self.names[user]
 
     def _votes(self, left: Sequence[Row], right: Sequence[Row]) -> dict[int, Counter[int]]:
-        """How often a number of the right run is where a number of the left one is, in steps that are alike but for their
+        """How often a number of the right run is where a number of the left one is, in steps that are alike except for their
         numbers: those that both runs begin, or end, with, and if they aren't long those that match between. Each counts as
         often as there are such steps one after the other."""
         shapes = [[(self._shape(row[2]), self._shape(row[3])) for row in rows] for rows in (left, right)]

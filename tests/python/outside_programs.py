@@ -1,4 +1,4 @@
-"""Programs that nobody here wrote: Debian's source packages, downloaded into a folder of its own, of which nothing stays, and
+"""Programs that nobody here wrote: Debian's source packages, downloaded into a folder that is removed afterwards, and
 commands of a user who may do nothing else."""
 
 from __future__ import annotations

@@ -19,7 +19,7 @@ SPAWN: Step = {"user": 1001, "op": "spawn"}
 
 
 def one_higher(step: Step) -> Step:
-    """With the numbers that the processes of the first user have after one more spawn, but for its first process."""
+    """With the numbers that the processes of the first user have after one more spawn, except its first process."""
     numbers = {key: step[key] for key in ("caller", "target", "which", "lwp") if key in step and step["user"] == 1001}
     own = (*range(1001, 2000), *range(100_001, 104_000))
     return {**step, **{key: value + 1 for key, value in numbers.items() if value in own}}

@@ -1,7 +1,7 @@
 /** What an author of a debugger may want to look at: rules. `tools/format` writes them from format/notices.toml. */
 
 /**
- * A rule, and what it says if it holds: `open` is what is so at the end, where the debugger may have it still to do. `at` is
+ * A rule, and what it says if it holds: `open` is what a debugger may still do after the end. `at` is
  * the fact that is the step to look at, "" for the step that it is asked of.
  *
  * @typedef {{name: string, kind: "wrong" | "open", of: string, at: string, words: string, holds: (facts: any) => any}} Rule

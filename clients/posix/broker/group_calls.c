@@ -98,7 +98,7 @@ BODY(group_call)
 		say_error(ESRCH);
 }
 
-/* ---- orphaned groups, of which the model knows nothing: what FreeBSD does otherwise is told */
+/* ---- orphaned groups: the model has none, so a run says what FreeBSD does otherwise */
 
 /* Whether no member has a parent in another group of its session. The first process has one, a shell; process 1 is none. */
 static bool is_orphaned(int group)

@@ -54,7 +54,7 @@ static const struct row {
 	{SYS_close_range, 575, SAME},
 };
 
-/* The C library's own business, of which FreeBSD's makes other calls: memory, locks, clocks, and what it asks about itself. */
+/* The C library's own business: memory, locks, clocks, and what it asks about itself. FreeBSD's makes other calls for it. */
 static const short quiet[] = {
 	SYS_mmap, SYS_munmap, SYS_mprotect, SYS_madvise, SYS_mremap, SYS_brk, SYS_futex, SYS_clock_gettime, SYS_gettimeofday, SYS_time,
 	SYS_clock_getres, SYS_getpid, SYS_gettid, SYS_getppid, SYS_sched_yield, SYS_getcpu, SYS_set_robust_list, SYS_prctl,

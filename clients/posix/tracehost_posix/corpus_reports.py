@@ -14,7 +14,7 @@ _SECONDS = 60.0
 
 
 def explains() -> bool:
-    """Whether to print reasons: by $TRACEHOST_EXPLAIN, else on a terminal, and where $CI says that nobody can ask again."""
+    """Whether to print reasons: by $TRACEHOST_EXPLAIN, else on a terminal, and if $CI is set: nobody can ask again there."""
     choice = os.environ.get("TRACEHOST_EXPLAIN", "auto")
     return choice == "always" or (choice != "never" and (bool(os.environ.get("CI")) or sys.stdout.isatty()))
 

@@ -13,7 +13,7 @@ class Rule(NamedTuple):
 
     name: str
     kind: str
-    """``wrong``, or ``open``: so at the end of the session, where the debugger may have it still to do."""
+    """``wrong``, or ``open`` at the end of a session: the debugger may still do it."""
     of: str
     """What it is asked of."""
     at: str

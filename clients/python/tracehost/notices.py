@@ -25,7 +25,7 @@ class Notice(NamedTuple):
     """A step, from 1 among all users' steps."""
     user: int
     kind: str
-    """``wrong``, or ``open``: so at the end of the session, where the debugger may have it still to do."""
+    """``wrong``, or ``open`` at the end of a session: the debugger may still do it."""
     text: str
 
 

@@ -40,7 +40,7 @@ def command(program: str | os.PathLike[str] | None, kill_on_debugger_exit: bool 
 
 
 def explained(words: Sequence[str]) -> Sequence[str]:
-    """A command line that also asks for reasons where nobody can ask again: by $TRACEHOST_EXPLAIN, or if $CI is set."""
+    """A command line that also asks for reasons if $TRACEHOST_EXPLAIN says so, or if $CI is set: nobody can ask again there."""
     choice = os.environ.get("TRACEHOST_EXPLAIN", "always" if os.environ.get("CI") else "auto")
     is_chosen = any(word.startswith("--explain") for word in words)
     return words if is_chosen or choice not in ("always", "never") else [f"--explain={choice}", *words]

@@ -1,4 +1,4 @@
-//! A host for each user, by itself.
+//! One user's host, and a list of them for all users.
 
 ghost use Rattle.std.specs.Prelude.{◌≡◌, ◌<◌, ◌≤◌, None, true, IfOk, IfSome, OnOk, OnErr, box_value, length, option_map};
 ghost use Rattle.step_types.specs.Plain.{with_handler};

@@ -1,6 +1,6 @@
 /*
  * Drives reptyr's freebsd_ptrace.c as reptyr does: attaches to a process that makes calls, makes calls of its own in it, writes
- * to its memory, and lets it go on where it was. What is expected was written before the first run.
+ * to its memory, restores its registers and detaches. The expected answers were written before the first run.
  *
  *   reptyr           the target calls getppid(2)
  *   reptyr fopen     it calls fopen(3) too, whose open(2) is the C library's
