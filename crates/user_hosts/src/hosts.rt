@@ -162,13 +162,14 @@ impl<F: Decider + Send + Drop> UserHosts<F> {
 
 impl UserHosts<ByPolicy> {
     /// Makes these hosts equal to the source's, as `copy` does, in their own memory as far as that goes. An error means
-    /// out of memory, and then the hosts are unused.
+    /// out of memory, and then the hosts are unused, with the settings that they had.
     pub fn copy_from<F: Decider + Send + Drop>(
         &mut self,
         alloc: Global,
         source: &UserHosts<F>,
     ) -> Result<(), AllocError>
-        ensures { OnOk result (self.new ≡ source.now) }
+        ensures done { OnOk result (self.new ≡ source.now) }
+        ensures refused { OnErr result (self.new ≡ empty self.old.settings) }
     {
         match self.hosts.copy_from(alloc, &source.hosts) {
             Ok(()) => {

@@ -331,17 +331,19 @@ impl OwnHosts<ByPolicy> {
     }
 
     /// Makes these hosts equal to the source's, in their own memory as far as that goes. An error means out of memory, and
-    /// then the hosts are any ones.
+    /// then the hosts are any ones, with the settings that they had.
     pub(crate) fn copy_from<F: Decider + Send + Drop>(
         &mut self,
         alloc: Global,
         source: &OwnHosts<F>,
     ) -> Result<(), AllocError>
-        ensures { OnOk result (self.new ≡ source.now) }
+        ensures done { OnOk result (self.new ≡ source.now) }
+        ensures settings { OnErr result (self.new.settings ≡ self.old.settings) }
     {
-        self.settings = source.settings;
-        let _settings = source.settings;
-        copy_hosts(alloc, &mut self.made, source.made.as_slice())
+        let settings = source.settings;
+        copy_hosts(alloc, &mut self.made, source.made.as_slice())?;
+        self.settings = settings;
+        Ok(())
     }
 }
 
