@@ -39,7 +39,7 @@ HEADLINE = {
         tracehost_c/src/laws.rt all_calls_are_private
         tracehost_c/src/lib.rt tracehost_state tracehost_copy tracehost_copy_over tracehost_numbers tracehost_last_step
         tracehost_explain tracehost_close""",
-    "Other calls of the C library": "tracehost_c/src/lib.rt tracehost_rows tracehost_last_line",
+    "Other calls of the C library": "tracehost_c/src/lib.rt tracehost_rows tracehost_last_line tracehost_copy_user",
 }
 
 IMPORT = re.compile(r"^ *(?:pub |ghost )?use (Rattle\..*?)(?: as (\w+))?;?$", re.MULTILINE)

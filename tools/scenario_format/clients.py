@@ -50,6 +50,11 @@ def library_version(form: Format) -> str:
     return f'#define TRACEHOST_VERSION "{version()}"\n'
 
 
+def pkg_config_version(form: Format) -> str:
+    """The version in include/tracehost.pc."""
+    return f"Version: {version()}\n"
+
+
 def command_version(form: Format) -> str:
     """The version of a command in Python."""
     return f'VERSION = "{version()}"\n'
@@ -139,12 +144,6 @@ def runtime_requests(form: Format) -> str:
 
 
 # ---- the client in Python
-
-
-def python_replies(form: Format) -> str:
-    """The reader of each request's reply, if that isn't `ok`."""
-    rows = [f'    Request.{entry.name}: "{entry.reply_names[0]}",\n' for entry in form.requests if entry.reply_names != ["ok"]]
-    return f"REQUESTS = {{\n{''.join(rows)}}}\n"
 
 
 def python_overloads(form: Format) -> str:

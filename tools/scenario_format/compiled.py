@@ -11,19 +11,6 @@ from .tables import Format
 
 C_TYPES = {"pid": "th_pid", "lwp": "th_lwpid", "child": "th_pid", "code": "unsigned"}
 C_NAMES = {"ok": "DONE"}
-TAKEN = {
-    "word": "take_int(at, &reply->{})",
-    "status": "take_int(at, &reply->{})",
-    "signal": "take_int(at, &reply->{})",
-    "event": "take_name(at, &lwp_events, &reply->{})",
-    "flags": "take_set(at, &thp_stop_flags, &reply->{})",
-    "signals": "take_set(at, NULL, &reply->{})",
-    "events": "take_set(at, &thp_events, &reply->{})",
-    "handler": "take_handler(at, &reply->{})",
-    "decision": "take_decision(at, reply)",
-    "error": "take_error(at, &reply->{})",
-    "list": "take_list(at, step, &reply->count)",
-}
 TOLD = {
     "flags": "flags_of(told->{})",
     "handler": "told->has_handler ? (int)told->{} : -1",
@@ -47,8 +34,8 @@ def is_unsigned(field: Field) -> bool:
 
 def c_kinds(form: Format) -> str:
     kinds = [f"THP_{c_name(reply)}" for reply in form.shapes.replies]
-    text = "".join(f"    {kind},\n" for kind in (*kinds, "THP_REFUSED"))
-    return f"enum thp_kind {{ /* up to THP_ERROR in the order of tracehost.h */\n{text}    THP_NO_REPLY\n}};\n"
+    text = "".join(f"    {kind},\n" for kind in kinds)
+    return f"enum thp_kind {{ /* up to THP_ERROR in the order of tracehost.h */\n{text}    THP_REFUSED\n}};\n"
 
 
 def c_reply(form: Format) -> str:
@@ -59,33 +46,6 @@ def c_reply(form: Format) -> str:
         "/* A reply has the fields of its kind; the others are 0, and -1 is no handler. The error has the host system's number. */\n"
         f"struct thp_reply {{\n    enum thp_kind kind;\n{text}    size_t count; /* of a list */\n}};\n"
     )
-
-
-def c_letters(form: Format) -> dict[str, str]:
-    return {field.name: chr(ord("a") + place) for place, field in enumerate(in_lines(form))}
-
-
-def c_fields(form: Format) -> str:
-    cases = ""
-    for field in in_lines(form):
-        take = "take_number(at, &reply->{})" if is_unsigned(field) else TAKEN[field.kind]
-        cases += f"    case '{c_letters(form)[field.name]}': return {take.format(field.name)};\n"
-    return cases
-
-
-def c_form(letters: dict[str, str], reply: Reply) -> str:
-    def word(part: Part) -> str:
-        if part.field is None:
-            return part.word
-        letter = f"%{letters[part.field.name]}"
-        return f"{part.key}={letter}" if part.key else letter
-
-    return ("" if is_list(reply) else " ").join([reply.name, *map(word, reply.parts)])
-
-
-def c_forms(form: Format) -> str:
-    letters = c_letters(form)
-    return "".join(f'    [THP_{c_name(reply)}] = "{c_form(letters, reply)}",\n' for reply in form.shapes.replies)
 
 
 def c_taken(form: Format) -> str:

@@ -3,7 +3,7 @@
 from __future__ import annotations
 
 from .constants import quoted
-from .replies import Field, Member, Part, Reply
+from .replies import Field, Member, Reply
 from .tables import Format, wrapped
 
 WIDTH = 133
@@ -92,22 +92,12 @@ PYTHON_TYPES = {
     "flags": "StopFlag",
     "signals": "frozenset[Signal]",
     "events": "EventMask",
-    "handler": "int | None",
+    "handler": "Optional[int]",
     "decision": "Decision",
     "list": "tuple[int, ...]",
     "error": "NoReturn",
 }
-# what a field is by its word in a line, and by its members of the struct
-FROM_WORD = {
-    "word": "word({})",
-    "status": "_status({})",
-    "signal": "Signal(word({}))",
-    "event": 'LwpEvent["PL_EVENT_" + {}]',
-    "flags": "_flags({})",
-    "signals": "_signals({})",
-    "events": "_events({})",
-    "handler": "_handler({})",
-}
+# what a field is by its members of the struct
 FROM_STRUCT = {
     "word": "reply.{}",
     "status": "status_of(reply.{})",
@@ -120,9 +110,6 @@ FROM_STRUCT = {
     "decision": "*_decision(reply)",
     "error": "raise_number(reply.{})",
 }
-
-
-READERS = {"ok": "done"}
 
 
 def python_names(reply: Reply, field: Field) -> list[str]:
@@ -139,7 +126,7 @@ def python_class(reply: Reply) -> str:
         name, *more = python_names(reply, field)
         text += f"    {name}: {PYTHON_TYPES[field.kind]}\n"
         if field.kind == "decision":
-            text += "    pass_signal: int | None\n"
+            text += "    pass_signal: Optional[int]\n"
         if field.doc:
             text += f'    """{field.doc}"""\n'
         for other in more:
@@ -155,50 +142,6 @@ def python_classes(form: Format) -> str:
 def made(reply: Reply) -> str:
     """The class of its values, if they have more than one field or a class of their own."""
     return reply.python or {"status": "Waited"}.get(reply.name, "")
-
-
-def word_reader(reply: Reply) -> str:
-    """The function that reads the words of a line's reply."""
-    kind = made(reply) or (PYTHON_TYPES[reply.fields[0].kind] if reply.fields else "None")
-    head = f"def {READERS.get(reply.name, reply.name)}(words: Sequence[str]) -> {kind}:\n"
-    if is_list(reply):
-        return f"{head}    return tuple(map(word, words[1:]))\n\n\n"
-    values = [value_of_word(place, part) for place, part in enumerate(reply.parts, 1) if part.field]
-    fixed = {0: reply.name} | {place: part.word for place, part in enumerate(reply.parts, 1) if part.word}
-    names = ", ".join(f'{place}: "{name}"' for place, name in fixed.items())
-    last = ", True" if any(field.kind == "decision" for field in reply.fields) else ""
-    head += f"    _form(words, {len(reply.parts) + 1}, {{{names}}}{last})\n"
-    if not values:
-        return f"{head}\n\n"
-    short = f"    return {made(reply)}({', '.join(values)})\n" if made(reply) else f"    return {values[0]}\n"
-    if len(short) <= WIDTH:
-        return f"{head}{short}\n\n"
-    return f"{head}    return {made(reply)}(\n" + "".join(f"        {value},\n" for value in values) + "    )\n\n\n"
-
-
-def value_of_word(place: int, part: Part) -> str:
-    assert part.field is not None
-    if part.field.kind == "decision":
-        return f"*_decision(words[{place}:])"
-    word = f'_keyed(words[{place}], "{part.key}")' if part.key else f"words[{place}]"
-    return FROM_WORD[part.field.kind].format(word)
-
-
-def python_readers(form: Format) -> str:
-    return "".join(word_reader(reply) for reply in form.shapes.replies if reply.name not in ("nothing", "held", "error"))
-
-
-def python_readers_of(op: str, form: Format) -> str:
-    names = next(one.reply_names for one in form.ops if one.name == op)
-    return "".join(f'    "{name}": {READERS.get(name, name)},\n' for name in names)
-
-
-def python_ptrace_readers(form: Format) -> str:
-    return python_readers_of("ptrace", form)
-
-
-def python_turn_readers(form: Format) -> str:
-    return python_readers_of("turn", form)
 
 
 def struct_reader(reply: Reply) -> str:

@@ -3,3 +3,7 @@ pub mod Parts
 pub mod RowLemmas
 pub mod RowTexts
 pub mod RowTells
+pub mod TraceLemmas
+pub mod ChangeLemmas
+pub mod WriteLemmas
+pub mod StateLemmas

@@ -1,25 +1,24 @@
-//! Adds to each JSON line of a run the step that it answers. docs/FORMAT.md lists the members.
+//! The JSON lines of a run with the steps that they answer. docs/FORMAT.md lists the members.
 //!
-//! `write_states` also writes the rows that each step changed, as its user sees them.
+//! `write_trace` writes the lines of a run's replies with their steps. `write_states` makes the steps itself, and also writes
+//! the rows that each one changed, as its user sees them.
 //!
-//! `TraceWriter` is a writer around another one: `scenario_runs` writes a reply's line into it, and it puts the step's members
-//! in front. So the run itself doesn't know of traces.
+//! The main clauses: what is written is the text of the definition (specs/Traces, specs/Changes), or its beginning if a write
+//! failed. Law `laws::rows_tell`: rows with the same text are the same.
 //!
-//! The main clause is that of `rows_text`: the text is that of the definition (specs/Rows). Law `laws::rows_tell`: rows
-//! with the same text are the same. No clause speaks of the members
-//! of a run's lines. The tests named schema and trace compare these with the schema and the scenario.
-//!
-//! Begin with `writing`, then with `states`.
+//! Begin with `lines`, then with `traces` and `states`.
 #![tactic(auto)]
 
 mod changes;
 pub mod laws;
+mod lines;
 mod places;
 mod rows;
 mod states;
+mod traces;
 mod writing;
 
 pub use places::ScenarioSteps;
 pub use rows::rows_text;
 pub use states::{write_fault, write_states};
-pub use writing::TraceWriter;
+pub use traces::{replies_to, write_trace, write_trace_by_user};

@@ -1,6 +1,6 @@
 //! Rows of processes and LWPs as JSON objects, and the text of all rows that a user sees. A member that is false, 0, empty
 //! or none is left out.
-ghost use Rattle.std.specs.Prelude.{◌≡◌, map, IfOk};
+ghost use Rattle.std.specs.Prelude.{ℕ, ◌≡◌, map, IfOk};
 ghost use Rattle.json.specs.Json.{Json};
 ghost use Rattle.json.specs.Tree.{items_tokens, json_tokens};
 ghost use Rattle.json.specs.Value.{items_of};
@@ -24,7 +24,11 @@ pub(crate) trait Row: Copy + PartialEq + Drop {
     ghost value: { Self → Json };
 
     /// The number of its process or LWP.
-    fn number(&self) -> u32;
+    ghost number_of: { Self → ℕ };
+
+    /// Returns the number of its process or LWP.
+    fn number(&self) -> u32
+        ensures { result ≡ number_of self.now };
 
     /// Writes the row as an object.
     fn push(&self, out: &mut Writer) -> Result<(), AllocError>
@@ -184,6 +188,8 @@ fn push_process(out: &mut Writer, row: &ProcData) -> Result<(), AllocError>
 impl Row for ProcData {
     ghost value = { λ p. process_value p };
 
+    ghost number_of = { λ p. p.pid };
+
     fn number(&self) -> u32 {
         self.pid.get()
     }
@@ -263,6 +269,8 @@ fn push_lwp(out: &mut Writer, row: &LwpData) -> Result<(), AllocError>
 #[tactic(auto, using(reply_json::proofs::TokenLemmas::put_rules))]
 impl Row for LwpData {
     ghost value = { λ l. lwp_value l };
+
+    ghost number_of = { λ l. l.tid };
 
     fn number(&self) -> u32 {
         self.tid.get()

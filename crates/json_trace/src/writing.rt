@@ -1,131 +1,60 @@
-//! A writer that adds the steps to the JSON lines of a run.
-ghost use Rattle.std.specs.Io.{WritesAtMost};
+//! A text that is written in parts.
+ghost use Rattle.std.specs.Prelude.{ℕ, List, Option, Err, ◌≡◌, [], false, IfErr, IfOk, OnOk};
+ghost use Rattle.scenario_runs.specs.Runs.{Writes};
+ghost use Rattle.scenario_runs.specs.declared.running.RunFault.TheVariants.{Write as WriteFault};
+ghost use Rattle.scenario_runs.specs.Parts.{Begins, Parted};
 
-use crate::places::{Place, Places};
-use json::Writer;
-use memchr::memchr;
-use open_sessions::push_step;
-use pid_blocks::Uid;
-use scenario_runs::Scenario;
+use scenario_runs::{RunFault, write_whole};
 use std::alloc::{AllocError, Global};
-use std::io::{BufWriter, Write};
-use std::{io, mem, str};
+use std::io::Write;
 
-/// The bytes that are kept before they are written.
-const KEPT: usize = 65536;
+/// The bytes of lines that are written together, if no line is longer.
+const PART: usize = 32768;
 
-/// More bytes than a line has before its reply: a policy has at most 16 rules, and a rule fewer than 300 bytes. So no
-/// memory is taken while lines are written.
-const ROOM: usize = 8192;
-
-/// The part of a line that comes next.
-#[derive(Clone, Copy, Drop)]
-enum Part {
-    /// `{"user":1001,`
-    User,
-    /// `"step":1,`
-    Number,
-    /// What follows, to the line feed.
-    Reply,
-}
-
-/// A writer of the JSON lines of a scenario's run. It writes each of them with two more members after `user` and
-/// `step`: `index`, the number of its step among all users' steps, and `asked`, the step. Each user's lines come in the
-/// order of their steps, which may be all users' order, or user by user, or only one user's.
+/// Lines that are written next.
 #[derive(Drop)]
-pub struct TraceWriter<'a, W: Write + Drop> {
-    places: Places<'a>,
-    part: Part,
-    /// The line before its reply, so far.
-    head: Vec<u8>,
-    out: BufWriter<W>,
+pub(crate) struct Part {
+    pub(crate) text: Vec<u8>,
+    /// A part before it was written.
+    pub(crate) is_begun: bool,
 }
 
-impl<'a, W: Write + Drop> TraceWriter<'a, W> {
-    /// Creates a writer of the lines of this scenario. An error means out of memory.
-    pub fn new(alloc: Global, scenario: &'a Scenario, out: W) -> io::Result<TraceWriter<'a, W>> {
-        Ok(TraceWriter {
-            places: Places::new(alloc, scenario)?,
-            part: Part::User,
-            head: Vec::with_capacity(alloc, ROOM)?,
-            out: BufWriter::with_capacity(alloc, KEPT, out)?,
+impl Part {
+    /// Creates the first part, with room for one more line: so no memory is taken once it is written. An error means out
+    /// of memory.
+    pub(crate) fn first(alloc: Global) -> Result<Part, AllocError>
+        ensures { IfOk result (λ p. (p.text.items ≡ []) × (p.is_begun ≡ false)) }
+    {
+        Ok(Part {
+            text: Vec::with_capacity(alloc, 2 * PART)?,
+            is_begun: false,
         })
     }
 
-    /// Takes the bytes of the head up to the next comma, and returns how many they are.
-    fn take_head(&mut self, bytes: &[u8], next: Part) -> io::Result<usize>
-        ensures { WritesAtMost result bytes.now }
+    /// Writes the part if it is full.
+    pub(crate) fn write_full<W: Write>(&mut self, writer: &mut W) -> Result<(), RunFault>
+        ensures ok { OnOk result ((before : Option (List ℕ)) (rest all : List ℕ)
+            → Parted before (W.contents writer.old) self.old.text.items rest all self.old.is_begun
+            → Parted before (W.contents writer.new) self.new.text.items rest all self.new.is_begun) }
+        ensures err { IfErr result (λ e. (before : Option (List ℕ)) (rest all : List ℕ)
+            → Parted before (W.contents writer.old) self.old.text.items rest all self.old.is_begun
+            → Writes (Err e) before (W.contents writer.new) all) }
+        ensures kind { IfErr result (λ e. e ≡ WriteFault) }
     {
-        let Some(comma) = memchr(b',', bytes) else {
-            self.head.extend_from_slice(bytes)?;
-            return Ok(bytes.len());
-        };
-        self.head.extend_from_slice(&bytes[..=comma])?;
-        self.part = next;
-        if let Part::Reply = next {
-            self.write_head()?;
+        if self.text.len() >= PART {
+            write_whole(writer, self.text.as_slice())?;
+            self.text.clear();
+            self.is_begun = true;
         }
-        Ok(comma + 1)
-    }
-
-    /// Writes the head with the step that its line answers.
-    fn write_head(&mut self) -> io::Result<()> {
-        if let Some(user) = user_of(self.head.as_slice()) {
-            if let Some(place) = self.places.take(user) {
-                push_members(&mut self.head, &place)?;
-            }
-        }
-        self.out.write_all(self.head.as_slice())?;
-        self.head.clear();
         Ok(())
     }
 
-    /// Writes the bytes of the reply up to the line's end, and returns how many they are.
-    fn write_reply(&mut self, bytes: &[u8]) -> io::Result<usize>
-        ensures { WritesAtMost result bytes.now }
+    /// Writes the last part.
+    pub(crate) fn end<W: Write>(&self, writer: &mut W) -> Result<(), RunFault>
+        ensures writes { (before : Option (List ℕ)) (all : List ℕ) → Parted before (W.contents writer.old) self.now.text.items [] all self.now.is_begun → Writes result before (W.contents writer.new) all }
+        ensures front { (before : Option (List ℕ)) (rest all : List ℕ) → Parted before (W.contents writer.old) self.now.text.items rest all self.now.is_begun → Begins before (W.contents writer.new) all }
+        ensures kind { IfErr result (λ e. e ≡ WriteFault) }
     {
-        let Some(end) = memchr(b'\n', bytes) else {
-            return self.out.write(bytes);
-        };
-        self.out.write_all(&bytes[..=end])?;
-        self.part = Part::User;
-        Ok(end + 1)
+        write_whole(writer, self.text.as_slice())
     }
-}
-
-impl<W: Write + Drop> Write for TraceWriter<'_, W> {
-    fn write(&mut self, bytes: &[u8]) -> io::Result<usize> {
-        match self.part {
-            Part::User => self.take_head(bytes, Part::Number),
-            Part::Number => self.take_head(bytes, Part::Reply),
-            Part::Reply => self.write_reply(bytes),
-        }
-    }
-
-    fn flush(&mut self) -> io::Result<()> {
-        self.out.flush()
-    }
-}
-
-/// Returns the user of a line that begins with these bytes.
-fn user_of(head: &[u8]) -> Option<Uid> {
-    let rest = head.strip_prefix(b"{\"user\":")?;
-    let comma = memchr(b',', rest)?;
-    let number: u32 = str::from_utf8(&rest[..comma]).ok()?.parse().ok()?;
-    Uid::new(number).ok()
-}
-
-/// Adds the members of a step to the head.
-fn push_members(head: &mut Vec<u8>, place: &Place<'_>) -> Result<(), AllocError> {
-    let alloc = *head.allocator();
-    let mut out = Writer::new(mem::replace(head, Vec::new(alloc)));
-    out.key("index")?;
-    out.u64(u64::from(place.index))?;
-    out.key("asked")?;
-    out.begin_object()?;
-    push_step(&mut out, place.step, place.policy)?;
-    out.end_object()?;
-    *head = out.into_inner();
-    head.push(b',')?;
-    Ok(())
 }

@@ -1,5 +1,5 @@
 -- How a table stores its rows: in slots, each with a birth number, and with links in order of birth.
-use Rattle.std.specs.Prelude.{◌≡◌, ℕ, zero, suc, ◌+◌, ◌-◌, ◌<◌, Bool, true, false, ◌==◌, List, [], Option, Some, None, nat_eq, count_by, length, find, filter_map, get_or, is_none, is_some, if◌then◌else◌, unwrap_or, IfSome, IsSomeAnd}
+use Rattle.std.specs.Prelude.{◌≡◌, ℕ, zero, suc, ◌+◌, ◌-◌, ◌<◌, Bool, true, false, ◌==◌, ◌&&◌, List, [], Option, Some, None, nat_eq, count_by, length, find, filter_map, get_or, is_none, is_some, if◌then◌else◌, unwrap_or, IfSome, IsSomeAnd}
 use Rattle.std.specs.List.{cons_option}
 use Rattle.std.specs.Option.{option_and_then, option_map, option_map_or, option_or}
 use Rattle.std.specs.Map.{lookup}
@@ -87,6 +87,10 @@ without_slot gone marks ends = record {
   marks = if is_some (first_without gone ends) then marks else no_marks;
   waiter = ends.waiter;
 }
+
+-- whether a list is empty, by its ends
+abbrev pub has_no_slots : ListHead → Bool
+has_no_slots ends = nat_eq ends.count 0 && is_none ends.first && is_none ends.last
 
 -- the ends of the list of a process
 abbrev pub ends_at : List (ℕ × ListHead) → ℕ → ListHead

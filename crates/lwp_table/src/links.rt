@@ -5,7 +5,7 @@ ghost use Rattle.std.specs.Option.{option_map, option_map_or, option_copied};
 ghost use Rattle.slab.specs.Slab.{get, slab_len, ContainsKey};
 ghost use Rattle.std.specs.Map.{lookup};
 ghost use Rattle.indexmap.specs.IndexMap.{spare};
-ghost use Rattle.lwp_table.specs.Kept.{linked, closed_up, ends_at, marked, awaited, IsWaiter, empty_head, place_of, seen_by, born_node, node_named, extended, without_slot};
+ghost use Rattle.lwp_table.specs.Kept.{linked, closed_up, ends_at, marked, awaited, has_no_slots, IsWaiter, empty_head, place_of, seen_by, born_node, node_named, extended, without_slot};
 ghost use Rattle.lwp_table.specs.Chain.{IsNearest, up};
 ghost use Rattle.lwp_table.specs.Lwps.{waits_for};
 ghost use Rattle.lwp_table.specs.Marks.{no_marks, traits_of, is_bare, gathered, noted, left};
@@ -49,6 +49,13 @@ impl ListHead {
             marks: Marks::none(),
             waiter: None,
         }
+    }
+
+    /// Tests whether the list is empty.
+    fn is_empty(&self) -> bool
+        ensures { result ≡ has_no_slots self.now }
+    {
+        self.count == 0 && self.first.is_none() && self.last.is_none()
     }
 
     /// Returns the ends after this slot has joined the list behind the last one, with these marks.
@@ -314,6 +321,51 @@ pub fn leave(heads: &mut NumberIndex<ListHead>, hints: &LwpHints, gone: &RowNode
     let place = head_place(heads, hints, gone.row.pid);
     if let Some(ends) = heads.get_index_mut(place) {
         *ends = ends.without(gone.own, ends.marks.left(gone.row.tid));
+    }
+}
+
+/// Gives back the list of a process without rows, unless an LWP waits for the process. Returns whether it did.
+pub fn give_back(
+    heads: &mut NumberIndex<ListHead>,
+    hints: &mut LwpHints,
+    rows: &Slab<RowNode>,
+    slots: &NumberIndex<usize>,
+    pid: Pid,
+) -> bool
+    requires { (s : ℕ) (slot : RowNode) → get rows.now s ≡ Some slot → lookup (nat_eq slot.row.tid) slots.now.entries ≡ Some s }
+    ensures ends { (q : ℕ) → ends_at heads.new.entries q ≡ (if result && nat_eq pid q then empty_head else ends_at heads.old.entries q) }
+    ensures empty { result ≡ true → has_no_slots (ends_at heads.old.entries pid) ≡ true }
+    ensures unawaited { result ≡ true → (s : ℕ) (slot : RowNode) → get rows.now s ≡ Some slot → IsWaiter (ends_at heads.old.entries pid) pid slot.row → ⊥ }
+    ensures spare { spare heads.old ≤ spare heads.new }
+{
+    let place = head_place(heads, hints, pid);
+    let Some((_, ends)) = heads.get_index(place) else {
+        return false;
+    };
+    if !ends.is_empty() || is_awaited(rows, slots, hints, ends.waiter, pid) {
+        return false;
+    }
+    heads.swap_remove_index(place);
+    if let Some((moved, _)) = heads.get_index(place) {
+        hints.note_moved(*moved, place);
+    }
+    true
+}
+
+/// Tests whether the LWP that a list names, if any, waits for the process.
+fn is_awaited(
+    rows: &Slab<RowNode>,
+    slots: &NumberIndex<usize>,
+    hints: &LwpHints,
+    named: Option<Tid>,
+    child: Pid,
+) -> bool
+    requires { (s : ℕ) (slot : RowNode) → get rows.now s ≡ Some slot → lookup (nat_eq slot.row.tid) slots.now.entries ≡ Some s }
+    ensures { result ≡ option_map_or (λ tid. option_map_or (λ slot. waits_for child slot.row.mode) (node_named (get rows.now) slots.now.entries tid) false) named false }
+{
+    match named {
+        Some(tid) => waits_for(rows, slots, hints, tid, child),
+        None => false,
     }
 }
 

@@ -66,6 +66,12 @@ impl LwpHints {
         self.hints.note_new(of_process(pid.get()), place, there);
     }
 
+    /// Notes the place to which the list of a process has moved.
+    #[inline(always)]
+    pub fn note_moved(&mut self, pid: u32, place: usize) {
+        self.hints.note(of_process(pid), place);
+    }
+
     /// Makes hints for this many LWPs and as many processes. The indices lead to those that there are. Fails when out of
     /// memory.
     #[inline(always)]

@@ -5,9 +5,8 @@
 //! that process or user. Birth numbers only rise, so a new row comes last in both lists. No walk reads them: they
 //! specify the order of the links.
 //!
-//! Entries stay in both indexes when their rows go, since most numbers are used again: `slots` then leads to a slot
-//! with another row or none, which a look-up sees, and `heads` to the ends of an empty list. So an index has at most an
-//! entry for each number that a row has had.
+//! What is gone leaves nothing: a row's number leaves `slots` with it, and a process's list leaves `heads` with the
+//! last row, unless an LWP waits for the process.
 
 ghost use Rattle.std.specs.Prelude.{◌≡◌, ◌==◌, ◌+◌, ◌<◌, ◌≤◌, ◌++◌, [], ◌∷◌, false, IsSome, IsSomeAnd, OnOk, OnErr, IfOk, count_by, filter, map, option_map, slice_get, if◌then◌else◌};
 ghost use Rattle.pid_blocks.specs.Blocks.{tid_owner};
@@ -19,8 +18,8 @@ use crate::LwpData;
 use crate::copies::{copy_entries, copy_values};
 use crate::hasher::NumberIndex;
 use crate::links::{
-    Link, Links, ListHead, RowNode, close_up, ends_of, join, join_user, leave, leave_user, mark,
-    name_waiter, next_born, node_of, note, set_link, slot_of, waits_anew,
+    Link, Links, ListHead, RowNode, close_up, ends_of, give_back, join, join_user, leave,
+    leave_user, mark, name_waiter, next_born, node_of, note, set_link, slot_of, waits_anew,
 };
 use crate::lwp_hints::LwpHints;
 use crate::marks::{Marks, Traits};
@@ -321,9 +320,17 @@ impl LwpTable {
     {
         let slot = slot_of(&self.rows, &self.slots, &self.hints, tid);
         let gone = self.rows.remove(slot);
+        self.slots.swap_remove(&tid.get());
         leave(&mut self.heads, &self.hints, &gone);
         leave_user(&mut self.users, &gone);
         close_up(&mut self.rows, &gone);
+        give_back(
+            &mut self.heads,
+            &mut self.hints,
+            &self.rows,
+            &self.slots,
+            gone.row.pid,
+        );
     }
 
     /// Returns the row at this place in order of birth, by a pass over all slots for each row before it. Meant for

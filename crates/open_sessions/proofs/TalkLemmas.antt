@@ -223,14 +223,3 @@ module _ (style : Style) (first : Machine) (r u h w : Option (List ℕ)) (m : Ma
 -- a line that does not end with the input
 pub lost_feed : (u v : Option (List ℕ)) (text : List ℕ) (end : LineEnd) → (end ≡ Input → ⊥) → Loses u v text (end_bytes end) → Loses u v text (end_bytes Feed)
 lost_feed u v text end not lost = grind (arith, not)
-
--- nothing was taken, and nothing written
-pub begins_not : (style : Style) (first : Machine) (r h : Option (List ℕ)) → Serves style (Err Memory) first r r h h
-begins_not style first r h = (
-  [],
-  [],
-  omega arith,
-  record { bytes = []; host = first; taken = grind arith; answered = refl },
-  λ some. absurd (omega arith),
-  grind (arith, append-nil {A = ℕ}),
-)

@@ -1,6 +1,7 @@
 -- What an open session is, and what its calls do.
-use Rattle.std.specs.Prelude.{⊤, ◌≡◌, ℕ, ◌-◌, ◌+◌, ◌^◌, List, Option, Some, None, Ok, Err, slice_index}
+use Rattle.std.specs.Prelude.{⊤, ◌≡◌, ℕ, ◌-◌, ◌+◌, ◌^◌, List, Option, Some, None, Ok, Err, slice_index, slice_set}
 use Rattle.{pid_blocks.specs.Users.IsUser, requests.specs.{Hosts.Steps as HostSteps, Machine.Machine, View.view}, scenario_runs.specs.declared.style.Style.Style}
+use Rattle.user_hosts.specs.Made.{CopiesUser as HostCopiesUser}
 use Rattle.step_types.specs.{Plain.UserStep, Plain.PlainStep, declared.Reply.Reply}
 use Rattle.{scenario_text.specs.{declared.fault.Fault.Fault, OneStep.IsStep}, open_sessions.specs.{Answers.{LineReply, AnswersLine, answer_text, reply_text, made_after}, StepLines.{HasNames, as_line, line_of}, ViewWords.view_words}}
 
@@ -38,6 +39,13 @@ pub record Answers (line : List ℕ) (s t : OpenSession) : Type 0 where
   pub last : t.last ≡ Some reply
   pub asked : IsAsked line t.asked
   pub text : (style : Style) → last_text style t ≡ reply_text style s.made reply
+
+-- a user sees what the source shows, and has had as many answers as there; all others see and have had what they did
+pub record CopiesUser (u : ℕ) (s source t : OpenSession) : Type 0 where
+  pub host : HostCopiesUser u s.host source.host t.host
+  pub made : t.made ≡ slice_set s.made (u - 1001) (slice_index source.made (u - 1001))
+  pub last : t.last ≡ None
+  pub asked : t.asked ≡ None
 
 -- a user has had the most answers that are counted
 abbrev pub IsFull : ℕ → OpenSession → Type 0

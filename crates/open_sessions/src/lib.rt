@@ -33,4 +33,4 @@ pub use front::copy_front;
 pub use serve_fault::ServeError;
 pub use serving::serve;
 pub use session::{Session, SessionCopy};
-pub use step_members::push_step;
+pub use step_members::{policy_of, push_step};

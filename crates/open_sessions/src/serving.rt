@@ -118,7 +118,7 @@ pub fn serve<R: LineSource, W: Write>(
     ensures serves { Serves style result (empty settings) (R.Read.remaining reader.old) (R.Read.remaining reader.new) (W.contents writer.old) (W.contents writer.new) }
     ensures failed { result ≡ Err ReadFault → (R.LineSource.may_fail ≡ true) ⊎ IsEndless (R.Read.remaining reader.old) }
 {
-    let mut session = Session::new(alloc, settings)?;
+    let mut session = Session::new(alloc, settings);
     let mut line = Vec::new(alloc);
     let mut text = String::new(alloc);
     let served = answer_all(

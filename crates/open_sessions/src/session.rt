@@ -1,13 +1,15 @@
 //! The open session.
 
-ghost use Rattle.std.specs.Prelude.{ℕ, List, ◌≡◌, ◌≢◌, ◌++◌, Ok, Err, None, Some, replicate, length, IfOk, IfErr, IfSome, OnOk, OnErr, string_bytes, option_map};
+ghost use Rattle.std.specs.Prelude.{ℕ, List, ◌≡◌, ◌≢◌, ◌↔◌, ◌++◌, Ok, Err, None, Some, replicate, length, IfOk, IfErr, IfSome, OnOk, OnErr, string_bytes, option_map};
 ghost use Rattle.requests.specs.Hosts.{Steps as HostSteps};
 ghost use Rattle.requests.specs.Machine.{empty};
 ghost use Rattle.requests.specs.View.{view};
+ghost use Rattle.visibility.specs.Numbers.{NumbersDiffer};
 ghost use Rattle.open_sessions.specs.Answers.{last_numbers, last_reply, shown};
-ghost use Rattle.open_sessions.specs.Calls.{last_text, state_of, Steps, Answers, IsFull, FullFor, LineOf, NoLine};
+ghost use Rattle.open_sessions.specs.Calls.{last_text, state_of, Steps, Answers, CopiesUser, IsFull, FullFor, LineOf, NoLine};
 ghost use Rattle.open_sessions.specs.declared.fault.SessionFault.TheVariants as session_fault;
 ghost use Rattle.scenario_text.specs.declared.fault.Fault.TheVariants.{Memory as NoMemory};
+ghost use Rattle.user_hosts.specs.declared.hosts.CopyRefusal.TheVariants.{Settings as OtherSettings};
 
 use crate::answers::{LineAnswer, copy_of, numbers_of, reply_of};
 use crate::fault::SessionFault;
@@ -17,26 +19,27 @@ use crate::step_members::step_line;
 use crate::texts::push_last;
 use crate::view_words::words_of;
 use pid_blocks::Uid;
-use requests::{Host, PlainStep, Reply};
+use requests::{PlainStep, Reply};
 use scenario_runs::{Fault, StepReader, Style, USERS};
 use std::alloc::{AllocError, Global};
 use std::marker::Model;
 use stop_handlers::ByPolicy;
 use trace_stop::Settings;
-use visibility::{View, user_view};
+use user_hosts::{CopyRefusal, UserHosts};
+use visibility::View;
 
 /// A host, the number of answers that each user has had, the last answer and the step that it answers. The reader of the
 /// lines' steps and the text of an answer are kept for their memory.
 #[derive(Drop)]
 pub struct Session {
-    host: Host<ByPolicy>,
+    host: UserHosts<ByPolicy>,
     made: [u64; USERS],
     last: Option<LineAnswer>,
     asked: Option<(Uid, PlainStep)>,
     steps: StepReader,
     text: String,
     /// A host that another session had, kept for its memory.
-    spare: Option<Box<Host<ByPolicy>>>,
+    spare: Option<Box<UserHosts<ByPolicy>>>,
 }
 
 impl Model for Session {
@@ -58,7 +61,7 @@ impl Model for Session {
 /// A copy of a session, which another session can become. What the other one keeps for its memory isn't in it.
 #[derive(Drop)]
 pub struct SessionCopy {
-    host: Box<Host<ByPolicy>>,
+    host: Box<UserHosts<ByPolicy>>,
     made: [u64; USERS],
     last: Option<LineAnswer>,
     asked: Option<(Uid, PlainStep)>,
@@ -81,20 +84,19 @@ impl Model for SessionCopy {
 }
 
 impl Session {
-    /// Opens a session with an unused host. An error means out of memory.
-    pub fn new(alloc: Global, settings: Settings) -> Result<Session, AllocError>
-        ensures { IfOk result (λ s. s ≡ record { host = empty settings; made = replicate 64 0; last = None; asked = None }) }
+    /// Opens a session with an unused host. It takes no memory before the first spawn.
+    pub fn new(alloc: Global, settings: Settings) -> Session
+        ensures { result ≡ record { host = empty settings; made = replicate 64 0; last = None; asked = None } }
     {
-        let host = Host::new(alloc, settings)?;
-        Ok(Session {
-            host,
+        Session {
+            host: UserHosts::new(alloc, settings),
             made: [0; USERS],
             last: None,
             asked: None,
             steps: StepReader::new(alloc),
             text: String::new(alloc),
             spare: None,
-        })
+        }
     }
 
     /// Returns another session with an equal host, the same numbers of answers and the same last answer. From then on
@@ -140,7 +142,7 @@ impl Session {
 
     /// Becomes the copy. Returns the host that the session had, for another session to keep.
     #[inline(always)]
-    pub fn become_copy(&mut self, copy: SessionCopy) -> Box<Host<ByPolicy>>
+    pub fn become_copy(&mut self, copy: SessionCopy) -> Box<UserHosts<ByPolicy>>
         ensures { self.new ≡ copy }
     {
         let SessionCopy {
@@ -156,8 +158,33 @@ impl Session {
         host
     }
 
+    /// Makes what a user has here equal to what the user has in the source: the processes, and the number of answers. All
+    /// other users keep theirs. It takes the time and the memory of only this user's processes. No answer is the last one
+    /// afterwards.
+    ///
+    /// # Errors
+    ///
+    /// `Settings` if the source has other settings, and `Memory`. Nothing has changed.
+    pub fn copy_user(
+        &mut self,
+        alloc: Global,
+        user: Uid,
+        source: &Session,
+    ) -> Result<(), CopyRefusal>
+        ensures done { OnOk result (CopiesUser user self.old source.now self.new) }
+        ensures refused { OnErr result (self.new ≡ self.old) }
+        ensures settings { (result ≡ Err OtherSettings) ↔ (source.now.host.settings ≢ self.old.host.settings) }
+    {
+        self.host.copy_user(alloc, user, &source.host)?;
+        let slot = user.slot();
+        self.made[slot] = source.made[slot];
+        self.last = None;
+        self.asked = None;
+        Ok(())
+    }
+
     /// Keeps a host for its memory, which the next copy of this session takes.
-    pub fn keep(&mut self, spare: Box<Host<ByPolicy>>)
+    pub fn keep(&mut self, spare: Box<UserHosts<ByPolicy>>)
         ensures { self.new ≡ self.old }
     {
         self.spare = Some(spare);
@@ -305,18 +332,32 @@ impl Session {
 
     /// Returns what the user sees of the host. An error means out of memory.
     pub fn view(&self, alloc: Global, user: Uid) -> Result<View, AllocError>
-        ensures { IfOk result (λ v. v ≡ view user self.now.host) }
+        ensures view { IfOk result (λ v. v ≡ view user self.now.host) }
+        ensures differ { IfOk result (λ v. NumbersDiffer v) }
     {
-        user_view(alloc, &self.host, user)
+        self.host.view(alloc, user)
     }
 }
 
 /// Makes a step of the user on the host. A handler that it installs answers by its policy.
-fn make_step(alloc: Global, host: &mut Host<ByPolicy>, user: Uid, step: &PlainStep) -> Reply
+fn make_step(alloc: Global, host: &mut UserHosts<ByPolicy>, user: Uid, step: &PlainStep) -> Reply
     ensures { HostSteps user step.now host.old host.new result }
 {
     match host.step_without_handler(alloc, user, step) {
         Some(reply) => reply,
-        None => host.step(alloc, user, step.by_policy()),
+        None => make_with_handler(alloc, host, user, step),
     }
+}
+
+/// Makes a step as `make_step` does. It is apart, so that steps without a handler need no room for one.
+#[inline(never)]
+fn make_with_handler(
+    alloc: Global,
+    host: &mut UserHosts<ByPolicy>,
+    user: Uid,
+    step: &PlainStep,
+) -> Reply
+    ensures { HostSteps user step.now host.old host.new result }
+{
+    host.step(alloc, user, step.by_policy())
 }

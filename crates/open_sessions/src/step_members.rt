@@ -317,7 +317,7 @@ pub fn push_step<H>(
 }
 
 /// Returns the policy that a step installs.
-fn policy_of(step: &PlainStep) -> Option<&Policy>
+pub fn policy_of(step: &PlainStep) -> Option<&Policy>
     ensures { borrowed result ≡ policy_of step.now }
 {
     match step {

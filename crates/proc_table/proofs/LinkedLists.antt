@@ -1,5 +1,5 @@
 -- The lists of both kinds after a row has moved from one to another.
-use Rattle.proc_table.proofs.CommonNames.{nat_tests, ◌≡◌, ◌≢◌, ℕ, List, Option, Some, None, sym, ap, ◌∙◌, inl, inr, nat_eq, cond, ◌<◌, arith, rules, lookup, option_map, cases_eq, ListKind, Tracees}
+use Rattle.proc_table.proofs.CommonNames.{nat_tests, false, same_Some, ◌≡◌, ◌≢◌, ℕ, List, Option, Some, None, sym, ap, ◌∙◌, inl, inr, nat_eq, cond, ◌<◌, arith, rules, lookup, option_map, cases_eq, ListKind, Tracees}
 use Rattle.proc_table.proofs.CommonNames.{RowNode, IsLinked, keys, other, node_of, nodes_of, rows_of, AreLinked, IsHead}
 use Rattle.proc_table.proofs.Every.{some_and}
 use Rattle.proc_table.proofs.Births.{IsLinked-same, IsLinked-born, IsLinked-gone}
@@ -82,14 +82,14 @@ module _ (f g : ℕ → Option RowNode) (es : List (ℕ × ℕ)) (q : ℕ) (are_
           let its = some_and (λ (x : RowNode). x.row.pid ≡ new.row.pid) (f head.0) head.2 in fresh head.0 its.0 its.1 its.2
 
   pub are_linked-gone : (old : RowNode) → f q ≡ Some old → g q ≡ None → ((k : ListKind) → (node_of k old).list_owner ≡ None) → ((k : ListKind) (s : ℕ) (slot : RowNode) → f s ≡ Some slot → (node_of k slot).list_owner ≢ Some old.row.pid)
-      → AreLinked g es
-  are_linked-gone old was vacant free unnamed = record {
-    listed = λ s slot is. grind (arith, nat_tests, others s, are_linked.listed s slot);
+      → (es' : List (ℕ × ℕ)) → ((p : ℕ) → nat_eq old.row.pid p ≡ false → lookup (nat_eq p) es' ≡ lookup (nat_eq p) es) → AreLinked g es'
+  are_linked-gone old was vacant free unnamed es' dropped = record {
+    listed = λ s slot is. grind (arith, nat_tests, same_Some, others s, are_linked.listed s slot, are_linked.listed q old was, dropped slot.row.pid);
     linked = λ k. IsLinked-gone (nodes_of k f) (nodes_of k g) q (node_of_others k) (node_of k old) (are_linked.linked k) (ap (option_map (node_of k)) was) (free k) (ap (option_map (node_of k)) vacant);
     headed = λ k s slot t is its.
         let there : f s ≡ Some slot = grind (arith, nat_tests, others s) in
         let head = are_linked.headed k s slot t there its in
-        (head.0, head.1, grind (arith, nat_tests, others head.0, head.2, was, unnamed k s slot there));
+        (head.0, dropped t (grind (arith, nat_tests, unnamed k s slot there)) ∙ head.1, grind (arith, nat_tests, others head.0, head.2, was, unnamed k s slot there));
   }
 
 -- no slot

@@ -162,6 +162,31 @@ module _ (slots : ℕ → Option ProcData) (es : List (ℕ × ℕ)) (counts : Li
             rows,
           )
 
+-- a number that no row has leaves the index
+module _ (slots : ℕ → Option ProcData) (es es' : List (ℕ × ℕ)) (counts : List ℕ) (kept : IsSlotted slots es counts) (n : ℕ) (dropped : (pid : ℕ) → nat_eq n pid ≡ false → lookup (nat_eq pid) es' ≡ lookup (nat_eq pid) es)
+    (none : (s : ℕ) (row : ProcData) → slots s ≡ Some row → row.pid ≢ n) where
+  look-dropped : (pid : ℕ) → look slots es' pid ≡ look slots es pid
+  look-dropped pid = elim (equal_or_not pid n) [
+    | inl here ↦ nothing es' (look slots es' pid) refl here.1 ∙ sym (nothing es (look slots es pid) refl here.1)
+    | inr off ↦ grind (arith, nat_tests, dropped pid, off)
+  ]
+    where
+      nothing : (ns : List (ℕ × ℕ)) (o : Option ProcData) → look slots ns pid ≡ o → pid ≡ n → o ≡ None
+      nothing ns None is here = refl
+      nothing ns (Some row) is here = let at = look-is slots ns pid row is in absurd (none at.0 row at.2 (at.3 ∙ here))
+
+  pub all_rows-dropped : all_rows (look slots es') ≡ all_rows (look slots es)
+  all_rows-dropped = ap all_rows (λ i pid. look-dropped pid i)
+
+  pub IsSlotted-dropped : IsSlotted slots es' counts
+  IsSlotted-dropped = record {
+    stored = record {
+      listed = λ s row is. grind (arith, nat_tests, none s row is, kept.stored.listed s row is, dropped row.pid);
+      home = kept.stored.home;
+    };
+    tally = rw all_rows-dropped kept.tally;
+  }
+
 -- no slot
 pub IsSlotted-none : (slots : ℕ → Option ProcData) (es : List (ℕ × ℕ)) → ((s : ℕ) → slots s ≡ None) → IsSlotted slots es (replicate 64 0) × (all_rows (look slots es) ≡ [])
 IsSlotted-none slots es vacant =

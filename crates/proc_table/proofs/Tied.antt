@@ -8,7 +8,7 @@ use Rattle.proc_table.proofs.Rows.{same_number, row_found, found_row}
 use Rattle.proc_table.proofs.Finds.{equal_or_not}
 use Rattle.proc_table.proofs.Listing.{Rise-all_rows}
 use Rattle.proc_table.proofs.NextOf.{next-found, next-none}
-use Rattle.proc_table.proofs.Slots.{finds, row_there, row_listed, IsSlotted-added, IsSlotted-set, IsSlotted-removed, IsSlotted-none}
+use Rattle.proc_table.proofs.Slots.{finds, row_there, row_listed, IsSlotted-added, IsSlotted-set, IsSlotted-removed, IsSlotted-dropped, all_rows-dropped, IsSlotted-none}
 use Rattle.proc_table.proofs.Linked.{key_node}
 use Rattle.proc_table.proofs.ListNodes.{slot_at}
 use Rattle.proc_table.proofs.LinkedLists.{HasHead, each_kin, are_linked-same, are_linked-born, are_linked-gone, are_linked-none}
@@ -47,11 +47,11 @@ pub record StaysInLists (p new : ProcData) : Type 0 where
   pub parent : new.parent ≡ p.parent
 
 -- what is kept once the row with the number, of this user, is gone
-pub record IsWithout (f : ℕ → Option RowNode) (es : List (ℕ × ℕ)) (counts : List ℕ) (pid uid : ℕ) (g : ℕ → Option RowNode) : Type 0 where
+pub record IsWithout (f : ℕ → Option RowNode) (es : List (ℕ × ℕ)) (counts : List ℕ) (pid uid : ℕ) (g : ℕ → Option RowNode) (es' : List (ℕ × ℕ)) : Type 0 where
   pub user : IsUser uid
   pub some : 0 < get_or counts (slot uid) 0
-  pub tied : IsTied g es (set counts (slot uid) (get_or counts (slot uid) 0 - 1))
-  pub rows : all_rows (look (rows_of g) es) ≡ filter (λ p. not (nat_eq p.pid pid)) (all_rows (look (rows_of f) es))
+  pub tied : IsTied g es' (set counts (slot uid) (get_or counts (slot uid) 0 - 1))
+  pub rows : all_rows (look (rows_of g) es') ≡ filter (λ p. not (nat_eq p.pid pid)) (all_rows (look (rows_of f) es))
 
 module _ {f : ℕ → Option RowNode} {es : List (ℕ × ℕ)} {counts : List ℕ} (tied : IsTied f es counts) where
   -- a row's number leads to its slot
@@ -196,24 +196,26 @@ module _ {f : ℕ → Option RowNode} {es : List (ℕ × ℕ)} {counts : List �
         let was : mid.row ≡ row = grind (arith, nat_tests, same_Some, its.1, its.2) in
         rw was at edited-written.1
 
-  -- one row less, which was taken out of its lists and whose number no row names
+  -- one row less, which was taken out of its lists and whose number no row names and the index lacks
   pub removed : {f1 g : ℕ → Option RowNode} {at : ℕ} {mid : RowNode} → IsRehung f f1 es at None None → f1 at ≡ Some mid → g at ≡ None → ((s : ℕ) → s ≢ at → g s ≡ f1 s)
-      → ((k : ListKind) → next_named k mid.row.pid 0 (all_rows (look (rows_of f) es)) ≡ None) → length counts ≡ 64 → IsWithout f es counts mid.row.pid mid.row.uid g
-  removed {f1} {g} {at} {mid} rehung has1 gone others unnamed long =
+      → ((k : ListKind) → next_named k mid.row.pid 0 (all_rows (look (rows_of f) es)) ≡ None) → length counts ≡ 64
+      → (es' : List (ℕ × ℕ)) → ((p : ℕ) → nat_eq mid.row.pid p ≡ false → lookup (nat_eq p) es' ≡ lookup (nat_eq p) es) → IsWithout f es counts mid.row.pid mid.row.uid g es'
+  removed {f1} {g} {at} {mid} rehung has1 gone others unnamed long es' dropped =
       let row_off : (s : ℕ) → s ≢ at → rows_of g s ≡ rows_of f s = λ s apart. grind (arith, nat_tests, rehung.rows s, others s) in
       let row_was : rows_of f at ≡ Some mid.row = grind (arith, nat_tests, rehung.rows at) in
       let all = IsSlotted-removed (rows_of f) es counts tied.slotted (rows_of g) es at row_off mid.row row_was (ap (option_map (λ (x : RowNode). x.row)) gone) long in
       let free : (k : ListKind) → (node_of k mid).list_owner ≡ None = λ k. grind (arith, nat_tests, rehung.here k, rehung.rows at) in
       let unnamed1 : (k : ListKind) (s : ℕ) (x : RowNode) → f1 s ≡ Some x → (node_of k x).list_owner ≢ Some mid.row.pid =
-      λ k s x is names. grind (arith, nat_tests, free k, rehung.others k s, nobody-key k mid.row.pid (unnamed k) s x.row.pid) in record {
+      λ k s x is names. grind (arith, nat_tests, free k, rehung.others k s, nobody-key k mid.row.pid (unnamed k) s x.row.pid) in
+      let none : (s : ℕ) (row : ProcData) → rows_of g s ≡ Some row → row.pid ≢ mid.row.pid = λ s row is same. grind (arith, nat_tests, same_Some, gone, row_off s, tied.slotted.stored.listed s row, tied.slotted.stored.listed at mid.row row_was) in record {
         user = all.0;
         some = all.1;
         tied = record {
-          slotted = all.2;
-          are_linked = are_linked-gone f1 g es at rehung.are_linked others mid has1 gone free unnamed1;
+          slotted = IsSlotted-dropped (rows_of g) es es' _ all.2 mid.row.pid dropped none;
+          are_linked = are_linked-gone f1 g es at rehung.are_linked others mid has1 gone free unnamed1 es' dropped;
           list_owners = λ k s. grind (arith, nat_tests, others s, rehung.others k s, tied.list_owners k s, row_off s);
         };
-        rows = all.3;
+        rows = all_rows-dropped (rows_of g) es es' _ all.2 mid.row.pid dropped none ∙ all.3;
       }
 
 -- no slot

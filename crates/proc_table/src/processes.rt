@@ -319,10 +319,10 @@ impl Processes {
         ensures spare { self.old.spare ≤ self.new.spare }
     {
         let number = pid.get();
-        // the number keeps its entry, which a row with the number takes again
         let slot = known_slot(&self.nodes, &self.slots, &self.hints, number);
         update_lists(&mut self.nodes, &self.slots, &self.hints, slot, None, None);
         let gone = self.nodes.remove(slot);
+        self.slots.swap_remove(&number);
         self.counts[gone.row.uid.slot()] -= 1;
     }
 }

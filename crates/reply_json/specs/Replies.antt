@@ -96,13 +96,17 @@ reply_word r = (reply_parts r).0
 abbrev pub reply_members : Reply → List Member
 reply_members r = (reply_parts r).1
 
--- the user, the user's own number of the step, and the reply's word
-abbrev pub head_members : ℕ → ℕ → List ℕ → List Member
-head_members user n word = (codes "user", natural user) ∷ (codes "step", natural n) ∷ (codes "reply", string word) ∷ []
+-- the reply's word, and the members after it
+abbrev pub answer_members : Reply → List Member
+answer_members r = (codes "reply", string (reply_word r)) ∷ reply_members r
+
+-- the user, and the user's own number of the step
+abbrev pub place_members : ℕ → ℕ → List Member
+place_members user n = (codes "user", natural user) ∷ (codes "step", natural n) ∷ []
 
 -- the reply to a user's n-th step
 abbrev pub reply_value : ℕ → ℕ → Reply → Json
-reply_value user n r = object_of (head_members user n (reply_word r) ++ reply_members r)
+reply_value user n r = object_of (place_members user n ++ answer_members r)
 
 abbrev pub reply_tokens : ℕ → ℕ → Reply → List Token
 reply_tokens user n r = json_tokens (reply_value user n r)

@@ -25,7 +25,7 @@ fn push_each_number(out: &mut Writer, numbers: &[u32]) -> Result<(), AllocError>
 }
 
 /// Writes a member that is an array of numbers.
-pub(crate) fn push_numbers(out: &mut Writer, name: &str, numbers: &[u32]) -> Result<(), AllocError>
+pub fn push_numbers(out: &mut Writer, name: &str, numbers: &[u32]) -> Result<(), AllocError>
     ensures { Puts result out.old out.new (member_tokens ((name.now, numbers_of numbers.now) ∷ [])) }
 {
     out.key(name)?;

@@ -13,6 +13,6 @@ mod objects;
 mod statuses;
 mod stops;
 
-pub use arrays::{push_flags, push_signals};
+pub use arrays::{push_flags, push_numbers, push_signals};
 pub use members::{push_nonzero, push_number, push_string};
-pub use objects::{ObjectWriter, refusal_json};
+pub use objects::{ObjectWriter, push_answer, push_place, refusal_json};

@@ -5,7 +5,7 @@ ghost use Rattle.json.specs.Lex.{tokens};
 ghost use Rattle.json.specs.Print.{print};
 ghost use Rattle.step_types.specs.declared.Reply.TheVariants as reply;
 ghost use Rattle.reply_json.specs.Objects.{json_text, member_tokens, natural, object_of, Puts};
-ghost use Rattle.reply_json.specs.Replies.{view_members, index_of, decision_members, head_members, reply_word, reply_members, reply_value, reply_tokens, reply_json, refusal_value};
+ghost use Rattle.reply_json.specs.Replies.{view_members, index_of, decision_members, place_members, answer_members, reply_word, reply_members, reply_value, reply_tokens, reply_json, refusal_value};
 
 use crate::arrays::{push_flags, push_numbers};
 use crate::members::{push_number, push_string};
@@ -138,28 +138,29 @@ fn push_members(out: &mut Writer, reply: &Reply) -> Result<(), AllocError>
 }
 
 /// Writes the user and the step's number.
-fn push_place(out: &mut Writer, uid: Uid, number: u64) -> Result<(), AllocError>
-    ensures { Puts result out.old out.new (member_tokens ((codes "user", natural uid) ∷ (codes "step", natural number) ∷ [])) }
+pub fn push_place(out: &mut Writer, uid: Uid, number: u64) -> Result<(), AllocError>
+    ensures { Puts result out.old out.new (member_tokens (place_members uid number)) }
 {
     push_number(out, "user", u64::from(uid.get()))?;
     push_number(out, "step", number)
 }
 
-/// Writes the user, the step's number, and the reply's word.
-fn push_head(out: &mut Writer, uid: Uid, number: u64, word: &str) -> Result<(), AllocError>
-    ensures { Puts result out.old out.new (member_tokens (head_members uid number word.now)) }
+/// Writes the reply's word, and the members after it.
+#[tactic(auto, using(crate::proofs::TokenLemmas::put_rules))]
+pub fn push_answer(out: &mut Writer, reply: &Reply) -> Result<(), AllocError>
+    ensures { Puts result out.old out.new (member_tokens (answer_members reply.now)) }
 {
-    push_place(out, uid, number)?;
-    push_string(out, "reply", word)
+    push_string(out, "reply", word_of(reply))?;
+    push_members(out, reply)
 }
 
 /// Writes all members of the reply's object.
 #[tactic(auto, using(crate::proofs::TokenLemmas::put_rules))]
 fn push_all(out: &mut Writer, uid: Uid, number: u64, reply: &Reply) -> Result<(), AllocError>
-    ensures { Puts result out.old out.new (member_tokens (head_members uid number (reply_word reply.now) ++ reply_members reply.now)) }
+    ensures { Puts result out.old out.new (member_tokens (place_members uid number ++ answer_members reply.now)) }
 {
-    push_head(out, uid, number, word_of(reply))?;
-    push_members(out, reply)
+    push_place(out, uid, number)?;
+    push_answer(out, reply)
 }
 
 /// Writes the reply's object.

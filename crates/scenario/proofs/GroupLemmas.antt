@@ -29,7 +29,7 @@ nothing_above : (f : ℕ → List ℕ) (n m u : ℕ) → ((w : ℕ) → u ≢ w 
 nothing_above f zero m u none below = refl
 nothing_above f (suc n) m u none below = grind (arith, none m, nothing_above f n (m + 1) u none)
 
-one_among : (f : ℕ → List ℕ) (n m u : ℕ) → ((w : ℕ) → u ≢ w → f w ≡ []) → (u < m → f u ≡ []) → (m + n ≤ u → f u ≡ []) → concat (map f (rising n m)) ≡ f u
+pub one_among : (f : ℕ → List ℕ) (n m u : ℕ) → ((w : ℕ) → u ≢ w → f w ≡ []) → (u < m → f u ≡ []) → (m + n ≤ u → f u ≡ []) → concat (map f (rising n m)) ≡ f u
 one_among f zero m u none below above = grind (arith, below, above)
 one_among f (suc n) m u none below above = elim (cases_eq m u) [
   | inl same ↦ rw (nothing_above f n (m + 1) u none (omega arith)) (append-nil (f m) ∙ ap f same)

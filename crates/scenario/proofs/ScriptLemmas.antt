@@ -69,6 +69,11 @@ no_steps : (u : ℕ) (list : List UserStep) → has_steps (script_of list u) ≡
 no_steps u [] none = refl
 no_steps u (a ∷ rest) none = grind (arith, none, no_steps u rest)
 
+-- so they add nothing to what there is of each script's user
+pub over_scripts : (g : ℕ → List ℕ) (n m : ℕ) (list : List UserStep) → ((u : ℕ) → asked_by u list ≡ [] → g u ≡ []) → flat_map g (map (λ (s : ℕ × List PlainStep). s.0) (filter has_steps (map (script_of list) (rising n m)))) ≡ concat (map g (rising n m))
+over_scripts g zero m list none = refl
+over_scripts g (suc n) m list none = grind (arith, over_scripts g n (m + 1) list none, none m, no_steps m list)
+
 -- so they add nothing to what is shown of each script's user
 pub shown_scripts : (shows : List Answered → List ℕ) (n m : ℕ) (list : List UserStep) (answers : List Answered) → shows [] ≡ [] → ((u : ℕ) → asked_by u list ≡ [] → answers_by u answers ≡ [])
     → flat_map shows (map (λ s. answers_by s.0 answers) (filter has_steps (map (script_of list) (rising n m)))) ≡ concat (map (λ u. shows (answers_by u answers)) (rising n m))

@@ -95,3 +95,7 @@ no_answers plan u none =
 pub told_by_scripts : (plan : Plan) (log : List Entry) (ts : List (ℕ × List Reply)) → RanBySessions plan log ts → map (λ t. told_to t.0 t.1) ts ≡ answers_by_scripts plan
 told_by_scripts plan log ts ran =
     joined (λ (s : ℕ × List PlainStep). answers_by s.0 (answers_of plan)) (λ (t : ℕ × List Reply). told_to t.0 t.1) (scripts_in plan.steps) ts ran.long (told_at plan log ts ran)
+
+-- the transcripts are of the scripts' users
+pub users_of_scripts : (plan : Plan) (log : List Entry) (ts : List (ℕ × List Reply)) → RanBySessions plan log ts → map (λ t. t.0) ts ≡ map (λ (s : ℕ × List PlainStep). s.0) (scripts_in plan.steps)
+users_of_scripts plan log ts ran = joined (λ (s : ℕ × List PlainStep). s.0) (λ (t : ℕ × List Reply). t.0) (scripts_in plan.steps) ts ran.long (λ k s t h. (ran.played k s t h).0)

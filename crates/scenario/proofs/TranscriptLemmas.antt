@@ -2,7 +2,7 @@
 use Rattle.std.proofs.Common.{◌≡◌, ℕ, suc, ◌<◌, ◌≤◌, List, [], ◌∷◌, ◌++◌, drop, length, get_or, map, Option, Some, None, refl, sym, ap, ap₂, subst, ◌∙◌, arith}
 use mathlib.Core.List.{map-map}
 use Rattle.scenario.proofs.CommonNames.{All, Vec, vec_len, Global, flat_map, AllByRecursion, length-map, get_or-map, All-from_recursion, recursion_from_All, Reply, Users, Machine, empty, PlainStep, Entry, BoxedScript, boxed_script, own_step, AllPlay}
-use Rattle.scenario.proofs.CommonNames.{AllTell, OwnEntries, AllAnswer, AreFew, Ran, Plan, max_steps, Style, shown, shown_grouped, answers_by_scripts, replies_in, scripts_in, text_in, told_by, told_to, IsMade, Shows, All-map, All-imply}
+use Rattle.scenario.proofs.CommonNames.{AllTell, OwnEntries, AllAnswer, AreFew, Ran, Plan, max_steps, Style, shown, shown_grouped, answers_by_scripts, replies_in, scripts_in, text_in, told_by, told_to, AreMade, IsMade, Shows, All-map, All-imply}
 use Rattle.std.specs.Prelude.{String, string_bytes}
 use Rattle.host_lock.specs.Journal.{IsLegal, replay}
 use Rattle.host_lock.specs.Limits.{max_calls}
@@ -14,32 +14,40 @@ use Rattle.scenario_runs.specs.Runs.{answers_of}
 use Rattle.scenario.specs.declared.lines.LineReport.{LineReport}
 use Rattle.scenario.specs.declared.lines.UserLines.{UserLines}
 use Rattle.scenario.proofs.ScriptLemmas.{IsScript, are_scripts, few_scripts, shown_scripts}
-use Rattle.scenario.proofs.SessionLemmas.{IsReply, IsPlayed, ArePlayed, no_answers, told_by_scripts}
+use Rattle.scenario.proofs.SessionLemmas.{IsReply, IsPlayed, ArePlayed, RanBySessions, no_answers, told_by_scripts, users_of_scripts}
 use Rattle.scenario.proofs.GroupLemmas.{shown_plan}
 
-abbrev pub plain_transcript : Transcript UserLines → ℕ × List Reply
-plain_transcript t = (t.uid, replies_in t.replies)
+-- transcripts of any reports that tell what replies they were made of
+module _ {T : Type 0} (made_of : T → List Reply) where
+  abbrev pub plain_transcript : Transcript T → ℕ × List Reply
+  plain_transcript t = (t.uid, made_of t.replies)
 
-played : (log : List Entry) (ps : List (ℕ × List PlainStep)) (ts : List (Transcript UserLines)) → AllAnswer replies_in log ps ts → ArePlayed log ps (map plain_transcript ts)
-played log ps [] all k s t h = let none = all.0 in absurd (omega arith)
-played log ps (y ∷ ys) all k s t h =
-    let told : k < length (y ∷ ys) = subst (λ n. k < n) (sym all.0) h in
-    subst (λ q. IsPlayed log k (get_or ps k s) q) (sym (get_or-map plain_transcript (y ∷ ys) k y t told)) (all.1 k s y h)
+  played : (log : List Entry) (ps : List (ℕ × List PlainStep)) (ts : List (Transcript T)) → AllAnswer made_of log ps ts → ArePlayed log ps (map plain_transcript ts)
+  played log ps [] all k s t h = let none = all.0 in absurd (omega arith)
+  played log ps (y ∷ ys) all k s t h =
+      let told : k < length (y ∷ ys) = subst (λ n. k < n) (sym all.0) h in
+      subst (λ q. IsPlayed log k (get_or ps k s) q) (sym (get_or-map plain_transcript (y ∷ ys) k y t told)) (all.1 k s y h)
 
--- if memory didn't run out, each transcript has the machine's answers to its user
-pub told_in_all : (plan : Plan) (h : Machine) (ts : List (Transcript UserLines)) → Users plan.steps → Ran replies_in (empty plan.settings) (scripts_in plan.steps) h ts → AllByRecursion IsMade ts
-    → map told_by ts ≡ answers_by_scripts plan
-told_in_all plan h ts all ran made =
-    let log = ran.0 in
-    let is = ran.1 in
-    sym (map-map (λ (t : ℕ × List Reply). told_to t.0 t.1) plain_transcript ts) ∙ told_by_scripts plan log (map plain_transcript ts) (record {
-      users = all;
-      below = recursion_from_All (IsBelow (length (scripts_in plan.steps))) log is.entries;
-      long = length-map ts plain_transcript ∙ is.transcripts.0;
-      played = played log (scripts_in plan.steps) ts is.transcripts;
-      own = is.own;
-      made = All-map plain_transcript IsMade (λ t. AllByRecursion IsReply t.1) (λ t is. is) ts made;
-    })
+  ran_by_sessions : (plan : Plan) (h : Machine) (ts : List (Transcript T)) → Users plan.steps → (ran : Ran made_of (empty plan.settings) (scripts_in plan.steps) h ts) → AllByRecursion (λ (t : Transcript T). AreMade (made_of t.replies)) ts
+      → RanBySessions plan ran.0 (map plain_transcript ts)
+  ran_by_sessions plan h ts all ran made = record {
+    users = all;
+    below = recursion_from_All (IsBelow (length (scripts_in plan.steps))) ran.0 ran.1.entries;
+    long = length-map ts plain_transcript ∙ ran.1.transcripts.0;
+    played = played ran.0 (scripts_in plan.steps) ts ran.1.transcripts;
+    own = ran.1.own;
+    made = All-map plain_transcript (λ (t : Transcript T). AreMade (made_of t.replies)) (λ t. AllByRecursion IsReply t.1) (λ t is. is) ts made;
+  }
+
+  -- if memory didn't run out, each transcript has the machine's answers to its user
+  pub told_in_all : (plan : Plan) (h : Machine) (ts : List (Transcript T)) → Users plan.steps → Ran made_of (empty plan.settings) (scripts_in plan.steps) h ts → AllByRecursion (λ (t : Transcript T). AreMade (made_of t.replies)) ts
+      → map (λ (t : Transcript T). told_to t.uid (made_of t.replies)) ts ≡ answers_by_scripts plan
+  told_in_all plan h ts all ran made = sym (map-map (λ (t : ℕ × List Reply). told_to t.0 t.1) plain_transcript ts) ∙ told_by_scripts plan ran.0 (map plain_transcript ts) (ran_by_sessions plan h ts all ran made)
+
+  -- and its user is the script's
+  pub users_in_all : (plan : Plan) (h : Machine) (ts : List (Transcript T)) → Users plan.steps → Ran made_of (empty plan.settings) (scripts_in plan.steps) h ts → AllByRecursion (λ (t : Transcript T). AreMade (made_of t.replies)) ts
+      → map (λ (t : Transcript T). t.uid) ts ≡ map (λ (s : ℕ × List PlainStep). s.0) (scripts_in plan.steps)
+  users_in_all plan h ts all ran made = sym (map-map (λ (t : ℕ × List Reply). t.0) plain_transcript ts) ∙ users_of_scripts plan ran.0 (map plain_transcript ts) (ran_by_sessions plan h ts all ran made)
 
 -- the scripts are few, and each is short
 pub few : {F T : Type 0} (ss : List (BoxedScript F T)) (plan : Plan) → map boxed_script ss ≡ scripts_in plan.steps → length ss ≤ 64
@@ -59,15 +67,15 @@ few_each {F} {T} ss plan scripts small =
     (each_few ss (recursion_from_All AreFew (map boxed_script ss) (subst (λ (ps : List (ℕ × List PlainStep)). All AreFew ps) (sym scripts) (are_few plan small))))
 
 -- the clauses of a run, as one fact of the scripts' users and steps
-pub ran_of : {F T : Type 0} (m h : Machine) (ss : Vec (BoxedScript F T) Global) (log : List Entry) (ts : List (Transcript UserLines)) → IsLegal m log → h ≡ replay m log → All (IsBelow (vec_len ss)) log
-    → AllPlay boxed_script replies_in log ss.items ts → OwnEntries m log → Ran replies_in m (map boxed_script ss.items) h ts
-ran_of {F} {T} m h ss log ts legal host entries plays own = (
+pub ran_of : {F T O : Type 0} (made_of : O → List Reply) (m h : Machine) (ss : Vec (BoxedScript F T) Global) (log : List Entry) (ts : List (Transcript O)) → IsLegal m log → h ≡ replay m log → All (IsBelow (vec_len ss)) log
+    → AllPlay boxed_script made_of log ss.items ts → OwnEntries m log → Ran made_of m (map boxed_script ss.items) h ts
+ran_of {F} {T} {O} made_of m h ss log ts legal host entries plays own = (
   log,
   record {
     legal = legal;
     host = host;
     entries = subst (λ (n : ℕ). All (IsBelow n) log) (ss.ok.0 ∙ sym (length-map ss.items (boxed_script {F = F} {T = T}))) entries;
-    transcripts = script_answers boxed_script replies_in log ss.items ts plays.0 plays.1;
+    transcripts = script_answers boxed_script made_of log ss.items ts plays.0 plays.1;
     own = own;
   },
 )

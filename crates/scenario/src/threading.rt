@@ -29,7 +29,7 @@ use std::vec::IntoIter;
 use stop_handlers::{Decider, Handler};
 
 /// A gate that does nothing.
-struct NoGate;
+pub(crate) struct NoGate;
 
 impl Gate for NoGate {
     fn before(&self, _user: Uid, _index: u32) {}
@@ -99,7 +99,7 @@ fn small_step<F: Decider + Send + Drop>(
 
 /// Returns a script for each user with steps, by rising number of the users. Each install gets the next handler. An
 /// error means out of memory.
-fn scripts_of<F: Decider + Send + Drop>(
+pub(crate) fn scripts_of<F: Decider + Send + Drop>(
     alloc: Global,
     scenario: &Scenario,
     handlers: Vec<Handler<F>>,

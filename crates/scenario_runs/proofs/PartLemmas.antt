@@ -2,20 +2,8 @@
 use Rattle.scenario_runs.proofs.CommonNames.{⊤, ◌≡◌, ℕ, ◌+◌, ◌<◌, Bool, false, if◌then◌else◌, List, [], ◌∷◌, ◌++◌, length, take, drop, get_or, map, Option, None, Some, Result, refl, sym, ap, subst, ◌∙◌, append-nil, append_assoc, arith, take-append-drop}
 use Rattle.scenario_runs.proofs.CommonNames.{Appends, Keeps, Reply, Style, line, shown_line, answered}
 use Rattle.std.specs.Prelude.{IsErrAnd, IfErr, Ok, Err, true}
-use Rattle.scenario_runs.specs.{Runs.Writes, declared.running.RunFault.RunFault, declared.running.RunFault.TheVariants.{Memory, Write}}
+use Rattle.scenario_runs.specs.{Parts.{Parted, Unbegun, Begins}, Runs.Writes, declared.running.RunFault.RunFault, declared.running.RunFault.TheVariants.{Memory, Write}}
 use Rattle.scenario_runs.proofs.{LineLemmas.{replies_to, shown_after, text_more}, WriteLemmas.{appends_more, front_is}}
-
--- nothing was written yet
-abbrev pub Unbegun : Bool → Option (List ℕ) → Option (List ℕ) → Type 0
-Unbegun true a b = ⊤
-Unbegun false a b = Keeps a b
-
--- what was written, the text that is written next, and the rest; nothing was written before the first part
-pub record Parted (a b : Option (List ℕ)) (text rest all : List ℕ) (is_begun : Bool) : Type 0 where
-  pub done : List ℕ
-  pub written : Appends a b done
-  pub whole : (done ++ text) ++ rest ≡ all
-  pub kept : Unbegun is_begun a b
 
 nothing_written : (a : Option (List ℕ)) → Appends a a []
 nothing_written None = tt
@@ -41,6 +29,15 @@ parted_more style user es i e before number a b old new all is_begun more here n
   kept = p.kept;
 }
 
+-- the text has got a line of the rest
+pub parted_line : (a b : Option (List ℕ)) (text line new rest all : List ℕ) (is_begun : Bool) → new ≡ text ++ line → Parted a b text (line ++ rest) all is_begun → Parted a b new rest all is_begun
+parted_line a b text line new rest all is_begun is p = record {
+  done = p.done;
+  written = p.written;
+  whole = ap (λ xs. (p.done ++ xs) ++ rest) is ∙ ap (λ xs. xs ++ rest) (sym (append_assoc p.done text line)) ∙ append_assoc (p.done ++ text) line rest ∙ p.whole;
+  kept = p.kept;
+}
+
 -- the text was written
 pub parted_written : (a b c : Option (List ℕ)) (text rest all : List ℕ) (is_begun : Bool) → Parted a b text rest all is_begun → Appends b c text → Parted a c [] rest all true
 parted_written a b c text rest all is_begun p w = record {
@@ -51,7 +48,7 @@ parted_written a b c text rest all is_begun p w = record {
 }
 
 -- only the beginning of the text was written
-parted_cut : (a b c : Option (List ℕ)) (text rest all : List ℕ) (is_begun : Bool) (n : ℕ) → Parted a b text rest all is_begun → Appends b c (take n text) → (m : ℕ) × Appends a c (take m all)
+pub parted_cut : (a b c : Option (List ℕ)) (text rest all : List ℕ) (is_begun : Bool) (n : ℕ) → Parted a b text rest all is_begun → Appends b c (take n text) → Begins a c all
 parted_cut a b c text rest all is_begun n p w =
     let split = take-append-drop n text in
     let whole : (p.done ++ take n text) ++ (drop n text ++ rest) ≡ all = grind (arith, append_assoc {A = ℕ}, split, p.whole) in
@@ -78,3 +75,10 @@ parted_end a b c (Ok done) text rest all is_begun none kind p w =
     let whole : p.done ++ text ≡ all = sym (append-nil (p.done ++ text)) ∙ ap (λ xs. (p.done ++ text) ++ xs) (sym none) ∙ p.whole in
     let P : List ℕ → Type 0 = λ xs. Appends a c xs in subst P whole (appends_more a b c p.done text p.written w)
 parted_end a b c (Err e) text rest all is_begun none kind p w = parted_failed a b c (Err e) e text rest all is_begun refl kind p w
+
+-- the text was written or its beginning, and the rest isn't
+pub parted_begins : (a b c : Option (List ℕ)) (r : Result ⊤ RunFault) (text rest all : List ℕ) (is_begun : Bool) → IfErr r (λ e. e ≡ Write) → Parted a b text rest all is_begun → Writes r b c text → Begins a c all
+parted_begins a b c (Ok done) text rest all is_begun kind p w =
+    front_is a c rest all (p.done ++ text, p.whole, appends_more a b c p.done text p.written w)
+parted_begins a b c (Err e) text rest all is_begun kind p w =
+    let cut : (n : ℕ) × Appends b c (take n text) = subst (λ y. Writes (Err y) b c text) kind w in parted_cut a b c text rest all is_begun cut.0 p cut.1

@@ -22,7 +22,9 @@ pub use binding::{
 };
 pub use lines::{count_reply, push_line, push_shown, render, render_with};
 pub use reply_json::ObjectWriter;
-pub use running::{LineOptions, RunFault, RunOptions, run, run_with, write_whole};
+pub use running::{
+    LineOptions, RunFault, RunOptions, line_fault, replies, run, run_with, write_whole,
+};
 pub use scenario_text::{
     BareStep, Fault, MAX_STEP_BYTES, Scenario, StepReader, USERS, one_answer, parse, parse_step,
     read,

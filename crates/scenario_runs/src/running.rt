@@ -12,13 +12,14 @@ use crate::retrying::write_some;
 use crate::style::Style;
 use pid_blocks::Uid;
 use reply_json::ObjectWriter;
-use requests::{Host, Reply};
+use requests::Reply;
 use scenario_text::{BareStep, Scenario, USERS};
 use std::alloc::{AllocError, AllocFailed, Global};
 use std::io::Write;
 use std::vec::IntoIter;
 use stop_handlers::{Decider, Handler};
 use thiserror::Error;
+use user_hosts::UserHosts;
 
 /// The reason why a run failed.
 #[derive(Clone, Copy, Debug, PartialEq, Eq, Error)]
@@ -70,7 +71,7 @@ impl<T: Drop> From<AllocFailed<T>> for RunFault {
 #[inline(never)]
 fn reply_with_handler<F: Decider + Send + Drop>(
     alloc: Global,
-    host: &mut Host<F>,
+    host: &mut UserHosts<F>,
     user: Uid,
     bare_step: &BareStep,
     handlers: &mut IntoIter<Handler<F>>,
@@ -86,7 +87,7 @@ fn reply_with_handler<F: Decider + Send + Drop>(
 #[tactic(auto, using(crate::proofs::BindLemmas::needs_none))]
 fn reply_of<F: Decider + Send + Drop>(
     alloc: Global,
-    host: &mut Host<F>,
+    host: &mut UserHosts<F>,
     user: Uid,
     bare_step: &BareStep,
     handlers: &mut IntoIter<Handler<F>>,
@@ -116,7 +117,7 @@ fn text_of<F: Decider + Send + Drop>(
     ensures err { IfErr result (λ e. e ≡ Memory) }
 {
     let bare_steps = scenario.bare_steps();
-    let mut host = Host::new(alloc, scenario.settings)?;
+    let mut host = UserHosts::new(alloc, scenario.settings);
     let mut rest = handlers.into_iter();
     let mut text = String::with_capacity(alloc, bare_steps.len() * WORDS_ROOM)?;
     let mut objects = ObjectWriter::new(alloc);
@@ -156,7 +157,7 @@ fn replies_of<F: Decider + Send + Drop>(
     ensures err { IfErr result (λ e. e ≡ Memory) }
 {
     let bare_steps = scenario.bare_steps();
-    let mut host = Host::new(alloc, scenario.settings)?;
+    let mut host = UserHosts::new(alloc, scenario.settings);
     let mut rest = handlers.into_iter();
     let mut replies = Vec::with_capacity(alloc, bare_steps.len())?;
     for bare_step in bare_steps {
@@ -169,6 +170,29 @@ fn replies_of<F: Decider + Send + Drop>(
         replies.push((bare_step.0, reply))?;
     }
     Ok(replies)
+}
+
+/// Makes the steps of the scenario in order on a new host, with a handler for each installed policy, and returns the replies
+/// with their users.
+///
+/// # Errors
+///
+/// `Mismatch` if the handlers' policies aren't those of the scenario in their order. `Memory` if memory ran out, also for
+/// a step.
+pub fn replies<F: Decider + Send + Drop>(
+    alloc: Global,
+    scenario: &Scenario,
+    handlers: Vec<Handler<F>>,
+) -> Result<Vec<(Uid, Reply)>, RunFault>
+    ensures ok { IfOk result (λ replies. map answered replies.items ≡ answers_of scenario.now) }
+    ensures mismatch { IsErrOf result Mismatch ↔ (handlers.items ≢ policies_in scenario.now.steps) }
+    ensures err { IfErr result (λ e. (e ≡ Memory) ⊎ (e ≡ Mismatch)) }
+{
+    if obey(handlers.as_slice(), scenario.policies()) {
+        replies_of(alloc, scenario, handlers)
+    } else {
+        Err(RunFault::Mismatch)
+    }
 }
 
 /// Writes all the bytes, or the beginning of them if the writer fails.
@@ -191,7 +215,7 @@ pub fn write_whole<W: Write>(writer: &mut W, bytes: &[u8]) -> Result<(), RunFaul
 const PART: usize = 32768;
 
 /// Returns the fault of a line without memory: if lines before it are written, the writer has only the beginning.
-fn line_fault(is_begun: bool) -> RunFault
+pub fn line_fault(is_begun: bool) -> RunFault
     ensures { result ≡ (if is_begun then WriteFault else Memory) }
 {
     if is_begun {

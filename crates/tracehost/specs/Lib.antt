@@ -2,3 +2,5 @@ pub mod Options
 pub mod Asking
 pub mod Given
 pub mod Found
+pub mod Runs
+pub mod Statuses

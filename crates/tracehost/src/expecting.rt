@@ -1,4 +1,6 @@
 //! The comparison of a run's lines with those of a file, and a file that gets the run's lines.
+ghost use Rattle.std.specs.Prelude.{◌≡◌, false, IfSome, OnOk};
+
 use crate::CommandError;
 use crate::answered::Answered;
 use crate::asking::Selection;
@@ -21,69 +23,6 @@ pub(crate) struct Expected<'a> {
     pub(crate) bytes: Option<Vec<u8>>,
     /// The file gets the run's lines.
     pub(crate) blesses: bool,
-}
-
-/// A writer of a run's lines. It keeps them only if they aren't as expected.
-#[derive(Drop)]
-pub(crate) struct ComparingWriter<'a> {
-    alloc: Global,
-    expected: &'a [u8],
-    /// How many bytes there are, all as expected.
-    same: usize,
-    /// All lines, from the first write on that is different.
-    text: Option<Vec<u8>>,
-}
-
-impl<'a> ComparingWriter<'a> {
-    /// A writer that compares with these bytes. Without them it keeps all lines.
-    pub(crate) fn new(alloc: Global, expected: Option<&'a [u8]>) -> ComparingWriter<'a> {
-        let text = match expected {
-            Some(_) => None,
-            None => Some(Vec::new(alloc)),
-        };
-        ComparingWriter {
-            alloc,
-            expected: expected.unwrap_or(&[]),
-            same: 0,
-            text,
-        }
-    }
-
-    /// Returns a copy of the bytes that were as expected.
-    fn same_bytes(&self) -> Result<Vec<u8>, AllocError> {
-        let same = self.expected.get(..self.same).unwrap_or(&[]);
-        Vec::from_slice(self.alloc, same)
-    }
-
-    /// Returns the run's lines; none if they are the expected ones. An error means out of memory.
-    pub(crate) fn into_different(mut self) -> Result<Option<Vec<u8>>, AllocError> {
-        match self.text.take() {
-            Some(text) => Ok(Some(text)),
-            None if self.same == self.expected.len() => Ok(None),
-            None => Ok(Some(self.same_bytes()?)),
-        }
-    }
-}
-
-impl Write for ComparingWriter<'_> {
-    fn write(&mut self, bytes: &[u8]) -> io::Result<usize> {
-        if self.text.is_none() {
-            let rest = self.expected.get(self.same..).unwrap_or(&[]);
-            if rest.starts_with(bytes) {
-                self.same = self.same.saturating_add(bytes.len());
-                return Ok(bytes.len());
-            }
-            self.text = Some(self.same_bytes()?);
-        }
-        if let Some(text) = &mut self.text {
-            text.extend_from_slice(bytes)?;
-        }
-        Ok(bytes.len())
-    }
-
-    fn flush(&mut self) -> io::Result<()> {
-        Ok(())
-    }
 }
 
 /// A run, and its lines.
@@ -160,7 +99,9 @@ pub(crate) fn compare<R: Files + Print + AllocGlobal>(
     expected: &Expected<'_>,
     run: RunLines<'_>,
     explains: bool,
-) -> Result<(), CommandError> {
+) -> Result<(), CommandError>
+    ensures { OnOk result (expected.now.blesses ≡ false → IfSome expected.now.bytes (λ wanted. wanted.items ≡ run.entry.text.now)) }
+{
     let Some(wanted) = &expected.bytes else {
         return bless(rt, expected.path, run.text, explains);
     };

@@ -11,12 +11,18 @@
 //! on standard error where and why input is refused; on a terminal it does so without being asked.
 #![tactic(auto)]
 
-ghost use Rattle.std.specs.Prelude.{◌≡◌};
+ghost use Rattle.std.specs.Prelude.{◌≡◌, ◌⊎◌, false, IfOk, IfSome, option_map};
+ghost use Rattle.pid_blocks.specs.Users.{IsUser};
+ghost use Rattle.json_trace.specs.Parts.{WritesFront};
+ghost use Rattle.scenario_runs.specs.Runs.{Writes};
 ghost use Rattle.tracehost.specs.Options.{line_options};
+ghost use Rattle.tracehost.specs.Runs.{lines_shown, run_text, traces_shown, kept, Compared};
+ghost use Rattle.tracehost.specs.Statuses.{IsStatus};
 
 mod answered;
 mod asking;
 mod command_line;
+mod comparing;
 mod differing;
 mod expecting;
 mod explaining;
@@ -25,14 +31,16 @@ mod listing;
 
 use crate::asking::{Expectation, Mode, RunRequest, Selection, Terminals};
 use crate::command_line::{Message, Refusal, asked_of};
-use crate::expecting::{ComparingWriter, RunLines, compare, read_expected};
+use crate::comparing::ComparingWriter;
+use crate::expecting::{RunLines, compare, read_expected};
 use crate::explaining::{Explained, explain_empty_run, explained_scenario, prompt, unread};
 use crate::listing::compare_list;
-use json_trace::{TraceWriter, write_states};
+use json_trace::{replies_to, write_states, write_trace, write_trace_by_user};
 use open_sessions::{ServeError, serve};
-use scenario::run_threads_with;
+use pid_blocks::Uid;
+use scenario::{replies_by_user, run_threads_with};
 use scenario_runs::{
-    Fault, LineOptions, RunFault, Scenario, Style, policy_handlers, read, run_with,
+    Fault, LineOptions, RunFault, Scenario, Style, policy_handlers, read, replies, run_with,
 };
 use std::alloc::AllocError;
 use std::io::{BufReader, BufWriter, IsTerminal, Read, Write};
@@ -45,7 +53,7 @@ use stop_handlers::{Decider, Handler};
 use trace_stop::Settings;
 
 /// The version of the program and of all that comes with it.
-const VERSION: &str = "0.22.0";
+const VERSION: &str = "0.24.0";
 
 /// How many bytes of lines are read, or of answers written, by one call. A pipe holds as many.
 const BUFFER_BYTES: usize = 65536;
@@ -234,7 +242,9 @@ fn write_replies<R: AllocGlobal + Threads + Wait + Sync, F: Decider + Send + Dro
     handlers: Vec<Handler<F>>,
     shown: &Selection,
     writer: &mut W,
-) -> Result<(), RunFault> {
+) -> Result<(), RunFault>
+    ensures { Writes result (W.contents writer.old) (W.contents writer.new) (lines_shown shown.now scenario.now) }
+{
     let options = options_of(shown);
     if shown.threads {
         run_threads_with(rt, rt.alloc(), scenario, handlers, options, writer)
@@ -243,21 +253,32 @@ fn write_replies<R: AllocGlobal + Threads + Wait + Sync, F: Decider + Send + Dro
     }
 }
 
+/// For proofs: a user is one of the 64.
+fn assert_user(user: Option<Uid>)
+    ensures { IfSome user (λ u. IsUser u) }
+{
+    if let Some(user) = user {
+        let _number = user.get();
+    }
+}
+
 /// Makes the steps of the scenario, and writes the lines of their replies with the steps.
-fn write_trace<R: AllocGlobal + Threads + Wait + Sync, F: Decider + Send + Drop, W: Write>(
+fn write_traces<R: AllocGlobal + Threads + Wait + Sync, F: Decider + Send + Drop, W: Write>(
     rt: &R,
     scenario: &Scenario,
     handlers: Vec<Handler<F>>,
     shown: &Selection,
     writer: &mut W,
-) -> Result<(), RunFault> {
-    let Ok(mut trace) = TraceWriter::new(rt.alloc(), scenario, writer) else {
-        return Err(RunFault::Memory);
-    };
-    write_replies(rt, scenario, handlers, shown, &mut trace)?;
-    match trace.flush() {
-        Ok(()) => Ok(()),
-        Err(_) => Err(RunFault::Write),
+) -> Result<(), RunFault>
+    ensures { Writes result (W.contents writer.old) (W.contents writer.new) (traces_shown shown.now scenario.now) }
+{
+    assert_user(shown.user);
+    if shown.threads {
+        let replies = replies_by_user(rt, rt.alloc(), scenario, handlers)?;
+        write_trace_by_user(rt.alloc(), scenario, replies.as_slice(), shown.user, writer)
+    } else {
+        let replies = replies_to(replies(rt.alloc(), scenario, handlers)?, shown.user);
+        write_trace(rt.alloc(), scenario, replies.as_slice(), shown.user, writer)
     }
 }
 
@@ -268,13 +289,35 @@ fn write_run<R: AllocGlobal + Threads + Wait + Sync, F: Decider + Send + Drop, W
     handlers: Vec<Handler<F>>,
     shown: &Selection,
     writer: &mut W,
-) -> Result<(), RunFault> {
+) -> Result<(), RunFault>
+    ensures front { WritesFront result (W.contents writer.old) (W.contents writer.new) (run_text shown.now scenario.now) }
+    ensures whole { shown.now.rows ≡ false → Writes result (W.contents writer.old) (W.contents writer.new) (run_text shown.now scenario.now) }
+{
     if shown.rows {
         write_states(rt.alloc(), scenario, shown.user, writer)
     } else if shown.trace {
-        write_trace(rt, scenario, handlers, shown, writer)
+        write_traces(rt, scenario, handlers, shown, writer)
     } else {
         write_replies(rt, scenario, handlers, shown, writer)
+    }
+}
+
+/// Makes the steps of the scenario, and compares the lines that are asked for with these bytes.
+fn compared_run<'a, R: AllocGlobal + Threads + Wait + Sync, F: Decider + Send + Drop>(
+    rt: &R,
+    scenario: &Scenario,
+    handlers: Vec<Handler<F>>,
+    shown: &Selection,
+    expected: &'a [u8],
+) -> Result<ComparingWriter<'a>, RunFault>
+    ensures { IfOk result (λ w. kept w.expected.now w.same w.text ≡ run_text shown.now scenario.now) }
+{
+    let mut lines = ComparingWriter::new(rt.alloc(), expected);
+    match write_run(rt, scenario, handlers, shown, &mut lines) {
+        Ok(()) => Ok(lines),
+        // a write into memory fails only if none is left
+        Err(RunFault::Write) => Err(RunFault::Memory),
+        Err(fault) => Err(fault),
     }
 }
 
@@ -285,14 +328,18 @@ pub(crate) fn different_run<R: AllocGlobal + Threads + Wait + Sync, F: Decider +
     handlers: Vec<Handler<F>>,
     shown: &Selection,
     expected: Option<&[u8]>,
-) -> Result<Option<Vec<u8>>, RunFault> {
-    let mut lines = ComparingWriter::new(rt.alloc(), expected);
-    match write_run(rt, scenario, handlers, shown, &mut lines) {
-        Ok(()) => Ok(lines.into_different()?),
-        // a write into memory fails only if none is left
-        Err(RunFault::Write) => Err(RunFault::Memory),
-        Err(fault) => Err(fault),
+) -> Result<Option<Vec<u8>>, RunFault>
+    ensures { IfOk result (λ text. Compared (run_text shown.now scenario.now) (option_map (λ bytes. bytes.now) expected.entry) (option_map (λ text. text.items) text)) }
+{
+    let Some(wanted) = expected else {
+        let lines = compared_run(rt, scenario, handlers, shown, &[])?;
+        return Ok(Some(lines.into_text()?));
+    };
+    let lines = compared_run(rt, scenario, handlers, shown, wanted)?;
+    if lines.has(wanted) {
+        return Ok(None);
     }
+    Ok(Some(lines.into_text()?))
 }
 
 /// Runs the scenario with a handler for each of its policies.
@@ -367,7 +414,9 @@ fn go<R: Files + Input + Print + Eprint + Env + AllocGlobal + Threads + Wait + S
 }
 
 /// Prints the message, and returns its status: the version on standard output, and all else on standard error.
-fn report_command<R: Print + Eprint>(rt: &R, message: &Message) -> u8 {
+fn report_command<R: Print + Eprint>(rt: &R, message: &Message) -> u8
+    ensures { (result ≡ 2) ⊎ ((result ≡ 0) ⊎ (result ≡ 3)) }
+{
     if !message.is_version() {
         let _ = eprint!(rt; "{message}");
         return 2;
@@ -382,7 +431,9 @@ fn report_command<R: Print + Eprint>(rt: &R, message: &Message) -> u8 {
 }
 
 /// Prints the trouble on standard error, and returns its status.
-fn report<R: Print + Eprint>(rt: &R, trouble: &CommandError) -> u8 {
+fn report<R: Print + Eprint>(rt: &R, trouble: &CommandError) -> u8
+    ensures { IsStatus trouble.now result }
+{
     match trouble {
         CommandError::Command(message) => report_command(rt, message),
         CommandError::Words => {

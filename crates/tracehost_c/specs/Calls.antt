@@ -3,7 +3,7 @@ use Rattle.std.specs.Prelude.{◌≡◌, ◌≢◌, ◌⊎◌, ℕ, Bool, if◌t
 use Rattle.{pid_blocks.specs.Users.IsUser, requests.specs.{Machine.empty, View.view}, step_types.specs.{Plain.{PlainStep, UserStep}, declared.Settings.Settings}, scenario_text.specs.{declared.fault.Fault.Fault, OneStep.IsStep}, scenario_runs.specs.declared.style.Style.{Style, TheVariants.{Text, Json}}}
 use Rattle.tracehost_c.specs.{declared.{replies.FlatReply.FlatReply, rows.{FlatProcess.FlatProcess, FlatLwp.FlatLwp}}, Replies.flat, FlatRows.{flat_process, flat_lwp}}
 use Rattle.json_trace.specs.Rows.{rows_json}
-use Rattle.open_sessions.specs.{Answers.{last_numbers, shown}, Calls.{OpenSession, last_text, state_of, LineOf, Steps, Answers, IsFull, FullFor}}
+use Rattle.open_sessions.specs.{Answers.{last_numbers, shown}, Calls.{OpenSession, last_text, state_of, LineOf, Steps, Answers, CopiesUser, IsFull, FullFor}}
 
 abbrev pub style_of : Bool → Style
 style_of json = if json then Json else Text
@@ -17,6 +17,16 @@ opened settings = record { host = empty settings; made = replicate 64 0; last = 
 -- a call that puts this session into a handle, if its code is 0, and otherwise leaves the one that is there
 abbrev pub Gets : (session old new : Option OpenSession) → ℕ → Type 0
 Gets session old new code = (code ≡ 0 → new ≡ session) × (code ≢ 0 → new ≡ old)
+
+-- the number is a user's, and an open session has what the user has in another open one, and all else as it was
+abbrev pub TakesUser : ℕ → (source old new : Option OpenSession) → Type 0
+TakesUser u source old new = IsUser u × (s : OpenSession) × (t : OpenSession) × (after : OpenSession)
+    × (source ≡ Some s) × (old ≡ Some t) × (new ≡ Some after) × CopiesUser u t s after
+
+-- both sessions are open, and the number is no user's, or one session's host kills the tracees of a debugger that ends and
+-- the other's doesn't
+abbrev pub RefusesUser : ℕ → (source old : Option OpenSession) → Type 0
+RefusesUser u source old = (s : OpenSession) × (t : OpenSession) × (source ≡ Some s) × (old ≡ Some t) × ((¬ IsUser u) ⊎ (s.host.settings ≢ t.host.settings))
 
 -- ---- lines
 

@@ -1,12 +1,13 @@
 //! What the calls have in common.
-ghost use Rattle.std.specs.Prelude.{ℕ, List, [], ◌≡◌, ◌≢◌, ◌≤◌, ◌↔◌, None, Some, IsNone, IfOk, string_bytes};
+ghost use Rattle.std.specs.Prelude.{ℕ, List, [], ◌≡◌, ◌≢◌, ◌≤◌, ◌↔◌, None, Some, IsNone, ◌⊎◌, IfOk, string_bytes};
+ghost use Rattle.pid_blocks.specs.Users.{IsUser};
 ghost use Rattle.requests.specs.View.{view};
 ghost use Rattle.json_trace.specs.Rows.{rows_json};
 ghost use Rattle.open_sessions.specs.Answers.{last_numbers};
 ghost use Rattle.open_sessions.specs.Calls.{last_text, state_of, LineOf, NoLine};
 ghost use Rattle.scenario_text.specs.declared.fault.Fault.TheVariants.{Memory as NoMemory};
 ghost use Rattle.tracehost_c.specs.declared.replies.FlatReply.{FlatReply as Flat};
-ghost use Rattle.tracehost_c.specs.Calls.{style_of, Explains, LineCall, Shows, StepOf, TypedCall};
+ghost use Rattle.tracehost_c.specs.Calls.{style_of, Explains, LineCall, Shows, StepOf, TakesUser, RefusesUser, TypedCall};
 
 use crate::handle::Tracehost;
 use crate::replies::FlatReply;
@@ -18,6 +19,7 @@ use requests::PlainStep;
 use scenario_runs::Style;
 use scenario_text::{Fault, parse_step};
 use std::alloc::{AllocError, Global};
+use user_hosts::CopyRefusal;
 
 /// The call was answered.
 pub(crate) const ANSWERED: u32 = 0;
@@ -296,4 +298,28 @@ pub(crate) fn put_copy(alloc: Global, source: &mut Session, to: &mut Tracehost) 
     source.keep(session.become_copy(copy));
     *to = Tracehost::of(session);
     ANSWERED
+}
+
+/// Puts what the user has in the session into an open handle's. The handle that the session was taken from isn't open.
+pub(crate) fn put_user(alloc: Global, source: &Session, user: u32, to: &mut Tracehost) -> u32
+    ensures copied { result ≡ 0 → TakesUser user (Some source.now) to.old.held.session to.new.held.session }
+    ensures unchanged { result ≢ 0 → to.new.held.session ≡ to.old.held.session }
+    ensures not_open { (result ≡ 1) ↔ IsNone to.old.held.session }
+    ensures invalid { (result ≡ 3) ↔ RefusesUser user (Some source.now) to.old.held.session }
+    ensures code { result ≤ 3 }
+{
+    if !to.is_open() {
+        return NOT_OPEN;
+    }
+    let Ok(user) = Uid::new(user) else {
+        return INVALID;
+    };
+    let mut session = std::mem::replace(to, Tracehost::closed(alloc)).session();
+    let copied = session.copy_user(alloc, user, source);
+    *to = Tracehost::of(session);
+    match copied {
+        Ok(()) => ANSWERED,
+        Err(CopyRefusal::Memory) => NO_MEMORY,
+        Err(CopyRefusal::Settings) => INVALID,
+    }
 }

@@ -6,7 +6,8 @@
 //! It is apart from `open_sessions`, so that exported names and layouts are in one crate.
 //!
 //! Begin with the header, then with specs/Calls. The main law is `laws::all_calls_are_private`: of all calls on all
-//! handles, copies among them, each user's answers are those of the user's own calls.
+//! handles, copies of sessions among them, each user's answers are those of the user's own calls. Copies of one user are
+//! not among them: of these the clause of `tracehost_copy_user` says what each user then sees.
 #![tactic(auto)]
 
 ghost use Rattle.std.specs.Prelude.{◌≡◌, ◌≢◌, ◌≤◌, ◌⊎◌, ◌↔◌, None, Some, IsSome, IsSomeAnd, IsNone, option_map};
@@ -17,7 +18,7 @@ ghost use Rattle.signals.specs.Dispositions.{disposition_numbered};
 ghost use Rattle.step_types.specs.Names.{request_numbered};
 ghost use Rattle.tracehost_c.specs.Numbers.{act_of as numbered_act, options_numbered};
 ghost use Rattle.tracehost_c.specs.Rules.{policy_numbered};
-ghost use Rattle.tracehost_c.specs.Calls.{opened, style_of, Explains, Gets, LineCall, ShowsLast, ShowsNumbers, ShowsRows, ShowsState, ShowsStep, ShowsView, TypedCall};
+ghost use Rattle.tracehost_c.specs.Calls.{opened, style_of, Explains, Gets, LineCall, ShowsLast, ShowsNumbers, ShowsRows, ShowsState, ShowsStep, ShowsView, TakesUser, RefusesUser, TypedCall};
 
 mod acts;
 mod calls;
@@ -32,7 +33,7 @@ mod views;
 use acts::act_of;
 use calls::{
     ANSWERED, INVALID, NO_MEMORY, NOT_OPEN, make, put_copy, put_explanation, put_line, put_numbers,
-    put_rows, put_state, put_step, put_text, refused,
+    put_rows, put_state, put_step, put_text, put_user, refused,
 };
 use handle::Tracehost;
 use open_sessions::Session;
@@ -65,10 +66,7 @@ pub extern "C" fn tracehost_open(
     let settings = Settings {
         kill_on_debugger_exit,
     };
-    let Ok(session) = Session::new(alloc, settings) else {
-        return NO_MEMORY;
-    };
-    let Ok(session) = Box::new(alloc, session) else {
+    let Ok(session) = Box::new(alloc, Session::new(alloc, settings)) else {
         return NO_MEMORY;
     };
     *out = Tracehost::of(session);
@@ -140,6 +138,32 @@ pub extern "C" fn tracehost_copy_over(
     }
     let mut source = std::mem::replace(from, Tracehost::closed(alloc)).session();
     let code = put_copy(alloc, &mut source, to);
+    *from = Tracehost::of(source);
+    code
+}
+
+/// Copies what one user has in an open session over what the user has in another one: the processes, and how many answers
+/// the user has had. From then on both go their own ways. All other users of the second session keep what they have. No
+/// answer is its last one afterwards.
+#[unsafe(no_mangle)]
+pub extern "C" fn tracehost_copy_user(
+    alloc: Global,
+    from: &mut Tracehost,
+    to: &mut Tracehost,
+    user: u32,
+) -> u32
+    ensures source { from.new.held.session ≡ from.old.held.session }
+    ensures copied { result ≡ 0 → TakesUser user from.old.held.session to.old.held.session to.new.held.session }
+    ensures unchanged { result ≢ 0 → to.new.held.session ≡ to.old.held.session }
+    ensures not_open { (result ≡ 1) ↔ (IsNone from.old.held.session ⊎ IsNone to.old.held.session) }
+    ensures invalid { (result ≡ 3) ↔ RefusesUser user from.old.held.session to.old.held.session }
+    ensures code { result ≤ 3 }
+{
+    if !from.is_open() {
+        return NOT_OPEN;
+    }
+    let source = std::mem::replace(from, Tracehost::closed(alloc)).session();
+    let code = put_user(alloc, &source, user, to);
     *from = Tracehost::of(source);
     code
 }

@@ -1,5 +1,5 @@
 -- A list of hosts that ends with the last user who has a place.
-use Rattle.requests.proofs.CommonNames.{◌≡◌, ◌<◌, ◌≤◌, ◌+◌, ◌-◌, ℕ, List, [], ◌∷◌, ◌++◌, Option, None, length, get_or, set, suc, refl, sym, ap, ap₂, ◌∙◌, inl, inr, arith, length-append, append_assoc, length-set, Machine}
+use Rattle.requests.proofs.CommonNames.{◌≡◌, ◌<◌, ◌≤◌, ◌+◌, ◌-◌, ℕ, List, [], ◌∷◌, ◌++◌, Option, None, length, get_or, set, suc, sym, ap, ◌∙◌, inl, inr, arith, length-append, append_assoc, length-set, Machine}
 use Rattle.std.specs.Prelude.{replicate}
 use Rattle.std.proofs.lemmas.List.{get_or_append_left, get_or-append-add, get_or-replicate, get_or_past, set-append_left, length-replicate}
 use Rattle.std.proofs.lemmas.Bool.Decides.{leb_tells}

@@ -3,6 +3,7 @@ use Rattle.requests.proofs.CommonNames.{◌≡◌, ◌≢◌, ℕ, true, not, �
 use Rattle.requests.proofs.CommonNames.{get_or-set_other, set-get_or, slots_differ}
 use Rattle.trace_rows.proofs.IsolationOfEdits.{put_at}
 use Rattle.step_types.specs.Replies.{is_refusal}
+use Rattle.requests.specs.CommonNames.{ENOMEM}
 use Rattle.requests.specs.Isolation.{Apart, reply_of, host_after}
 use Rattle.requests.specs.Memory.{may_want, takes_memory, turn_makes}
 use Rattle.requests.specs.Sound.{sound}
@@ -13,7 +14,7 @@ use Rattle.requests.proofs.IsolationLaws.{at_slot, keeps_apart, one_step, other_
 use Rattle.requests.proofs.SoundHostIsApart.{users_are_apart_in_a_sound_host}
 use Rattle.visibility.proofs.Apart.{users_are_apart_at_first}
 use Rattle.visibility.proofs.ForeignLists.{seen_by_view}
-use Rattle.user_hosts.specs.Hosts.{Hosts, Steps, Shows, Answers, made_of, host_or, host_of}
+use Rattle.user_hosts.specs.Hosts.{Hosts, Steps, Shows, made_of, host_or, host_of}
 use Rattle.user_hosts.specs.Laws.{UnusedShows, CopyShows}
 
 -- which steps take memory depends only on what the user sees
@@ -27,6 +28,12 @@ takes_same u (Step.Wait4 caller which options) m k user am ak same = refl
 takes_same u (Step.Install caller policy) m k user am ak same = refl
 takes_same u (Step.Handle caller) m k user am ak same = refl
 takes_same u (Step.Ptrace caller r target arg) m k user am ak same = refl
+
+-- a step beside a machine of all users: the reply is the machine's, and the hosts show the machine after the step; or,
+-- if the step takes memory and the machine wouldn't refuse it, ENOMEM and the hosts as they were
+pub record Answers (u : ℕ) (s : PlainStep) (old new : Hosts) (r : Reply) (m : Machine) : Type 0 where
+  pub machine : r ≢ Reply.Errno ENOMEM → (r ≡ reply_of u s m) × Shows new (host_after u s m)
+  pub memory : r ≡ Reply.Errno ENOMEM → (new ≡ old) × (may_want u s m ≡ true)
 
 pub answers : (u : ℕ) (s : PlainStep) (old new : Hosts) (r : Reply) → IsUser u → sound (host_of u old) ≡ true → Steps u s old new r → (m : Machine) → Shows old m → Answers u s old new r m
 answers u s old new r user is steps m shows = record {

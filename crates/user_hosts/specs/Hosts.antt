@@ -1,11 +1,10 @@
 -- A host for each user, and what it has to do with one host of all users.
 use Rattle.std.specs.Prelude.{◌≡◌, ◌≢◌, ◌++◌, ◌-◌, length, replicate}
-use Rattle.requests.specs.CommonNames.{ℕ, true, List, Option, Some, None, map, set, get_or, slot, users, IsUser, ENOMEM, Settings, PlainStep, Reply}
+use Rattle.requests.specs.CommonNames.{ℕ, true, List, Option, Some, None, map, set, get_or, slot, users, IsUser, Settings, PlainStep, Reply}
 use Rattle.step_types.specs.Replies.{is_refusal}
 use Rattle.requests.specs.Machine.{Machine, empty}
 use Rattle.requests.specs.View.{view}
-use Rattle.requests.specs.Isolation.{Apart, reply_of, host_after}
-use Rattle.requests.specs.Memory.{may_want}
+use Rattle.requests.specs.Isolation.{Apart}
 use Rattle.requests.specs.Hosts.{Steps as HostSteps}
 
 -- the host of each of the 64 users in order, if there is one, and the settings of all
@@ -48,12 +47,6 @@ abbrev pub MakesIn : ℕ → Option PlainStep → (old new : Hosts) → Option R
 MakesIn u None old new r = (r ≡ None) × (new ≡ old)
 MakesIn u (Some s) old new None = ⊥
 MakesIn u (Some s) old new (Some r) = Steps u s old new r
-
--- a step beside a machine of all users: the reply is the machine's, and the hosts show the machine after the step; or,
--- if the step takes memory and the machine wouldn't refuse it, ENOMEM and the hosts as they were
-pub record Answers (u : ℕ) (s : PlainStep) (old new : Hosts) (r : Reply) (m : Machine) : Type 0 where
-  pub machine : r ≢ Reply.Errno ENOMEM → (r ≡ reply_of u s m) × Shows new (host_after u s m)
-  pub memory : r ≡ Reply.Errno ENOMEM → (new ≡ old) × (may_want u s m ≡ true)
 
 -- the hosts with the source's host of one user
 abbrev pub copied : ℕ → Hosts → Hosts → Hosts

@@ -1,59 +1,45 @@
 -- What the hosts of all users have made together, and the machine of all users that they show.
-use Rattle.std.specs.Prelude.{◌≡◌, ◌≢◌, ◌==◌, ◌∷◌, ◌++◌, if◌then◌else◌, filter_map}
-use Rattle.std.specs.declared.snapshot.Snapshot.{Snapshot}
-use Rattle.requests.specs.CommonNames.{ℕ, Bool, not, List, [], Option, Some, None, map, AllByRecursion, IsUser, is_memory, Settings, PlainStep, Reply}
+use Rattle.std.specs.Prelude.{◌≡◌, ◌≢◌, ◌==◌, ◌∷◌, ◌++◌, if◌then◌else◌, refl}
+use Rattle.std.specs.Coded.{Coded, code_by, coded_list, coded_ℕ, coded×}
+use Rattle.stop_handlers.specs.contracts.Policy as Policy
+use Rattle.step_types.specs.contracts.step.Step as Step
 use Rattle.step_types.specs.Plain.{UserStep}
+use Rattle.requests.specs.CommonNames.{ℕ, not, List, [], Option, Some, None, filter, AllByRecursion, IsUser, is_memory, Settings, PlainStep, Reply}
 use Rattle.requests.specs.Machine.{Machine, empty}
-use Rattle.requests.specs.Run.{last}
+use Rattle.requests.specs.Run.{last, asked_by}
 use Rattle.requests.specs.Laws.{IsStep}
 use Rattle.requests.specs.View.{view}
 use Rattle.user_hosts.specs.Hosts.{Hosts, Shows}
 
--- in order, the steps that were made; none for one that ran out of memory, and for one that isn't this host's any more
+-- in order, the steps that were made and are these hosts' own
 abbrev pub Made : Type 0
-Made = List (Option UserStep)
-
-abbrev pub steps_in : Made → List UserStep
-steps_in made = filter_map (λ a. a) made
+Made = List UserStep
 
 abbrev pub machine_after : Settings → Made → Machine
-machine_after settings made = last (steps_in made) (empty settings)
+machine_after settings made = last made (empty settings)
 
--- a step that was answered so
-abbrev pub answered_step : ℕ → PlainStep → Reply → Option UserStep
-answered_step u s r = if is_memory r then None else Some (record { uid = u; step = s })
+-- with one more step, unless it ran out of memory
+abbrev pub one_more : ℕ → PlainStep → Reply → Made → Made
+one_more u s r made = if is_memory r then made else made ++ (record { uid = u; step = s } ∷ [])
 
--- a step, if its user is one of those chosen
-abbrev pub chosen : (ℕ → Bool) → Option UserStep → Option UserStep
-chosen among None = None
-chosen among (Some a) = if among a.uid then Some a else None
+-- the same of a step that may need a handler, if none is given
+abbrev pub one_more_without_handler : ℕ → Option PlainStep → Option Reply → Made → Made
+one_more_without_handler u None r made = made
+one_more_without_handler u (Some s) None made = made
+one_more_without_handler u (Some s) (Some r) made = one_more u s r made
 
 -- the other users' steps, and then this user's steps of another list
 abbrev pub with_user : ℕ → (made source : Made) → Made
-with_user u made source = map (chosen (λ w. not (w == u))) made ++ map (chosen (λ w. w == u)) source
+with_user u made source = filter (λ a. not (a.uid == u)) made ++ asked_by u source
 
--- ---- what is kept for contracts
-
-abbrev pub earlier : Option (Snapshot (Snapshot Made)) → Made
-earlier None = []
-earlier (Some made) = made.value.value
-
-abbrev pub taken_in : Made → Option (ℕ × Snapshot (Snapshot Made)) → Made
-taken_in made None = made
-taken_in made (Some t) = with_user t.0 made t.1.value.value
-
-abbrev pub last_step : Option (ℕ × Snapshot PlainStep) → Option UserStep
-last_step None = None
-last_step (Some a) = Some (record { uid = a.0; step = a.1.value })
-
--- an earlier list, with one user's steps of a third list if there is one, and then a step or none
-abbrev pub made_by : Option (Snapshot (Snapshot Made)) → Option (ℕ × Snapshot PlainStep) → Option (ℕ × Snapshot (Snapshot Made)) → Made
-made_by before asked taken = taken_in (earlier before) taken ++ (last_step asked ∷ [])
+-- how the logic stores such a list
+abbrev pub made_code : Coded Made
+made_code = coded_list (code_by (ℕ × PlainStep) (coded× coded_ℕ (Step.the_row Policy.the_row).coded) (λ a. (a.uid, a.step)) (λ p. record { uid = p.0; step = p.1 }) (λ _. refl))
 
 -- the hosts show the machine after what was made
 pub record Kept (hosts : Hosts) (made : Made) : Type 0 where
   pub shows : Shows hosts (machine_after hosts.settings made)
-  pub steps : AllByRecursion IsStep (steps_in made)
+  pub steps : AllByRecursion IsStep made
   pub settings : (machine_after hosts.settings made).settings ≡ hosts.settings
 
 -- ---- what a copy of one user leaves

@@ -1,23 +1,23 @@
 //! A host for each user, and the machine of all users that they show.
 
-ghost use Rattle.std.specs.Prelude.{◌≡◌, ◌≢◌, ◌↔◌, None, IfOk, IfErr, IsTrue, OnOk, OnErr};
+ghost use Rattle.std.specs.Prelude.{◌≡◌, ◌≢◌, ◌↔◌, None, Err, true, IfOk, IfSome, IsTrue, OnOk, OnErr};
 ghost use Rattle.step_types.specs.Plain.{with_handler};
 ghost use Rattle.step_types.specs.declared.step.Step.TheVariants.{Install};
 ghost use Rattle.requests.specs.Machine.{empty};
 ghost use Rattle.requests.specs.Hosts.{Steps};
 ghost use Rattle.requests.specs.Making.{Makes};
+ghost use Rattle.requests.specs.Laws.{act_fits, step_fits};
 ghost use Rattle.requests.specs.View.{view};
+ghost use Rattle.visibility.specs.Numbers.{NumbersDiffer};
 ghost use Rattle.user_hosts.specs.Made.{CopiesUser};
 ghost use Rattle.user_hosts.specs.declared.hosts.CopyRefusal.TheVariants.{Memory, Settings as OtherSettings};
 
-use crate::made::{Made, nothing_made, one_more, same_steps, steps_with_user};
+use crate::made::Made;
 use crate::own_hosts::OwnHosts;
 use pid_blocks::Uid;
-use requests::laws::fits;
-use requests::{Host, PlainStep, Reply, Step};
+use requests::{Act, Host, PlainStep, Reply, Step};
 use std::alloc::{AllocError, Global};
 use std::marker::Model;
-use std::snapshot::Snapshot;
 use stop_handlers::{ByPolicy, Decider, Handler};
 use trace_rows::Settings;
 use visibility::{View, user_view};
@@ -39,6 +39,21 @@ impl From<AllocError> for CopyRefusal {
     }
 }
 
+/// For proofs: an exit status is a byte, as its type says.
+fn act_fits(_act: Act)
+    ensures { act_fits _act ≡ true }
+{}
+
+/// For proofs: so a step's numbers fit their types.
+#[inline(always)]
+fn fits<H>(step: &Step<H>)
+    ensures { IfSome (with_handler None step.now) (λ s. step_fits s ≡ true) }
+{
+    if let Step::Turn { act, .. } = *step {
+        act_fits(act);
+    }
+}
+
 fn same_settings(these: Settings, others: Settings) -> bool
     ensures { IsTrue result ↔ (these ≡ others) }
 {
@@ -50,7 +65,7 @@ fn same_settings(these: Settings, others: Settings) -> bool
 #[derive(Drop)]
 pub struct UserHosts<F: Decider + Send + Drop> {
     hosts: OwnHosts<F>,
-    made: Snapshot<Made>,
+    made: Made,
 }
 
 impl<F: Decider + Send + Drop> Model for UserHosts<F> {
@@ -59,9 +74,9 @@ impl<F: Decider + Send + Drop> Model for UserHosts<F> {
 
     ghost Value = { Machine };
 
-    ghost view = { λ h. machine_after h.hosts.settings h.made.value };
+    ghost view = { λ h. machine_after h.hosts.settings h.made.steps };
 
-    ghost invariant = { λ h. Kept h.hosts h.made.value };
+    ghost invariant = { λ h. Kept h.hosts h.made.steps };
 }
 
 impl<F: Decider + Send + Drop> UserHosts<F> {
@@ -71,7 +86,7 @@ impl<F: Decider + Send + Drop> UserHosts<F> {
     {
         UserHosts {
             hosts: OwnHosts::new(alloc, settings),
-            made: nothing_made(),
+            made: Made::nothing(),
         }
     }
 
@@ -97,6 +112,7 @@ impl<F: Decider + Send + Drop> UserHosts<F> {
     }
 
     /// Installs a handler of the caller.
+    #[inline(never)]
     fn install(&mut self, alloc: Global, user: Uid, caller: u32, handler: Handler<F>) -> Reply
         ensures { Steps user (Install caller handler) self.old self.new result }
     {
@@ -105,11 +121,10 @@ impl<F: Decider + Send + Drop> UserHosts<F> {
             caller,
             handler: handler.policy(),
         };
-        fits(asked);
         let reply = self
             .hosts
             .step(alloc, user, Step::Install { caller, handler });
-        self.made = one_more(&self.made, user, &asked, &reply);
+        self.made = self.made.one_more(user, &asked, &reply);
         reply
     }
 
@@ -125,16 +140,20 @@ impl<F: Decider + Send + Drop> UserHosts<F> {
         ensures { Makes user (with_handler None step.now) self.old self.new result }
     {
         let _user = user.get();
-        let asked: PlainStep = step.with_handler(None)?;
-        fits(asked);
-        let reply = self.hosts.step_without_handler(alloc, user, step)?;
-        self.made = one_more(&self.made, user, &asked, &reply);
-        Some(reply)
+        fits(step);
+        let reply = if self.hosts.has_host(user) {
+            self.hosts.step_without_handler(alloc, user, step)
+        } else {
+            self.hosts.begin_without_handler(alloc, user, step)
+        };
+        self.made = self.made.one_more_without_handler(user, step, &reply);
+        reply
     }
 
     /// Returns what the user sees. An error means out of memory.
     pub fn view(&self, alloc: Global, user: Uid) -> Result<View, AllocError>
-        ensures { IfOk result (λ v. v ≡ view user self.now) }
+        ensures view { IfOk result (λ v. v ≡ view user self.now) }
+        ensures differ { IfOk result (λ v. NumbersDiffer v) }
     {
         let _user = user.get();
         match self.hosts.host(user) {
@@ -155,7 +174,7 @@ impl<F: Decider + Send + Drop> UserHosts<F> {
         hosts.copy_from(alloc, &self.hosts)?;
         Ok(UserHosts {
             hosts,
-            made: same_steps(&self.made),
+            made: self.made.same(),
         })
     }
 }
@@ -173,12 +192,12 @@ impl UserHosts<ByPolicy> {
     {
         match self.hosts.copy_from(alloc, &source.hosts) {
             Ok(()) => {
-                self.made = same_steps(&source.made);
+                self.made = source.made.same();
                 Ok(())
             }
             Err(_) => {
                 self.hosts.clear();
-                self.made = nothing_made();
+                self.made = Made::nothing();
                 Err(AllocError)
             }
         }
@@ -198,7 +217,7 @@ impl UserHosts<ByPolicy> {
     ) -> Result<(), CopyRefusal>
         ensures done { OnOk result (CopiesUser user self.old source.now self.new) }
         ensures refused { OnErr result (self.new ≡ self.old) }
-        ensures settings { IfErr result (λ e. e ≡ OtherSettings → source.now.settings ≢ self.old.settings) }
+        ensures settings { (result ≡ Err OtherSettings) ↔ (source.now.settings ≢ self.old.settings) }
     {
         let _user = user.get();
         self.hosts.assert_places();
@@ -206,7 +225,7 @@ impl UserHosts<ByPolicy> {
             return Err(CopyRefusal::Settings);
         }
         self.hosts.copy_user(alloc, user, &source.hosts)?;
-        self.made = steps_with_user(&self.made, user, &source.made);
+        self.made = self.made.with_user(user, &source.made);
         Ok(())
     }
 }

@@ -4,7 +4,7 @@
 //! step is refused with ESRCH, since the user has no process.
 //!
 //! Contracts see `UserHosts` as they see one `Host` of all users: `UserHosts::step` has the same clause. The machine in it
-//! is that of all steps that these hosts made, which no code keeps (`made`). An invariant says that each host shows its
+//! is that of all steps that these hosts made, a list without bytes or instructions (`made`). An invariant says that each host shows its
 //! user what this machine shows (`Kept`, specs/Made). `own_hosts` has the hosts without it. `laws` says of whole lists of
 //! steps that one machine and many answer alike, without hosts and without memory.
 //!

@@ -1,6 +1,6 @@
 //! One user's host, and a list of them for all users.
 
-ghost use Rattle.std.specs.Prelude.{◌≡◌, ◌<◌, ◌≤◌, None, true, IfOk, IfSome, OnOk, OnErr, box_value, length, option_map};
+ghost use Rattle.std.specs.Prelude.{◌≡◌, ◌<◌, ◌≤◌, None, true, IsSome, IfOk, IfSome, OnOk, OnErr, box_value, length, is_some, option_map};
 ghost use Rattle.step_types.specs.Plain.{with_handler};
 ghost use Rattle.step_types.specs.Replies.{is_refusal};
 ghost use Rattle.requests.specs.Machine.{Machine, empty};
@@ -96,31 +96,21 @@ impl<F: Decider + Send + Drop> UserHost<F> {
         }
     }
 
-    /// Makes a step of the user as `step` does, if it needs no handler. For an install it returns `None` and changes
-    /// nothing.
+    /// Makes a step of a user with a host as `step` does, if it needs no handler. For an install it returns `None` and
+    /// changes nothing.
     #[inline(always)]
-    fn step_without_handler<H>(
-        &mut self,
-        alloc: Global,
-        settings: Settings,
-        user: Uid,
-        step: &Step<H>,
-    ) -> Option<Reply>
-        ensures makes { Makes user (with_handler None step.now) (host_or settings self.old) (host_or settings self.new) result }
+    fn step_without_handler<H>(&mut self, alloc: Global, user: Uid, step: &Step<H>) -> Option<Reply>
+        requires { IsSome self.old }
+        ensures makes { (settings : Settings) → Makes user (with_handler None step.now) (host_or settings self.old) (host_or settings self.new) result }
         ensures none { result ≡ None → self.new ≡ self.old }
         ensures refused { IfSome result (λ r. is_refusal r ≡ true → self.new ≡ self.old) }
-        ensures sound { sound (host_or settings self.old) ≡ true }
+        ensures sound { (settings : Settings) → sound (host_or settings self.old) ≡ true }
     {
-        match &mut self.host {
-            Some(host) => {
-                host.assert_invariant();
-                host.step_without_handler(alloc, user, step)
-            }
-            None => {
-                let step = step.with_handler(None)?;
-                Some(self.begin(alloc, settings, user, step))
-            }
-        }
+        let Some(host) = &mut self.host else {
+            unreachable!()
+        };
+        host.assert_invariant();
+        host.step_without_handler(alloc, user, step)
     }
 }
 
@@ -219,6 +209,18 @@ impl<F: Decider + Send + Drop> OwnHosts<F> {
         self.made.clear();
     }
 
+    /// Tests whether the user has a host.
+    #[inline(always)]
+    pub(crate) fn has_host(&self, user: Uid) -> bool
+        ensures { result ≡ is_some (made_of user self.now) }
+    {
+        let _settings = self.settings;
+        match self.made.get(user.slot()) {
+            Some(place) => place.host.is_some(),
+            None => false,
+        }
+    }
+
     /// Returns the user's host, if the user has one.
     pub(crate) fn host(&self, user: Uid) -> Option<&Host<F>>
         ensures { option_map (λ h. h.now) result ≡ made_of user self.now }
@@ -231,7 +233,7 @@ impl<F: Decider + Send + Drop> OwnHosts<F> {
         }
     }
 
-    /// Makes the step of a user who has no place yet. Only a spawn isn't refused.
+    /// Makes the step of a user who has no host yet. Only a spawn isn't refused.
     #[inline(never)]
     fn begin(&mut self, alloc: Global, user: Uid, step: Step<Handler<F>>) -> Reply
         requires { made_of user self.old ≡ None }
@@ -249,6 +251,22 @@ impl<F: Decider + Send + Drop> OwnHosts<F> {
         }
     }
 
+    /// Makes a step of a user without a host as `begin` does, if it needs no handler.
+    #[inline(never)]
+    pub(crate) fn begin_without_handler<H>(
+        &mut self,
+        alloc: Global,
+        user: Uid,
+        step: &Step<H>,
+    ) -> Option<Reply>
+        requires { made_of user self.old ≡ None }
+        ensures makes { MakesIn user (with_handler None step.now) self.old self.new result }
+        ensures sound { sound (host_of user self.old) ≡ true }
+    {
+        let step = step.with_handler(None)?;
+        Some(self.begin(alloc, user, step))
+    }
+
     /// Makes a step of the user in the user's host. No other host is looked at. Refused as the manual page of its call
     /// says, and with ENOMEM if memory runs out. A refused step changes nothing.
     pub(crate) fn step(&mut self, alloc: Global, user: Uid, step: Step<Handler<F>>) -> Reply
@@ -263,8 +281,8 @@ impl<F: Decider + Send + Drop> OwnHosts<F> {
         }
     }
 
-    /// Makes a step of the user as `step` does, if it needs no handler. For an install it returns `None` and changes
-    /// nothing.
+    /// Makes a step of a user with a host as `step` does, if it needs no handler. For an install it returns `None` and
+    /// changes nothing.
     #[inline(always)]
     pub(crate) fn step_without_handler<H>(
         &mut self,
@@ -272,18 +290,16 @@ impl<F: Decider + Send + Drop> OwnHosts<F> {
         user: Uid,
         step: &Step<H>,
     ) -> Option<Reply>
+        requires { IsSome (made_of user self.old) }
         ensures makes { MakesIn user (with_handler None step.now) self.old self.new result }
         ensures sound { sound (host_of user self.old) ≡ true }
     {
         let _user = user.get();
-        let settings = self.settings;
-        match self.made.get_mut(user.slot()) {
-            Some(place) => place.step_without_handler(alloc, settings, user, step),
-            None => {
-                let step = step.with_handler(None)?;
-                Some(self.begin(alloc, user, step))
-            }
-        }
+        let _settings = self.settings;
+        let Some(place) = self.made.get_mut(user.slot()) else {
+            unreachable!()
+        };
+        place.step_without_handler(alloc, user, step)
     }
 }
 

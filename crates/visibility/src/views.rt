@@ -5,6 +5,7 @@ ghost use Rattle.proc_table.specs.Processes.{of_user};
 ghost use Rattle.proc_table.specs.Seen.{owns};
 ghost use Rattle.requests.specs.Machine.{installed_by};
 ghost use Rattle.requests.specs.View.{view};
+ghost use Rattle.visibility.specs.Numbers.{NumbersDiffer};
 
 use lwp_table::LwpData;
 use pid_blocks::{Pid, Uid};
@@ -94,9 +95,11 @@ pub fn user_view<F: Decider + Send + Drop>(
     host: &Host<F>,
     user: Uid,
 ) -> Result<View, AllocError>
-    ensures { IfOk result (λ v. v ≡ view user host.now) }
+    ensures view { IfOk result (λ v. v ≡ view user host.now) }
+    ensures differ { IfOk result (λ v. NumbersDiffer v) }
 {
     let tables = host.tables();
+    tables.assert_invariant();
     Ok(View {
         processes: processes_of(tables, alloc, user)?,
         lwps: lwps_of(tables, alloc, user)?,

@@ -20,8 +20,8 @@ returns-in-Ok-clause-told g c = λ made.
     let from : c.in_ok-host.host ≡ empty c.args.scenario.now.settings = c.in_ok-host.ensures ∙ ap (λ p. empty p.settings) c.scenario.view_is in
     let e = c.in-Ok.ensures in
     let given = c.in_ok-scripts-2.ensures.scripts ∙ c.in_ok-scripts.ensures.scripts in
-    let ran = ran_of _ c.in-Ok._host c.in_ok-scripts-2.scripts c.in-Ok._calls c.in-Ok.transcripts.items e.legal e.host e.entries e.transcripts e.own in
-    told_in_all c.args.scenario.now c.in-Ok._host c.in-Ok.transcripts.items c.in_ok-scripts.ensures.users
+    let ran = ran_of replies_in _ c.in-Ok._host c.in_ok-scripts-2.scripts c.in-Ok._calls c.in-Ok.transcripts.items e.legal e.host e.entries e.transcripts e.own in
+    told_in_all replies_in c.args.scenario.now c.in-Ok._host c.in-Ok.transcripts.items c.in_ok-scripts.ensures.users
     (subst (λ (z : Machine × List (ℕ × List PlainStep)). Ran replies_in z.0 z.1 c.in-Ok._host c.in-Ok.transcripts.items) (λ i. (from i, given i)) ran) made
 
 pub returns-in-Ok-clause-shows : goal.returns-in-Ok-clause-shows

@@ -7,7 +7,7 @@ pub loop-bare_step-init : goal.loop-bare_step-init
 loop-bare_step-init g c =
     let handlers = c.into_iter-rest.ensures.rest ∙ c.requires in
     let steps = ap (with_policies c.bare_steps-bare_steps.result.now) handlers ∙ c.bare_steps-bare_steps.ensures.steps in
-    let host = c.in_ok-host.ensures ∙ ap (λ p. empty p.settings) c.scenario.view_is in
+    let host = c.new-host.ensures ∙ ap (λ p. empty p.settings) c.scenario.view_is in
     record {
       answers = rw (host, c.in_ok-replies.ensures.items) (ap (λ (xs : List UserStep). paired xs (replies xs (empty c.args.scenario.now.settings))) steps);
       each = ap policies_in steps ∙ sym handlers;

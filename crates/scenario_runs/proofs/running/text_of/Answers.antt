@@ -10,7 +10,7 @@ loop-bare_step-init g c =
     let options = c.args.options.now in
     let handlers = c.into_iter-rest.ensures.rest ∙ c.requires in
     let steps = ap (with_policies c.bare_steps-bare_steps.result.now) handlers ∙ c.bare_steps-bare_steps.ensures.steps in
-    let host = c.in_ok-host.ensures ∙ ap (λ p. empty p.settings) c.scenario.view_is in
+    let host = c.new-host.ensures ∙ ap (λ p. empty p.settings) c.scenario.view_is in
     record {
       before = [];
       few = refl;

@@ -2,7 +2,7 @@ use Rattle.scenario_runs.proofs.CommonNames.{◌≡◌, ◌≤◌, ◌+◌, ◌+
 use Rattle.std.specs.Prelude.{Err}
 use Rattle.scenario_runs.specs.Runs.{Writes}
 use Rattle.scenario_runs.proofs.LineLemmas.{counted_start, counted_more, counted_few, counted_number, shown_after, shown_none, shown_whole}
-use Rattle.scenario_runs.proofs.PartLemmas.{Parted, parted_start, parted_more, parted_written, parted_failed, parted_fault, parted_end}
+use Rattle.scenario_runs.proofs.PartLemmas.{parted_start, parted_more, parted_written, parted_failed, parted_fault, parted_end}
 use Rattle.scenario_runs.proofs.running.write_lines.Goals as goal
 use Rattle.scenario_runs.proofs.running.write_lines.Goals.{then-len-ge-PART+in_ok-write_whole, else-len-ge-PART}
 

@@ -1,5 +1,6 @@
 use Rattle.scenario_runs.proofs.CommonNames.{◌≡◌, ℕ, List, length, map, drop, string_bytes, answered, shown}
-use Rattle.scenario_runs.proofs.{LineLemmas.{Counted, shown_after}, PartLemmas.Parted}
+use Rattle.scenario_runs.proofs.LineLemmas.{Counted, shown_after}
+use Rattle.scenario_runs.specs.Parts.{Parted}
 use Rattle.scenario_runs.proofs.running.write_lines.Given as goal
 
 -- `before` are the users of the replies so far

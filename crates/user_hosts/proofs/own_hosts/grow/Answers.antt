@@ -1,4 +1,4 @@
-use Rattle.requests.proofs.CommonNames.{[], ◌∷◌, ◌++◌, length, None, sym, ap, ◌∙◌, arith, length-append}
+use Rattle.requests.proofs.CommonNames.{[], ◌∷◌, ◌++◌, length, None, ap, ◌∙◌, arith, length-append}
 use Rattle.user_hosts.specs.Hosts.{padded}
 use Rattle.user_hosts.proofs.Padded.{pushed}
 use Rattle.user_hosts.proofs.own_hosts.grow.Goals as goal

@@ -1,6 +1,7 @@
+use Rattle.lwp_table.proofs.CommonNames.{◌≡◌, ℕ, false, nat_eq, lookup, arith, nat_tests, covering, LwpTableInvariant}
 use Rattle.slab.specs.Slab.{get as slot_get}
 use Rattle.lwp_table.proofs.IndexLemmas.{leads, slot_has, lwp_of-found}
-use Rattle.lwp_table.proofs.KeptLemmas.{HasLeft, neighbours, own_positive, user_positive, LwpTableInvariant-removed, AreNamed-removed, rows-removed}
+use Rattle.lwp_table.proofs.KeptLemmas.{HasLeft, neighbours, own_positive, user_positive, LwpTableInvariant-removed, LwpTableInvariant-given_back, AreNamed-removed, AreNamed-given_back, rows-removed}
 use Rattle.lwp_table.proofs.table.LwpTable.remove.Goals.{After-close_up}
 use Rattle.lwp_table.proofs.table.LwpTable.remove.Goals as goal
 
@@ -33,9 +34,26 @@ leaves c = record {
   closed = c.close_up.ensures.closed;
 }
 
+-- the numbers of the other rows lead to their slots
+drops : (c : After-close_up) → (p : ℕ) → nat_eq c.remove-gone.result.row.tid p ≡ false → lookup (nat_eq p) c.swap_remove.new.self.entries ≡ lookup (nat_eq p) c.self.inside.slots.entries
+drops c p off = grind (arith, nat_tests, c.swap_remove.ensures.updates.2 p, (leaves c).its, off)
+
+-- what is kept before the list is given back
+without : (c : After-close_up) → LwpTableInvariant (slot_get c.close_up.new.slots) c.swap_remove.new.self.entries c.leave.new.heads.entries c.self.inside.births c.leave_user.new.users.items (covering c.leave.new.heads.entries)
+without c = LwpTableInvariant-removed c.self.invariant.kept c.args.tid c.slot_of-slot.result c.remove-gone.result _ (leaves c) c.swap_remove.new.self.entries (drops c) c.leave.new.heads.entries c.leave.ensures.ends (λ p l told. told) _ c.leave_user.ensures.ends
+
+pub give_back-requires : goal.give_back-requires
+give_back-requires c = (without (goal.at.give_back-requires c).After-close_up).indexed.listed
+
 pub invariant_of-self : goal.invariant_of-self
 invariant_of-self c =
-    record { kept = LwpTableInvariant-removed c.self.invariant.kept c.args.tid c.slot_of-slot.result c.remove-gone.result _ (leaves c) c.leave.new.heads.entries c.leave.ensures.ends (λ p l told. told) _ c.leave_user.ensures.ends; named = λ all. AreNamed-removed c.self.invariant.kept c.args.tid c.slot_of-slot.result c.remove-gone.result _ (leaves c) c.leave.new.heads.entries c.leave.ensures.ends (λ p l told. told) (c.self.invariant.named all) }
+    let at = (goal.at.invariant_of-self c).After-close_up in
+    record {
+      kept = LwpTableInvariant-given_back (without at) c.remove-gone.result.row.pid c.give_back.result c.give_back.new.heads.entries c.give_back.ensures.ends c.give_back.ensures.empty;
+      named = λ all.
+          AreNamed-given_back (without at) c.remove-gone.result.row.pid c.give_back.result c.give_back.new.heads.entries c.give_back.ensures.ends c.give_back.ensures.empty c.give_back.ensures.unawaited
+          (AreNamed-removed c.self.invariant.kept c.args.tid c.slot_of-slot.result c.remove-gone.result _ (leaves at) c.swap_remove.new.self.entries (drops at) c.leave.new.heads.entries c.leave.ensures.ends (λ p l told. told) (c.self.invariant.named all));
+    }
 
 pub returns-clause-rows : goal.returns-clause-rows
-returns-clause-rows c = rw (← c.self.view_is) (rows-removed c.self.invariant.kept c.args.tid c.slot_of-slot.result c.remove-gone.result _ (leaves c))
+returns-clause-rows c = let at = (goal.at.returns-clause-rows c).After-close_up in rw (← c.self.view_is) (rows-removed c.self.invariant.kept c.args.tid c.slot_of-slot.result c.remove-gone.result _ (leaves at) c.swap_remove.new.self.entries (drops at))

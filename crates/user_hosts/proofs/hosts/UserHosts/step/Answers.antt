@@ -1,4 +1,4 @@
-use Rattle.requests.proofs.CommonNames.{◌≡◌, None, sym, subst, Step}
+use Rattle.requests.proofs.CommonNames.{None, sym, subst, Step}
 use Rattle.step_types.specs.Plain.{with_handler}
 use Rattle.requests.specs.Hosts.{Steps}
 use Rattle.requests.specs.Making.{Makes}

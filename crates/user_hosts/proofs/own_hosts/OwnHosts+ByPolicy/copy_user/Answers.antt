@@ -1,5 +1,5 @@
 use Rattle.requests.proofs.CommonNames.{◌≡◌, ◌<◌, length, set, sym, ap, ◌∙◌, slot, arith}
-use Rattle.user_hosts.specs.Hosts.{copied, made_of, padded}
+use Rattle.user_hosts.specs.Hosts.{copied, made_of}
 use Rattle.user_hosts.proofs.Padded.{written}
 use Rattle.user_hosts.proofs.Places.{hosts}
 use Rattle.user_hosts.proofs.own_hosts.OwnHosts+ByPolicy.copy_user.Goals as goal

@@ -1,6 +1,6 @@
-use Rattle.requests.proofs.CommonNames.{◌≡◌, ◌<◌, None, get_or, length, length-set, set, refl, sym, ap, subst, ◌∙◌, slot, arith, Step, Reply}
+use Rattle.requests.proofs.CommonNames.{◌≡◌, ◌<◌, get_or, length, length-set, set, refl, sym, ap, subst, ◌∙◌, slot, arith, Step, Reply}
 use Rattle.requests.specs.CommonNames.{ENOMEM}
-use Rattle.user_hosts.specs.Hosts.{Hosts, Steps, padded}
+use Rattle.user_hosts.specs.Hosts.{Steps}
 use Rattle.user_hosts.proofs.FirstSteps.{no_memory, no_process}
 use Rattle.user_hosts.proofs.Places.{hosts, unmoved, stepped}
 use Rattle.user_hosts.proofs.own_hosts.OwnHosts.begin.Goals as goal

@@ -1,4 +1,4 @@
-use Rattle.requests.proofs.CommonNames.{◌≡◌, ◌<◌, ◌≤◌, true, None, get_or, length, length-set, set, refl, sym, ap, subst, ◌∙◌, slot, sound, arith}
+use Rattle.requests.proofs.CommonNames.{◌≡◌, ◌<◌, true, get_or, length, length-set, set, refl, sym, ap, subst, ◌∙◌, slot, sound, arith}
 use Rattle.user_hosts.specs.Hosts.{Steps, host_of}
 use Rattle.user_hosts.proofs.Places.{behind, hosts, nowhere_sound, sound_there, stepped}
 use Rattle.user_hosts.proofs.own_hosts.OwnHosts.step.Goals as goal
