@@ -40,7 +40,7 @@ DOCUMENTS = LICENSE THIRD-PARTY.txt README.md CHANGELOG.md SECURITY.md docs/*.* 
 # of the library
 HEADERS = include/tracehost.h include/tracehost_fuzz.h $(patsubst %,include/tracehost%.hpp,_artifacts _catch2 _crashes _explain _gtest _record _test) include/tracehost.hpp
 # the client in C: tracehost_client.c includes the others
-CLIENT = tracehost_client.c internal.h artifacts.c calls.c crashes.c failing.c in_process.c names.c pages.c pipe.c record.c \
+CLIENT = tracehost_client.c internal.h artifacts.c calls.c crashes.c failing.c library.c names.c pages.c record.c \
   refusals.c rows.c session.c steps.c threads.c
 # C programs on the model: its Makefile, and where it installs. Relative names are those of this folder.
 staged = $(if $(filter /%,$(firstword $(DESTDIR)$(bindir))),$(DESTDIR),$(CURDIR)/$(DESTDIR))
@@ -76,6 +76,7 @@ install-files:
 	$(INSTALL) -d "$(DESTDIR)$(pkgdatadir)/python/tracehost"
 	for file in $(DEBUGGER); do $(INSTALL_DATA) $$file "$(DESTDIR)$(pkgdatadir)/python/tracehost" || exit; done
 	printf '%s\n' '#!/bin/sh' 'here=$$(dirname "$$(readlink -f "$$0")")' 'export TRACEHOST="$${TRACEHOST:-$$here/tracehost}"' \
+	  "export TRACEHOST_LIBRARY=\"\$${TRACEHOST_LIBRARY:-\$$here/$$(realpath -m --relative-to="$(bindir)" "$(libdir)")/$(SONAME)}\"" \
 	  "export PYTHONPATH=\"\$$here/$$(realpath -m --relative-to="$(bindir)" "$(pkgdatadir)")/python\$${PYTHONPATH:+:\$$PYTHONPATH}\"" \
 	  'exec python3 -B -m tracehost.debug "$$@"' >"$(DESTDIR)$(bindir)/tracehost-debug"
 	chmod 755 "$(DESTDIR)$(bindir)/tracehost-debug"
@@ -98,7 +99,7 @@ install-files:
 	for name in $(filter-out tracehost-run,$(HELPED)); do \
 	  ln -sf tracehost-run "$(DESTDIR)$(bashcompletiondir)/$$name" || exit; done
 	if command -v $(CC) >/dev/null; then $(MAKE) $(POSIX) install; \
-	  else echo "there is no $(CC): tracehost-cc, tracehost-run and tracehost-corpus are not installed" >&2; fi
+	  else echo "there is no $(CC): tracehost-cc, tracehost-run, tracehost-corpus and tracehost-ld are not installed" >&2; fi
 
 # the library of the present sources, from the folder that tools/library prints
 install-library:

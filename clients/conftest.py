@@ -11,10 +11,10 @@ import pytest
 
 @pytest.fixture(autouse=True, scope="module")
 def environment(program: Path, request: pytest.FixtureRequest) -> Iterator[None]:
-    """The program and the library to test. A `TRACEHOST_LIBRARY` that is set stays: if it is empty, sessions are pipes."""
+    """The program and the library to test. A `TRACEHOST_LIBRARY` that is set stays."""
     with pytest.MonkeyPatch.context() as patch:
         patch.setenv("TRACEHOST", str(program))
-        if "TRACEHOST_LIBRARY" not in os.environ:
+        if not os.environ.get("TRACEHOST_LIBRARY"):
             patch.setenv("TRACEHOST_LIBRARY", str(request.getfixturevalue("library") / "libtracehost.so"))
         yield
 

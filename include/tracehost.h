@@ -12,13 +12,13 @@
  *
  * A handle is a session: a host of its own, shared by the users 1001 to 1064, and each user's number of answers. A call
  * with a user makes one step of that user: the host's reply and its state afterwards are those of the tracing machine;
- * or, where a step needs memory and none is left, the reply is TRACEHOST_ERROR with ENOMEM, and the host is as it was.
+ * or, if a step needs memory and none is left, the reply is TRACEHOST_ERROR with ENOMEM, and the host is as it was.
  * Two handles share nothing. Every call returns one of the codes below.
  *
  * What the caller owes:
  *   - A handle is TRACEHOST_CLOSED or all zeros before it is opened. It may be moved, and is never copied byte by byte
  *     while it is open: tracehost_copy copies a session.
- *   - One call at a time on a handle. Calls on different handles may be made at the same time.
+ *   - One call at a time on a handle, from any thread. Calls on different handles may be made at the same time.
  *   - No call from a signal handler, or from the forked child of a process with threads.
  *   - Pointers are not null, also where a size is 0, and the objects behind a call's pointers don't overlap.
  *   - malloc, realloc and free, which a session uses, are of one allocator.
@@ -42,7 +42,7 @@ typedef struct tracehost { void *session; uint64_t tag; } tracehost;
 #define TRACEHOST_CLOSED {NULL, 0}
 
 /* tools/format version */
-#define TRACEHOST_VERSION "0.22.0"
+#define TRACEHOST_VERSION "0.24.0"
 /* end */
 
 /* What a call returns. After 1, 2, 3 and 5 the session, and all that the call's pointers lead to, are as before. */
@@ -162,11 +162,16 @@ const char *tracehost_strerror(uint32_t code);
  * Opens a session with an unused host. Closes one, and frees it. Copies one at its present state into a closed handle, or over
  * another open one (itself is TRACEHOST_NOT_OPEN). From the first copy over another one on, the copied handle keeps the memory
  * of two sessions.
+ * tracehost_copy_user copies what one user has: the processes, and the number of answers. All other users of `to` keep theirs,
+ * and no answer is its last one. It takes the time and memory of only this user. TRACEHOST_NOT_OPEN: also if both are the same
+ * session. TRACEHOST_INVALID: there is no such user, or debuggers' ends kill in one of the sessions and not in the other. After
+ * any other code than 0 `to` is as it was.
  */
 uint32_t tracehost_open(bool kill_on_debugger_exit, tracehost *out);
 uint32_t tracehost_close(tracehost *h);
 uint32_t tracehost_copy(tracehost *from, tracehost *to);
 uint32_t tracehost_copy_over(tracehost *from, tracehost *to);
+uint32_t tracehost_copy_user(tracehost *from, tracehost *to, uint32_t user);
 
 /*
  * Makes the step that the line is (docs/FORMAT.md, section 11), and stores the line of its answer, in words or as a JSON object:
@@ -193,7 +198,8 @@ uint32_t tracehost_last_step(tracehost *h, uint8_t *out, size_t out_size, size_t
 uint32_t tracehost_explain(const uint8_t *line, size_t line_length, size_t number, uint8_t *out, size_t out_size,
                            size_t *length);
 
-/* Steps. `caller`, `target`, `lwp`, `which` and `signal` may be any number: the reply has the error that they cause. */
+/* Steps. `caller`, `target`, `lwp`, `which` and `signal` may be any number: the reply has the error that they cause. `which` is a
+ * process, or -1: any child, or every process of the user that kill(2) names. */
 uint32_t tracehost_spawn(tracehost *h, uint32_t user, tracehost_reply *reply);
 uint32_t tracehost_list(tracehost *h, uint32_t user, uint32_t caller, tracehost_reply *reply);
 uint32_t tracehost_sigaction(tracehost *h, uint32_t user, uint32_t caller, uint32_t signal, uint32_t disposition,

@@ -208,6 +208,8 @@ public:
         if (stat(folder.c_str(), &status) != 0)
             std::filesystem::create_directories(folder);
         stem = stem_of(test);
+        if (const char *wanted = std::getenv("TRACEHOST_TRACES"); wanted != nullptr && *wanted != '\0')
+            traces = std::filesystem::absolute(wanted);
         if (!has_own_folder)
             tracehost_names::all().with_earlier(
                 folder, this_program().name, [&](const tracehost_earlier_files &files) { files.tell(stem); });
@@ -239,6 +241,28 @@ public:
         if (file < 0)
             throw std::system_error(errno, std::generic_category(), path);
         return file;
+    }
+
+    // Copies the scenario to the folder $TRACEHOST_TRACES, if it is set, as STEM.PROCESS.json. What goes wrong is told.
+    void leave_trace() const
+    {
+        if (traces.empty())
+            return;
+        const std::string front = (traces / stem).string() + "." + std::to_string(getpid());
+        std::error_code error;
+        std::filesystem::create_directories(traces, error);
+        std::string trace = front;
+        for (int nth = 2; !error && !std::filesystem::copy_file(scenario_now(), trace + ".json", error); nth++) {
+            if (error != std::errc::file_exists)
+                break;
+            error.clear();
+            trace = front + "-" + std::to_string(nth);
+        }
+        if (!error)
+            return;
+        std::error_code ignored;
+        std::filesystem::remove(trace + ".json", ignored); // a part, if the disk is full
+        say("no trace is left in " + traces.string() + ": " + error.message());
     }
 
     // the test has passed
@@ -439,6 +463,7 @@ private:
     static constexpr int seconds_for_a_page = TRACEHOST_SECONDS_FOR_A_PAGE, seconds_for_a_story = TRACEHOST_SECONDS_FOR_A_STORY;
 
     std::string folder, stem, name;
+    std::filesystem::path traces; // $TRACEHOST_TRACES; empty if it isn't set
     std::array<std::string, 5> paths;
     bool has_own_folder = false, has_failed = false;
     std::optional<tracehost_file> locked;

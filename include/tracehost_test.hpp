@@ -11,8 +11,9 @@
 // first message and the state at that step. They are in the folder $TRACEHOST_ARTIFACTS, else in a new one below $TMPDIR or /tmp,
 // and standard error says where. $TRACEHOST and $TRACEHOST_VIEW name the programs that make the page; else they are tracehost
 // and tracehost-view. A further test of the name in this process gets a number. A test that passes leaves nothing, and removes
-// what it left in an earlier run; a forked child does neither. What can't be recorded is told, and changes neither a call nor
-// the test. While a test runs the process's number is at the end of the names: they stay so after SIGKILL, or if the program
+// what it left in an earlier run; a forked child does neither. If $TRACEHOST_TRACES names a folder, a test that ends leaves a
+// copy of its scenario there, whether it passes or fails, as PROGRAM.NAME-DIGEST.PROCESS.json. What can't be recorded is told,
+// and changes neither a call nor the test. While a test runs the process's number is at the end of the names: they stay so after SIGKILL, or if the program
 // handles the signal itself.
 #ifndef TRACEHOST_TEST_HPP
 #define TRACEHOST_TEST_HPP
@@ -98,6 +99,7 @@ public:
         if (std::uncaught_exceptions() > exceptions)
             fail("an exception");
         try {
+            artifacts->leave_trace();
             if (has_failed)
                 artifacts->keep(test, message, step == unknown ? steps() : step);
             else

@@ -179,27 +179,34 @@ static int make_folders(char *path)
     return mkdir(path, 0777) == 0 || errno == EEXIST ? 0 : -1;
 }
 
-/* The folder $TRACEHOST_ARTIFACTS, as a name from the root; else a new one below $TMPDIR or /tmp, which is the test's own. */
+/* The name from the root of the folder that a variable names, "" if it names none; -1 with errno. */
+static int named_folder(char folder[THP_PATH], const char *variable)
+{
+    const char *named = getenv(variable);
+    char here[THP_PATH] = "";
+    folder[0] = '\0';
+    if (named == NULL || named[0] == '\0')
+        return 0;
+    if (named[0] != '/' && getcwd(here, sizeof here) == NULL)
+        return -1;
+    return add_path(folder, here, named[0] == '/' ? named + 1 : named, "", "");
+}
+
+/* The folder $TRACEHOST_ARTIFACTS; else a new one below $TMPDIR or /tmp, which is the test's own. */
 static int open_folder(struct thp_artifacts *a, const char *name)
 {
-    const char *named = getenv("TRACEHOST_ARTIFACTS"), *temporary = getenv("TMPDIR");
-    char here[THP_PATH] = "";
-    int length;
-    a->is_own_folder = named == NULL || named[0] == '\0';
-    if (a->is_own_folder)
-        length = snprintf(a->folder, sizeof a->folder, "%s/tracehost-%s-XXXXXX",
-            temporary != NULL && temporary[0] == '/' ? temporary : "/tmp", name);
-    else if (named[0] != '/' && getcwd(here, sizeof here) == NULL)
+    const char *temporary = getenv("TMPDIR");
+    if (named_folder(a->traces, "TRACEHOST_TRACES") != 0 || named_folder(a->folder, "TRACEHOST_ARTIFACTS") != 0)
         return -1;
-    else
-        length = snprintf(a->folder, sizeof a->folder, "%s%s%s", here, here[0] != '\0' ? "/" : "", named);
-    if (length < 0 || (size_t)length >= sizeof a->folder) {
-        errno = ENAMETOOLONG;
-        return -1;
-    }
-    if (a->is_own_folder)
+    a->is_own_folder = a->folder[0] == '\0';
+    if (!a->is_own_folder)
+        return make_folders(a->folder);
+    int length = snprintf(
+        a->folder, sizeof a->folder, "%s/tracehost-%s-XXXXXX", temporary != NULL && temporary[0] == '/' ? temporary : "/tmp", name);
+    if (length >= 0 && (size_t)length < sizeof a->folder)
         return mkdtemp(a->folder) != NULL ? 0 : -1;
-    return make_folders(a->folder);
+    errno = ENAMETOOLONG;
+    return -1;
 }
 
 /*
@@ -402,6 +409,56 @@ int thp_keep_artifacts(const struct thp_artifacts *a, int in_handler)
     unlock_folder(lock);
     errno = error;
     return result;
+}
+
+/* A new file STEM.PROCESS.json of a folder, with a number if there is one of this name; its descriptor, or -1 with errno. */
+static int open_trace(char path[THP_PATH], const struct thp_artifacts *a)
+{
+    char process[48];
+    int file = -1;
+    for (int nth = 1; file < 0; nth++) {
+        int length = snprintf(process, sizeof process, ".%ld", (long)getpid());
+        if (nth > 1)
+            snprintf(process + length, sizeof process - (size_t)length, "-%d", nth);
+        if (add_path(path, a->traces, a->stem, process, file_kinds[0]) != 0) {
+            errno = ENAMETOOLONG;
+            return -1;
+        }
+        file = open(path, O_WRONLY | O_CREAT | O_EXCL | O_CLOEXEC, 0666);
+        if (file < 0 && errno != EEXIST)
+            return -1;
+    }
+    return file;
+}
+
+static int copy_file(int from, int to)
+{
+    char part[16384];
+    ssize_t got;
+    for (off_t at = 0; (got = pread(from, part, sizeof part, at)) > 0; at += got)
+        for (ssize_t done = 0; done < got;) {
+            ssize_t put = write(to, part + done, (size_t)(got - done));
+            if (put < 0 && errno != EINTR)
+                return -1;
+            done += put > 0 ? put : 0;
+        }
+    return got == 0 ? 0 : -1;
+}
+
+void thp_leave_trace(const struct thp_artifacts *a, int scenario)
+{
+    char folder[THP_PATH], path[THP_PATH] = "";
+    if (a->nth == 0 || a->traces[0] == '\0')
+        return;
+    int to = make_folders(strcpy(folder, a->traces)) == 0 ? open_trace(path, a) : -1;
+    int is_whole = to >= 0 && copy_file(scenario, to) == 0, error = errno;
+    if (to >= 0) {
+        close(to);
+        if (!is_whole)
+            unlink(path);
+    }
+    if (!is_whole)
+        fprintf(stderr, "tracehost: no trace is left in %s: %s\n", a->traces, strerror(error));
 }
 
 static void remove_earlier(const struct thp_artifacts *a)

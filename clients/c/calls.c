@@ -5,8 +5,6 @@
 
 #include <string.h>
 
-#define KIND(name) (1u << THP_##name)
-
 static struct thp_step step_of(enum thp_op op, th_caller caller)
 {
     struct thp_step step = {.op = op, .user = caller.user, .caller = caller.pid};
@@ -17,7 +15,7 @@ static struct thp_step step_of(enum thp_op op, th_caller caller)
 static int call_done(th_host *h, const struct thp_step *step)
 {
     struct thp_reply reply;
-    return thp_call(h, step, KIND(DONE), &reply, NULL);
+    return thp_call(h, step, &reply, NULL);
 }
 
 /* The client itself refuses an argument. */
@@ -33,7 +31,7 @@ static int invalid(const th_host *h, int error)
 static int lwp_info(th_host *h, const struct thp_step *step, void *addr, size_t size)
 {
     struct thp_reply reply;
-    if (thp_call(h, step, KIND(INFO), &reply, NULL) != 0)
+    if (thp_call(h, step, &reply, NULL) != 0)
         return -1;
     /* tools/format lwpinfo */
     /* clang-format off */
@@ -50,7 +48,7 @@ static int lwp_info(th_host *h, const struct thp_step *step, void *addr, size_t 
 static int get_event_mask(th_host *h, const struct thp_step *step, int *mask)
 {
     struct thp_reply reply;
-    if (thp_call(h, step, KIND(MASK), &reply, NULL) != 0)
+    if (thp_call(h, step, &reply, NULL) != 0)
         return -1;
     *mask = reply.events;
     return 0;
@@ -79,7 +77,7 @@ static int lwp_list(th_host *h, struct thp_step *step, th_lwpid *lwps, int size)
     step->data = size > 0 ? (unsigned)size : 0;
     step->numbers = lwps;
     step->size = step->data;
-    return thp_call(h, step, KIND(LWPS), &reply, NULL) == 0 ? (int)reply.count : -1;
+    return thp_call(h, step, &reply, NULL) == 0 ? (int)reply.count : -1;
 }
 
 /* What the kernel answers by looking only at `addr` and `data`, before the model is asked; an errno or 0. */
@@ -117,7 +115,7 @@ int th_ptrace(th_host *h, th_caller caller, int request, th_pid pid, void *addr,
     /* tools/format requests for a number */
     case TH_PT_GETNUMLWPS:
         /* end */
-        return thp_call(h, &step, KIND(NUMBER), &reply, NULL) == 0 ? reply.number : -1;
+        return thp_call(h, &step, &reply, NULL) == 0 ? reply.number : -1;
     case TH_PT_GETLWPLIST: return lwp_list(h, &step, addr, data);
     default: step.data = (unsigned)data; return call_done(h, &step);
     }
@@ -129,12 +127,11 @@ static th_pid wait4_call(th_host *h, th_caller caller, th_pid wpid, int *status,
 {
     struct thp_step step = step_of(THP_WAIT4, caller);
     struct thp_reply reply;
-    unsigned kinds = KIND(NOTHING) | KIND(STATUS);
     if (options & ~thp_all_of(&thp_options))
         return invalid(h, EINVAL);
     step.target = wpid;
     step.options = options;
-    if (thp_call(h, &step, kinds, &reply, options & TH_WNOHANG ? NULL : timeout) != 0)
+    if (thp_call(h, &step, &reply, options & TH_WNOHANG ? NULL : timeout) != 0)
         return -1;
     if (status != NULL && reply.kind == THP_STATUS)
         *status = reply.status;
@@ -175,7 +172,7 @@ ssize_t th_list(th_host *h, th_caller caller, th_pid *pids, size_t size)
     struct thp_reply reply;
     step.numbers = pids;
     step.size = size;
-    return thp_call(h, &step, KIND(PIDS), &reply, NULL) == 0 ? (ssize_t)reply.count : -1;
+    return thp_call(h, &step, &reply, NULL) == 0 ? (ssize_t)reply.count : -1;
 }
 
 /* ---------------------------------------------------------------- stop handlers */
@@ -195,8 +192,7 @@ static th_pid handle_call(th_host *h, th_caller caller, struct th_handled *handl
 {
     struct thp_step step = step_of(THP_HANDLE, caller);
     struct thp_reply reply;
-    unsigned kinds = KIND(NOTHING) | KIND(STATUS) | KIND(HANDLED);
-    if (thp_call(h, &step, kinds, &reply, timeout) != 0)
+    if (thp_call(h, &step, &reply, timeout) != 0)
         return -1;
     if (handled != NULL && reply.kind != THP_NOTHING) {
         /* tools/format handled */
@@ -226,7 +222,7 @@ int th_spawn(th_host *h, unsigned user, th_pid *pid, th_lwpid *lwp)
 {
     struct thp_step step = {.op = THP_SPAWN, .user = user};
     struct thp_reply reply;
-    if (thp_call(h, &step, KIND(NEW), &reply, NULL) != 0)
+    if (thp_call(h, &step, &reply, NULL) != 0)
         return -1;
     if (pid != NULL)
         *pid = reply.pid;
@@ -240,7 +236,7 @@ static int turn(th_host *h, const struct thp_step *step, struct th_turned *turne
     static const enum th_outcome outcomes[] = {
         [THP_DONE] = TH_DONE, [THP_NEW] = TH_NEW, [THP_STOPPED] = TH_STOPPED, [THP_CAUGHT] = TH_CAUGHT, [THP_ENDED] = TH_ENDED};
     struct thp_reply reply;
-    if (thp_call(h, step, KIND(DONE) | KIND(NEW) | KIND(STOPPED) | KIND(CAUGHT) | KIND(ENDED), &reply, NULL) != 0)
+    if (thp_call(h, step, &reply, NULL) != 0)
         return -1;
     if (turned != NULL) {
         struct th_turned told = {outcomes[reply.kind], reply.pid, reply.lwp, reply.signal, reply.flags, reply.status};

@@ -124,6 +124,8 @@ int th_test_end(th_host *h, int passed)
     h->scenario.number = -1; /* it stays open, and locked, until it has its last name */
     thp_close_record(h);
     thp_leave(h);
+    if (is_mine && test->file.number >= 0)
+        thp_leave_trace(&test->artifacts, test->file.number);
     if (is_mine && test->file.number >= 0 && failed)
         leave(test);
     if (is_mine)

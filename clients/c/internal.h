@@ -9,6 +9,7 @@
 #include <stddef.h>
 #include <stdint.h>
 #include <sys/types.h>
+#include <tracehost.h>
 
 #define COUNT(array) (sizeof(array) / sizeof((array)[0]))
 
@@ -28,14 +29,11 @@ extern const struct thp_table thp_requests, thp_events, thp_stop_flags, thp_opti
 
 /* the name of a value; NULL for none */
 const char *thp_name_of(const struct thp_table *table, int value);
-/* the value of the `length` bytes at `word`; -1 for none */
-int thp_value_of(const struct thp_table *table, const char *word, size_t length);
 /* Appends to a text with room for `size` bytes, and adds to its length; what doesn't fit is cut. */
 void thp_append(char *text, size_t size, size_t *length, const char *more);
 /* all values together */
 int thp_all_of(const struct thp_table *table);
-/* the host system's number of the model's errno with this name, or with FreeBSD's number; 0 for none */
-int thp_errno_of(const char *word, size_t length);
+/* the host system's number of the model's errno with FreeBSD's number; 0 for none */
 int thp_errno_numbered(unsigned freebsd);
 /* the name of the model's errno; NULL for another one */
 const char *thp_error_name(int error);
@@ -79,8 +77,7 @@ enum thp_kind { /* up to THP_ERROR in the order of tracehost.h */
     THP_ENDED,
     THP_HELD,
     THP_ERROR,
-    THP_REFUSED,
-    THP_NO_REPLY
+    THP_REFUSED
 };
 /* end */
 
@@ -136,7 +133,7 @@ struct thp_asked {
 void thp_explain(th_host *h, const struct thp_step *step, int error, int has_rows, char *text, size_t size);
 /* Keeps for th_explain that the calling thread's step was refused by an errno; 0 for a call that the model didn't refuse. */
 void thp_note_refusal(const th_host *h, const struct thp_step *step, int error);
-/* The place of the first of so many conditions that holds by the rows of a session in the process; -1 if none is known to. */
+/* The place of the first of so many conditions that holds by the user's rows; -1 if none is known to. */
 int thp_first_that_holds(th_host *h, const struct thp_asked *asked, const enum thp_condition *conditions, size_t count);
 
 /* ---- the session: session.c */
@@ -161,39 +158,17 @@ struct thp_wait {
     int due; /* it is to be asked again */
 };
 
-/* how the steps of a session are answered: pipe.c and in_process.c */
-struct thp_transport {
-    /* Makes a step, and stores its reply; if it is recorded or refused, the lines of both too. -1 with errno. */
-    int (*make)(th_host *h, const struct thp_step *step, struct thp_reply *reply);
-    /* Sends the line in `step`, and stores the line of its answer in `answer`; -1 with errno. */
-    int (*exchange)(th_host *h);
-    /* Stores why the last step was refused, at most size - 1 bytes and a NUL. NULL if that isn't known. */
-    void (*read_reason)(th_host *h, char *reason, size_t size);
-    /* thp_first_that_holds; NULL if rows aren't known */
-    int (*first_that_holds)(th_host *h, const struct thp_asked *asked, const enum thp_condition *conditions, size_t count);
-    /* Nothing more is exchanged. May be NULL. */
-    void (*stop)(th_host *h);
-    /* Ends the session, also one that has stopped; the program's status. */
-    int (*end)(th_host *h);
-    /* whether a forked child has the session of its parent, and no copy of its own */
-    int is_shared;
-};
-
 struct th_host {
-    const struct thp_transport *transport;
     pthread_mutex_t lock; /* a call holds it from the beginning of its step to the end of its answer */
     pthread_cond_t changed; /* a wait blocks, is due, or is over */
     struct thp_wait *waits; /* in the order in which they began to block */
     unsigned long session; /* its number in this program, from 1 */
-    int broken; /* nothing more is exchanged */
-    int socket; /* -1 once it is closed */
-    int reasons; /* the program's standard error */
-    struct thp_text errors; /* what was read of it, and nobody has had */
-    pid_t program;
+    int broken; /* no more steps are made */
     pid_t owner; /* the process that opened the session */
-    void *library; /* a session in the process */
-    struct thp_text step; /* the line that is sent */
-    struct thp_text answer; /* the line that was received, with a NUL in place of its line feed */
+    tracehost library;
+    size_t asked; /* how many steps were asked for */
+    struct thp_text step; /* the line of a step, if it is needed */
+    struct thp_text answer; /* that of its answer, with a NUL in place of its line feed */
     int kills; /* the setting of kern.kill_on_debugger_exit */
     int answered; /* a step was answered */
     unsigned long changes; /* steps that may have changed rows */
@@ -206,24 +181,22 @@ struct th_host {
     struct thp_test *test; /* NULL for none */
 };
 
-/* A session that is not connected yet, and its end; NULL with errno. */
-th_host *thp_new(const struct thp_transport *transport, const struct th_settings *settings);
-void thp_free(th_host *h);
 void thp_add_bytes(struct thp_text *text, const char *bytes, size_t length);
 /* at least `more` bytes of room; -1 if memory ran out */
 int thp_room_for(struct thp_text *text, size_t more);
-/* No more is sent or received: the next calls answer EPIPE. */
+/* No more steps are made: the next calls answer EPIPE. */
 void thp_break_off(th_host *h);
-/* -1 with EPROTO: what was received is no reply */
-int thp_no_reply(th_host *h);
 /* whether the session was opened before a fork, by another process */
 int thp_is_inherited(const th_host *h);
-/* whether it is that process's, so that no call can be made */
-int thp_is_foreign(const th_host *h);
-/* Makes a step by its line. */
-int thp_make_by_line(th_host *h, const struct thp_step *step, struct thp_reply *reply);
-/* Makes a step, and returns 0 if its reply is of one of these kinds, each a bit; else -1 with errno. */
-int thp_ask(th_host *h, const struct thp_step *step, unsigned kinds, struct thp_reply *reply);
+/* Makes a step. 0 if it is answered, neither by an errno, nor `held`, nor as refused; a line always; else -1 with errno. */
+int thp_ask(th_host *h, const struct thp_step *step, struct thp_reply *reply);
+
+/* ---- how the library makes a step: library.c */
+
+/* Makes a step, and stores its reply; if it is recorded or refused, the lines of both too. -1 with errno. */
+int thp_make(th_host *h, const struct thp_step *step, struct thp_reply *reply);
+/* Stores why the last line was refused, at most size - 1 bytes and a NUL. */
+void thp_read_reason(const th_host *h, char *reason, size_t size);
 
 /* ---- the record: record.c */
 
@@ -244,6 +217,7 @@ enum { THP_PATH = 4096, THP_STEM = 112, THP_PAGE_WORDS = 10 };
 struct thp_artifacts {
     char folder[THP_PATH], scenario[THP_PATH], lines[THP_PATH], page[THP_PATH];
     char scenario_now[THP_PATH], lines_now[THP_PATH]; /* while the test runs */
+    char traces[THP_PATH]; /* the folder $TRACEHOST_TRACES, or "" */
     char stem[THP_STEM]; /* how the names begin */
     int nth; /* of the tests with this stem that have names; 0 for none */
     int is_own_folder; /* of this test only */
@@ -268,6 +242,8 @@ extern struct thp_test *volatile thp_tests;
 int thp_open_artifacts(struct thp_artifacts *a, const char *test, int *scenario, int *lines);
 /* The test has failed, and the files get their last names; -1 with errno. A signal's handler may call it. */
 int thp_keep_artifacts(const struct thp_artifacts *a, int in_handler);
+/* Copies the scenario, an open file, to the folder $TRACEHOST_TRACES, if it is set. What goes wrong is told. */
+void thp_leave_trace(const struct thp_artifacts *a, int scenario);
 /* The test has ended: the files of one that has passed go, and those that an earlier run of it has left. */
 void thp_end_artifacts(const struct thp_artifacts *a, int failed);
 /* Handles signals that end the program, from now on. */
@@ -301,13 +277,11 @@ void thp_wake(th_host *h);
  * thp_ask as a call of its own. Unless `timeout` is NULL, it asks until the reply isn't THP_NOTHING; -1 and ETIMEDOUT after so many
  * ms, if they aren't negative.
  */
-int thp_call(th_host *h, const struct thp_step *step, unsigned kinds, struct thp_reply *reply, const int *timeout);
+int thp_call(th_host *h, const struct thp_step *step, struct thp_reply *reply, const int *timeout);
 
-/* ---- a step and a reply as lines: steps.c */
+/* ---- a step as a line: steps.c */
 
 /* the line of a step, with its line feed; -1 with ENOMEM */
 int thp_write_step(th_host *h, const struct thp_step *step);
-/* Reads the answer to a step. */
-void thp_read_reply(const th_host *h, const struct thp_step *step, struct thp_reply *reply);
 
 #endif

@@ -134,11 +134,9 @@ const char *th_strerror(int error)
     case TH_EHELD: return "The caller or the LWP doesn't run, and the step isn't made";
     case TH_EREFUSED: return "Refused: what was sent is no step";
     case TH_ERECORD: return "The step can't be recorded, and the session has ended";
-    case TH_EFORKED: return "The session is that of the parent, which opened it before a fork";
     case EFAULT: return "Bad address";
     case ETIMEDOUT: return "Operation timed out";
-    case EPIPE: return "The program has ended";
-    case EPROTO: return "The program's answer is no reply";
+    case EPIPE: return "The session has ended";
     default: return strerror(error);
     }
 }
@@ -188,19 +186,6 @@ const char *thp_name_of(const struct thp_table *table, int value)
     return NULL;
 }
 
-static int is_name(const char *name, const char *word, size_t length)
-{
-    return strlen(name) == length && memcmp(name, word, length) == 0;
-}
-
-int thp_value_of(const struct thp_table *table, const char *word, size_t length)
-{
-    for (size_t i = 0; i < table->count; i++)
-        if (is_name(table->names[i].name, word, length))
-            return table->names[i].value;
-    return -1;
-}
-
 int thp_all_of(const struct thp_table *table)
 {
     int all = 0;
@@ -223,12 +208,4 @@ const char *thp_error_name(int error)
         if (ERRORS[i].host == error)
             return ERRORS[i].name;
     return NULL;
-}
-
-int thp_errno_of(const char *word, size_t length)
-{
-    for (size_t i = 0; i < COUNT(ERRORS); i++)
-        if (is_name(ERRORS[i].name, word, length))
-            return ERRORS[i].host;
-    return 0;
 }

@@ -261,8 +261,8 @@ void thp_explain(th_host *h, const struct thp_step *step, int error, int has_row
     if (call == NULL || answer == NULL)
         return;
     size_t count = find_possible(call, answer, &a, found);
-    if (count > 1 && has_rows && h->transport->first_that_holds != NULL) {
-        int place = h->transport->first_that_holds(h, &a, found, count);
+    if (count > 1 && has_rows) {
+        int place = thp_first_that_holds(h, &a, found, count);
         if (place >= 0) {
             first = (size_t)place;
             count = first + 1;

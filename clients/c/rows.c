@@ -1,8 +1,7 @@
-/* A user's rows of a session in the process, and the conditions that they decide (format/refusals.toml). */
+/* A user's rows, and the conditions that they decide (format/refusals.toml). */
 #include "internal.h"
 
 #include <stdlib.h>
-#include <tracehost.h>
 
 enum { ZOMBIE = 3, IN_CALL = 1 };
 
@@ -140,13 +139,13 @@ static int read_rows(th_host *h, uint32_t user, struct rows *r)
     tracehost_process first_process;
     tracehost_lwp first_lwp;
     *r = none;
-    if (tracehost_view(h->library, user, &first_process, 0, &first_lwp, 0, &process_count, &lwp_count) != TRACEHOST_ANSWERED)
+    if (tracehost_view(&h->library, user, &first_process, 0, &first_lwp, 0, &process_count, &lwp_count) != TRACEHOST_ANSWERED)
         return -1;
     r->processes = malloc((process_count + 1) * sizeof *r->processes);
     r->lwps = malloc((lwp_count + 1) * sizeof *r->lwps);
     if (r->processes == NULL || r->lwps == NULL)
         return -1;
-    tracehost_view(h->library, user, r->processes, process_count, r->lwps, lwp_count, &r->process_count, &r->lwp_count);
+    tracehost_view(&h->library, user, r->processes, process_count, r->lwps, lwp_count, &r->process_count, &r->lwp_count);
     return 0;
 }
 

@@ -65,17 +65,22 @@ static unsigned long next_session(void)
     return session;
 }
 
-th_host *thp_new(const struct thp_transport *transport, const struct th_settings *settings)
+th_host *th_open(const struct th_settings *settings)
 {
+    static const tracehost closed = TRACEHOST_CLOSED;
     th_host *h = calloc(1, sizeof *h);
     if (h == NULL)
         return NULL;
-    h->transport = transport;
+    h->library = closed;
     h->kills = settings == NULL || settings->kill_on_debugger_exit != 0;
     h->scenario.number = h->lines.number = -1;
     h->session = next_session();
     h->owner = getpid();
     int error = thp_init_threads(h);
+    if (error == 0 && tracehost_open(h->kills, &h->library) != TRACEHOST_ANSWERED) {
+        thp_end_threads(h);
+        error = ENOMEM;
+    }
     if (error == 0)
         return h;
     free(h);
@@ -85,24 +90,8 @@ th_host *thp_new(const struct thp_transport *transport, const struct th_settings
 
 int thp_is_inherited(const th_host *h) { return getpid() != h->owner; }
 
-int thp_is_foreign(const th_host *h) { return h->transport->is_shared && thp_is_inherited(h); }
-
-void thp_free(th_host *h)
-{
-    thp_close_record(h);
-    if (!thp_is_inherited(h)) /* else it would wait for threads that sleep in the parent */
-        thp_end_threads(h);
-    free(h->errors.bytes);
-    free(h->step.bytes);
-    free(h->answer.bytes);
-    free(h->entry.bytes);
-    free(h);
-}
-
 void thp_break_off(th_host *h)
 {
-    if (!h->broken && h->transport->stop != NULL)
-        h->transport->stop(h);
     h->broken = 1;
     thp_wake(h);
 }
@@ -112,25 +101,24 @@ int th_close(th_host *h)
     if (h == NULL)
         return 0;
     thp_end_test(h);
-    int status = h->transport->end(h);
-    thp_free(h);
-    return status;
+    tracehost_close(&h->library);
+    thp_close_record(h);
+    if (!thp_is_inherited(h)) /* else it would wait for threads that sleep in the parent */
+        thp_end_threads(h);
+    free(h->step.bytes);
+    free(h->answer.bytes);
+    free(h->entry.bytes);
+    free(h);
+    return 0;
 }
 
 /* ---------------------------------------------------------------- a step and its answer */
-
-int thp_no_reply(th_host *h)
-{
-    thp_break_off(h);
-    errno = EPROTO;
-    return -1;
-}
 
 /* The reason is kept without its indentation and its line feed, and cut. */
 static void note_reason(th_host *h)
 {
     char bytes[sizeof refusal.reason];
-    h->transport->read_reason(h, bytes, sizeof bytes);
+    thp_read_reason(h, bytes, sizeof bytes);
     size_t length = strlen(bytes);
     while (length > 0 && bytes[length - 1] == '\n')
         length--;
@@ -189,10 +177,10 @@ static int note_answer(th_host *h, const struct thp_step *step, const struct thp
 {
     h->answered = 1;
     thp_note_refusal(h, step, error_of(reply));
-    if (reply->kind == THP_REFUSED)
+    if (reply->kind == THP_REFUSED) {
         note_fault(h);
-    if (reply->kind == THP_REFUSED && h->transport->read_reason != NULL)
         note_reason(h);
+    }
     if (!changes_nothing(reply->kind)) {
         h->changes++;
         thp_wake(h);
@@ -200,30 +188,22 @@ static int note_answer(th_host *h, const struct thp_step *step, const struct thp
     return thp_record(h, reply);
 }
 
-int thp_make_by_line(th_host *h, const struct thp_step *step, struct thp_reply *reply)
+int thp_ask(th_host *h, const struct thp_step *step, struct thp_reply *reply)
 {
-    if (thp_write_step(h, step) != 0 || h->transport->exchange(h) != 0)
-        return -1;
-    thp_read_reply(h, step, reply);
-    return 0;
-}
-
-int thp_ask(th_host *h, const struct thp_step *step, unsigned kinds, struct thp_reply *reply)
-{
-    if (thp_is_foreign(h) || h->broken) {
-        errno = thp_is_foreign(h) ? TH_EFORKED : EPIPE;
+    if (h->broken) {
+        errno = EPIPE;
         return -1;
     }
-    if (h->transport->make(h, step, reply) != 0 || note_answer(h, step, reply) != 0)
+    h->asked++;
+    if (thp_make(h, step, reply) != 0 || note_answer(h, step, reply) != 0)
         return -1;
-    if (kinds >> reply->kind & 1)
+    if (step->op == THP_LINE)
         return 0;
-    switch (reply->kind) {
-    case THP_REFUSED: errno = TH_EREFUSED; return -1;
-    case THP_HELD:
-    case THP_ERROR: errno = error_of(reply); return -1;
-    default: return thp_no_reply(h);
-    }
+    int error = reply->kind == THP_REFUSED ? TH_EREFUSED : error_of(reply);
+    if (error == 0)
+        return 0;
+    errno = error;
+    return -1;
 }
 
 /* ---------------------------------------------------------------- a line of the caller's */
@@ -249,7 +229,7 @@ ssize_t th_step_text(th_host *h, const char *line, char *answer, size_t size)
     struct thp_step step = {.op = THP_LINE, .line = line};
     struct thp_reply reply;
     thp_enter(h);
-    ssize_t length = thp_ask(h, &step, ~0u, &reply) == 0 ? copy_answer(h, answer, size) : -1;
+    ssize_t length = thp_ask(h, &step, &reply) == 0 ? copy_answer(h, answer, size) : -1;
     thp_leave(h);
     return length;
 }

@@ -37,11 +37,8 @@ static struct thp_wait *first_due(const th_host *h)
     return wait;
 }
 
-/* In a forked child a lock may be held by a thread that isn't there. A call there is refused without it. */
 void thp_enter(th_host *h)
 {
-    if (thp_is_foreign(h))
-        return;
     pthread_mutex_lock(&h->lock);
     while (first_due(h) != NULL)
         pthread_cond_wait(&h->changed, &h->lock);
@@ -50,8 +47,7 @@ void thp_enter(th_host *h)
 void thp_leave(th_host *h)
 {
     int error = errno;
-    if (!thp_is_foreign(h))
-        pthread_mutex_unlock(&h->lock);
+    pthread_mutex_unlock(&h->lock);
     errno = error;
 }
 
@@ -106,8 +102,7 @@ static void remove_wait(th_host *h, struct thp_wait *wait)
 }
 
 /* A wait whose first answer was that there is nothing to collect. */
-static int ask_again(
-    th_host *h, const struct thp_step *step, unsigned kinds, struct thp_reply *reply, const struct timespec *deadline)
+static int ask_again(th_host *h, const struct thp_step *step, struct thp_reply *reply, const struct timespec *deadline)
 {
     struct thp_wait wait = {NULL, 0}, **last = &h->waits;
     int result = 0;
@@ -115,23 +110,23 @@ static int ask_again(
         last = &(*last)->next;
     *last = &wait;
     while (result == 0 && reply->kind == THP_NOTHING)
-        result = sleep_until_due(h, &wait, deadline) == 0 ? thp_ask(h, step, kinds, reply) : -1;
+        result = sleep_until_due(h, &wait, deadline) == 0 ? thp_ask(h, step, reply) : -1;
     int error = errno;
     remove_wait(h, &wait);
     errno = error;
     return result;
 }
 
-int thp_call(th_host *h, const struct thp_step *step, unsigned kinds, struct thp_reply *reply, const int *timeout)
+int thp_call(th_host *h, const struct thp_step *step, struct thp_reply *reply, const int *timeout)
 {
     int is_timed = timeout != NULL && *timeout >= 0;
     struct timespec deadline = {0, 0};
     if (is_timed)
         deadline = deadline_in(*timeout);
     thp_enter(h);
-    int result = thp_ask(h, step, kinds, reply);
+    int result = thp_ask(h, step, reply);
     if (result == 0 && timeout != NULL && reply->kind == THP_NOTHING)
-        result = ask_again(h, step, kinds, reply, is_timed ? &deadline : NULL);
+        result = ask_again(h, step, reply, is_timed ? &deadline : NULL);
     thp_leave(h);
     return result;
 }
@@ -149,10 +144,6 @@ int th_until_blocked(th_host *h, size_t count, int timeout)
 {
     struct timespec deadline = deadline_in(timeout < 0 ? 0 : timeout);
     int error = 0;
-    if (thp_is_foreign(h)) {
-        errno = TH_EFORKED;
-        return -1;
-    }
     pthread_mutex_lock(&h->lock);
     while (error == 0 && !are_blocked(h, count))
         if (sleep_until(h, timeout < 0 ? NULL : &deadline) == ETIMEDOUT && !are_blocked(h, count))

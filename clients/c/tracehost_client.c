@@ -8,10 +8,7 @@
 #include "crashes.c"
 #include "failing.c"
 #include "refusals.c"
-#include "session.c"
-#include "pipe.c"
-#ifdef TRACEHOST_IN_PROCESS
 #include "rows.c"
-#include "in_process.c"
-#endif
+#include "library.c"
+#include "session.c"
 #include "calls.c"

@@ -1,8 +1,7 @@
 /*
- * A client of the model of FreeBSD's ptrace(2), wait(2), sigaction(2) and kill(2). `tracehost --lines` answers its calls, or
- * the library libtracehost in the process (th_open).
+ * A client of the model of FreeBSD's ptrace(2), wait(2), sigaction(2) and kill(2): the library libtracehost answers its calls.
  *
- *     th_host *h = th_start("./tracehost", NULL);
+ *     th_host *h = th_open(NULL);
  *     th_pid debugger, target;
  *     int status;
  *     th_spawn(h, 1001, &debugger, NULL);
@@ -21,10 +20,7 @@
  *   - TH_EREFUSED: what was sent is no step (a user outside 1001 to 1064, a 17th rule). th_fault names the fault, th_reason
  *     has its reason.
  *   - TH_ERECORD: the step was made, and can't be recorded (th_record). The session has ended.
- *   - TH_EFORKED: the process is a child of the one that opened the session over a pipe, which is the parent's.
- *   - EPIPE: the program has ended, or broke off its answer. No SIGPIPE is raised: the program's standard input and output
- *     are a socket, which is written by send(2) with MSG_NOSIGNAL.
- *   - EPROTO: the program's line isn't one that docs/FORMAT.md describes; the next call answers EPIPE.
+ *   - EPIPE: the session has ended: a step couldn't be recorded, or there was no memory for its line.
  *   - ETIMEDOUT: a wait was blocked for longer than its timeout.
  *
  * th_strerror has words for all of these; perror(3) and strerror(3) have wrong ones for those that begin with TH_.
@@ -35,8 +31,7 @@
  * Several threads may use a session: every call may be made while other threads are in calls, but th_close, which is the
  * last one. Steps are made one after another, each under the session's lock. Compile with -pthread.
  *
- * After fork(2) a session over a pipe is the parent's: each call of the child is refused, and its th_close frees the memory
- * only. A session in the process (th_open) is copied: fork while no thread is in a call of it. The child's steps aren't
+ * After fork(2) the child has a copy of the session: fork while no thread is in a call of it. The child's steps aren't
  * recorded.
  */
 #ifndef TRACEHOST_CLIENT_H
@@ -196,7 +191,6 @@ int th_freebsd_errno(int error);
 #define TH_EHELD EINPROGRESS
 #define TH_EREFUSED EBADMSG
 #define TH_ERECORD ENOTRECOVERABLE
-#define TH_EFORKED ESTALE
 
 /* The words for an errno that a call has set: FreeBSD's for the model's, strerror(3)'s for one that is none of the client's. */
 const char *th_strerror(int error);
@@ -210,27 +204,18 @@ struct th_settings {
 };
 
 /*
- * Starts the program, looked up on PATH if its name has no slash, with a new host. `settings` may be NULL:
- * then the end of a debugger kills the processes that it traces. NULL and errno if it can't be started.
- */
-th_host *th_start(const char *program, const struct th_settings *settings);
-
-/*
- * The same without a program: the library answers. It makes no process, and has no standard error, so that th_reason is "".
- * NULL and ENOMEM if memory runs out. Compile with -DTRACEHOST_IN_PROCESS, and link with -ltracehost.
+ * Opens a session with a new host. `settings` may be NULL: then the end of a debugger kills the processes that it traces. NULL
+ * and ENOMEM if memory runs out.
  */
 th_host *th_open(const struct th_settings *settings);
 
-/*
- * Ends the session, frees it, and returns the program's status as waitpid(2) of the host system gives it. For NULL it does nothing.
- * A program that doesn't end within five seconds is killed. What it has written on standard error by then, except reasons, is
- * written there. 0 after th_open.
- */
+/* Ends the session, frees it, and returns 0. For NULL it does nothing else. */
 int th_close(th_host *h);
 
 /*
- * Why the calling thread's last step was refused: the fault as docs/FORMAT.md names it, "BadUser" as an example, and the line
- * of --explain, "line 3, user: 1065 is out of range; ..". Both are "" if it wasn't, and stay until the thread's next call.
+ * Why the calling thread's last step was refused: the fault as docs/FORMAT.md names it, "BadUser" as an example, and the words of
+ * --explain, "line 3, user: 1065 is out of range; .." for the session's third step. Both are "" if it wasn't, and stay until the
+ * thread's next call.
  */
 const char *th_fault(const th_host *h);
 const char *th_reason(const th_host *h);
@@ -242,8 +227,8 @@ const char *th_reason(const th_host *h);
  *     ptrace(PT_CONTINUE, 1001) by 1000: EBUSY, no wait has reported the stop of 1001
  *
  * and by TH_EREFUSED th_reason. "" if the call was answered, or if what refused it isn't the model. The rows that decide are looked
- * at now: after another thread's step that may have changed them, and over a pipe, each condition that is possible is named. The text
- * stays until the thread's next call.
+ * at now: after another thread's step that may have changed them, each condition that is possible is named. The text stays until
+ * the thread's next call.
  */
 const char *th_explain(th_host *h);
 
@@ -265,8 +250,9 @@ int th_record_error(const th_host *h);
  * scenario with the steps, with .out their lines, and with .html a page ($TRACEHOST names the program that it is made by, else
  * tracehost, and $TRACEHOST_VIEW the viewer, else tracehost-view). They are in the folder that $TRACEHOST_ARTIFACTS names, else in a
  * new one below $TMPDIR, and standard error says where. A further test of the name in this process gets a number. A test that passes
- * leaves nothing, and removes what it left in an earlier run; a forked child does neither. What can't be recorded is told on standard
- * error, and changes neither a call nor the test.
+ * leaves nothing, and removes what it left in an earlier run; a forked child does neither. If $TRACEHOST_TRACES names a folder, a
+ * test that ends leaves a copy of its scenario there, whether it passes or fails, as PROGRAM.NAME-DIGEST.PROCESS.json. What can't be
+ * recorded is told on standard error, and changes neither a call nor the test.
  *
  * A signal that ends the program while the test is open, as by abort(3), assert(3) and Ctrl-C, is a failure too. If the program
  * handles the signal itself, or by SIGKILL, the files keep the names that they have while the test runs, with the process's number

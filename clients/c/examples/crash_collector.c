@@ -1,9 +1,8 @@
 /*
  * A crash collector: traces workers, leaves each at the signal that crashes it, writes a report of its LWPs, and lets it end.
  *
- *     cc -o crash_collector crash_collector.c $(pkg-config --cflags tracehost-client) \
- *       $(pkg-config --variable=source tracehost-client)
- *     ./crash_collector /path/to/tracehost
+ *     cc -o crash_collector crash_collector.c $(pkg-config --variable=source tracehost-client) $(pkg-config --cflags --libs tracehost-client)
+ *     ./crash_collector
  *
  * `main` has what the workers do. clients/python/examples/crash_collector.py is the same in Python, and prints the same.
  */
@@ -129,12 +128,12 @@ static void then(struct collector *c, int result)
     collect(c);
 }
 
-int main(int argc, char **argv)
+int main(void)
 {
     struct collector c = {.self = {USER, 0}};
     th_pid pids[WORKERS];
     th_lwpid lwps[WORKERS];
-    th_host *h = c.host = th_start(argc > 1 ? argv[1] : "tracehost", NULL);
+    th_host *h = c.host = th_open(NULL);
     if (h == NULL)
         fail("tracehost");
     if (th_spawn(h, USER, &c.self.pid, NULL) != 0)

@@ -2,9 +2,8 @@
  * A small debugger: attaches to a shell, follows its forks, prints system calls and signals, and detaches when a child of the
  * shell has ended.
  *
- *     cc -o debugger debugger.c $(pkg-config --cflags tracehost-client) \
- *       $(pkg-config --variable=source tracehost-client)
- *     ./debugger /path/to/tracehost
+ *     cc -o debugger debugger.c $(pkg-config --variable=source tracehost-client) $(pkg-config --cflags --libs tracehost-client)
+ *     ./debugger
  *
  * `main` has what the traced processes do. clients/python/examples/debugger.py is the same in Python, and prints the
  * same.
@@ -174,12 +173,12 @@ static void run(struct debugger *d, th_lwpid lwp, const struct act *acts, size_t
 #define RUN(d, lwp, ...) \
     run(d, lwp, (const struct act[]){__VA_ARGS__}, sizeof((const struct act[]){__VA_ARGS__}) / sizeof(struct act))
 
-int main(int argc, char **argv)
+int main(void)
 {
     struct debugger d = {.self = {USER, 0}};
     th_pid shell;
     th_lwpid lwp;
-    d.host = th_start(argc > 1 ? argv[1] : "tracehost", NULL);
+    d.host = th_open(NULL);
     if (d.host == NULL)
         fail("tracehost");
     if (th_spawn(d.host, USER, &d.self.pid, NULL) != 0 || th_spawn(d.host, USER, &shell, &lwp) != 0)

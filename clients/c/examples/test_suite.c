@@ -2,9 +2,8 @@
  * Tests of a small debugger, as a test suite of one's own has them: the debugger runs in a thread and blocks in its wait; the
  * test is the world, and makes the turns of the traced process.
  *
- *     cc -o test_suite test_suite.c $(pkg-config --cflags tracehost-client) \
- *       $(pkg-config --variable=source tracehost-client)
- *     ./test_suite [PROGRAM [FOLDER]]
+ *     cc -o test_suite test_suite.c $(pkg-config --variable=source tracehost-client) $(pkg-config --cflags --libs tracehost-client)
+ *     ./test_suite [FOLDER]
  *
  * A test that fails leaves its session in the folder (th_test_begin). With PLANT=coalesce in the environment the debugger has
  * a fault: it reports a signal that comes twice once.
@@ -234,14 +233,14 @@ static void compare(struct world *w, const struct test *test)
     th_test_fail(w->host, __FILE__, __LINE__, message);
 }
 
-static int run_test(const struct test *test, const char *program)
+static int run_test(const struct test *test)
 {
     const char *plant = getenv("PLANT");
     struct world w = {.debugger = {.self = {USER, 0}, .events = test->events}};
     struct debugger *d = &w.debugger;
-    d->host = w.host = th_start(program, NULL);
+    d->host = w.host = th_open(NULL);
     if (w.host == NULL || th_test_begin(w.host, test->name) != 0) {
-        fprintf(stderr, "%s: %s\n", program, th_strerror(errno));
+        fprintf(stderr, "%s: %s\n", test->name, th_strerror(errno));
         exit(2);
     }
     d->coalesces = plant != NULL && strcmp(plant, "coalesce") == 0;
@@ -260,12 +259,10 @@ static int run_test(const struct test *test, const char *program)
 
 int main(int argc, char **argv)
 {
-    const char *program = argc > 1 ? argv[1] : "tracehost", *folder = argc > 2 ? argv[2] : ".";
     int failed = 0;
-    setenv("TRACEHOST_ARTIFACTS", folder, 1);
-    setenv("TRACEHOST", program, 0);
+    setenv("TRACEHOST_ARTIFACTS", argc > 1 ? argv[1] : ".", 1);
     for (size_t i = 0; i < sizeof TESTS / sizeof TESTS[0]; i++)
-        failed += run_test(&TESTS[i], program);
+        failed += run_test(&TESTS[i]);
     printf("%d failed\n", failed);
     return failed > 0;
 }

@@ -1,13 +1,13 @@
 /*
  * Tests that fail, or pass, in the ways that their names say. tests/python/test_failed_tests.py looks at what they leave.
  *
- *     failing PROGRAM CASE [NAME]
+ *     failing CASE [NAME]
  *
  * Its status is 1 if a test failed, and 0 if all passed.
  */
 #define _POSIX_C_SOURCE 200809L
 
-#include "session.h"
+#include "../tracehost_client.h"
 
 #include <assert.h>
 #include <pthread.h>
@@ -22,11 +22,9 @@
 
 enum { USER = 1001, THREADS = 8 };
 
-static const char *program;
-
 static th_host *begin(const char *name)
 {
-    th_host *h = start_session(program, NULL);
+    th_host *h = th_open(NULL);
     if (h == NULL || th_test_begin(h, name) != 0)
         abort();
     return h;
@@ -219,7 +217,7 @@ static int no_step(const char *name)
 /* What begins too late, or ends without a beginning. */
 static int misuse(const char *name)
 {
-    th_host *h = start_session(program, NULL);
+    th_host *h = th_open(NULL);
     int is_wrong = th_test_end(h, 1) != 0 || th_test_end(h, 0) != 1;
     th_spawn(h, USER, NULL, NULL);
     errno = 0;
@@ -256,9 +254,8 @@ int main(int argc, char **argv)
         {"forks_and_aborts", forks_and_aborts}, {"aborts", aborts}, {"aborts_elsewhere", aborts_elsewhere},
         {"handles_abort", handles_abort}, {"is_signalled", is_signalled}, {"one", one}, {"many", many}, {"closes", closes},
         {"closes_files", closes_files}, {"no_step", no_step}, {"misuse", misuse}};
-    program = argc > 2 ? argv[1] : "";
-    for (size_t i = 0; argc > 2 && i < sizeof cases / sizeof cases[0]; i++)
-        if (strcmp(cases[i].name, argv[2]) == 0)
-            return cases[i].run(argc > 3 ? argv[3] : argv[2]);
+    for (size_t i = 0; argc > 1 && i < sizeof cases / sizeof cases[0]; i++)
+        if (strcmp(cases[i].name, argv[1]) == 0)
+            return cases[i].run(argc > 2 ? argv[2] : argv[1]);
     return 2;
 }

@@ -1,7 +1,7 @@
 /*
  * Makes the steps that its standard input names, one a line, and prints the line of each answer.
  *
- *     replay PROGRAM 0|1 [explain] < STEPS
+ *     replay 0|1 [explain] < STEPS
  *
  * The number is the setting of kern.kill_on_debugger_exit. A line that begins with `{` is sent as it is; every other line has
  * the words that words.py writes, and is made by a typed call, whose result is written as the program would write it. With
@@ -9,7 +9,7 @@
  */
 #define _POSIX_C_SOURCE 200809L
 
-#include "session.h"
+#include "../tracehost_client.h"
 
 #include <stdio.h>
 #include <stdlib.h>
@@ -280,17 +280,17 @@ static int text_step(th_host *h, const char *line)
 
 int main(int argc, char **argv)
 {
-    if (argc != 3 && (argc != 4 || strcmp(argv[3], "explain") != 0)) {
-        fprintf(stderr, "usage: replay PROGRAM 0|1 [explain] < STEPS\n");
+    if (argc != 2 && (argc != 3 || strcmp(argv[2], "explain") != 0)) {
+        fprintf(stderr, "usage: replay 0|1 [explain] < STEPS\n");
         return 2;
     }
-    struct th_settings settings = {atoi(argv[2])};
-    th_host *h = start_session(argv[1], &settings);
+    struct th_settings settings = {atoi(argv[1])};
+    th_host *h = th_open(&settings);
     if (h == NULL) {
-        perror(argv[1]);
+        perror("replay");
         return 1;
     }
-    explained = argc == 4 ? h : NULL;
+    explained = argc == 3 ? h : NULL;
     char *line = NULL;
     size_t size = 0;
     ssize_t length;

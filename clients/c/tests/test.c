@@ -1,18 +1,15 @@
 /*
- * What the replay of scenarios doesn't reach: sizes and addresses, refused steps, status macros, signals that interrupt a call,
- * and programs that end or answer what is no reply.
+ * What the replay of scenarios doesn't reach: sizes and addresses, refused steps, status macros, and signals that interrupt a
+ * call.
  *
- *     test PROGRAM FAKE FOLDER MILLISECONDS [emulated]
+ *     test PROGRAM FOLDER MILLISECONDS
  *
- * FAKE is a program that answers each line as the environment's FAKE says: with that line, or by ending if it is empty. The
- * folder is for files. Signals interrupt calls each so many milliseconds. With `emulated` nothing is expected of a
- * program that isn't there: in valgrind posix_spawn(3) starts it all the same. Compiled with -DTRACEHOST_IN_PROCESS, the
- * sessions with PROGRAM are in the process (session.h).
+ * PROGRAM replays records, which are in the folder. Signals interrupt calls each so many milliseconds.
  */
 #define _POSIX_C_SOURCE 200809L
 
 #include "check.h"
-#include "session.h"
+#include "../tracehost_client.h"
 
 #include <signal.h>
 #include <stdio.h>
@@ -24,9 +21,9 @@
 
 static const th_caller self = {1001, 1000};
 
-static th_host *begin(const char *program)
+static th_host *begin(void)
 {
-    th_host *h = start_session(program, NULL);
+    th_host *h = th_open(NULL);
     th_pid pid = 0;
     th_lwpid lwp = 0;
     CHECK(th_spawn(h, 1001, &pid, &lwp) == 0 && pid == 1000 && lwp == 100000);
@@ -35,9 +32,9 @@ static th_host *begin(const char *program)
 }
 
 /* values that are none of their enums, which no step can have: EINVAL, and nothing is sent */
-static void no_names(const char *program)
+static void no_names(void)
 {
-    th_host *h = begin(program);
+    th_host *h = begin();
     const struct th_rule rules[] = {{0, 0, (enum th_decision)9, 0}, {0, 0x10000, TH_LEAVE, 0}};
     char line[64];
     REFUSED(EINVAL, th_sigaction(h, self, TH_SIGTERM, (enum th_action)7));
@@ -52,9 +49,9 @@ static void no_names(const char *program)
 }
 
 /* ptrace(2): sizes in `data`, an unknown request, unknown event bits, a list that is longer than its room */
-static void arguments(const char *program)
+static void arguments(void)
 {
-    th_host *h = begin(program);
+    th_host *h = begin();
     struct th_lwpinfo info = {0};
     th_lwpid lwps[4] = {7, 7, 7, 7};
     int mask = 0;
@@ -146,10 +143,9 @@ static void words(void)
     CHECK(strcmp(th_strerror(EAGAIN), "Resource temporarily unavailable") == 0);
     CHECK(strcmp(th_strerror(TH_EHELD), "The caller or the LWP doesn't run, and the step isn't made") == 0);
     CHECK(strcmp(th_strerror(TH_EREFUSED), "Refused: what was sent is no step") == 0);
-    CHECK(strcmp(th_strerror(EPIPE), "The program has ended") == 0);
+    CHECK(strcmp(th_strerror(EPIPE), "The session has ended") == 0);
     CHECK(strcmp(th_strerror(EFAULT), "Bad address") == 0);
     CHECK(strcmp(th_strerror(ETIMEDOUT), "Operation timed out") == 0);
-    CHECK(strcmp(th_strerror(EPROTO), "The program's answer is no reply") == 0);
     CHECK(strcmp(th_strerror(ENOENT), strerror(ENOENT)) == 0);
     CHECK(strcmp(th_strerror(ENOENT), strerror(ENOENT)) == 0);
 }
@@ -188,7 +184,7 @@ static void recorded(const char *program, const char *folder)
     snprintf(command, sizeof command, "'%s' '%s' --expect '%s'", program, scenario, lines);
     for (int kills = 0; kills <= 1; kills++) {
         struct th_settings asked = {kills};
-        th_host *h = start_session(program, &asked);
+        th_host *h = th_open(&asked);
         REFUSED(ENOENT, th_record(h, "/nowhere/record.json", lines));
         REFUSED(ENOENT, th_record(h, scenario, "/nowhere/record.out"));
         CHECK(th_record(h, scenario, lines) == 0);
@@ -203,58 +199,25 @@ static void recorded(const char *program, const char *folder)
         CHECK(th_close(h) == 0);
         CHECK(system(command) == 0);
     }
-    th_host *h = begin(program);
+    th_host *h = begin();
     REFUSED(EBUSY, th_record(h, scenario, lines));
     CHECK(th_close(h) == 0);
-    h = start_session(program, NULL);
+    h = th_open(NULL);
     CHECK(th_record(h, "/dev/full", NULL) == -1 && errno != 0 && th_spawn(h, 1001, NULL, NULL) == 0);
     CHECK(th_close(h) == 0);
 }
 
-/* what the program writes on standard error, th_close writes there too */
-static void standard_error(const char *fake, const char *folder)
-{
-    char path[1024];
-    snprintf(path, sizeof path, "%s/errors", folder);
-    setenv("FAKE", "1001 1 new 1000 100000", 1);
-    setenv("FAKE_ERROR", "tracehost: cannot write", 1);
-    th_host *h = th_start(fake, NULL);
-    unsetenv("FAKE_ERROR");
-    CHECK(th_spawn(h, 1001, NULL, NULL) == 0);
-    int kept = dup(STDERR_FILENO);
-    CHECK(freopen(path, "w", stderr) != NULL);
-    CHECK(th_close(h) == 0);
-    fflush(stderr);
-    dup2(kept, STDERR_FILENO);
-    close(kept);
-    has(path, "tracehost: cannot write\n");
-
-    /* a reason that is too long is cut, and isn't part of the next one */
-    char reason[3001];
-    memset(reason, 'r', 3000);
-    reason[3000] = '\0';
-    setenv("FAKE", "refused BadName", 1);
-    setenv("FAKE_ERROR", reason, 1);
-    h = th_start(fake, NULL);
-    unsetenv("FAKE_ERROR");
-    REFUSED(TH_EREFUSED, th_spawn(h, 1001, NULL, NULL));
-    CHECK(strlen(th_reason(h)) == 1023 && strncmp(th_reason(h), reason, 1023) == 0);
-    REFUSED(TH_EREFUSED, th_spawn(h, 1001, NULL, NULL));
-    CHECK(strcmp(th_fault(h), "BadName") == 0 && th_reason(h)[0] == '\0');
-    CHECK(th_close(h) == 0);
-}
-
 /* what is no step: its fault, and the session goes on */
-static void refused_steps(const char *program)
+static void refused_steps(void)
 {
-    th_host *h = begin(program);
+    th_host *h = begin();
     struct th_rule rules[17] = {{0}};
     char answer[64];
     CHECK(th_fault(h)[0] == '\0' && th_reason(h)[0] == '\0');
     REFUSED(TH_EREFUSED, th_spawn(h, 1065, NULL, NULL));
     CHECK(strcmp(th_fault(h), "BadUser") == 0);
     const char *reason = "line 3, user: 1065 is out of range; expected a whole number from 1001 to 1064";
-    CHECK(strcmp(th_reason(h), IN_PROCESS ? "" : reason) == 0);
+    CHECK(strcmp(th_reason(h), reason) == 0);
     REFUSED(TH_EREFUSED, th_install(h, self, rules, 17));
     CHECK(strcmp(th_fault(h), "TooManyRules") == 0);
     rules[0].signal = 32;
@@ -270,13 +233,13 @@ static void refused_steps(const char *program)
 }
 
 /* the setting of kern.kill_on_debugger_exit: the tracee of a debugger that is killed */
-static void settings(const char *program)
+static void settings(void)
 {
     for (int kills = 0; kills <= 1; kills++) {
         th_pid pids[4];
         struct th_settings asked = {kills};
         struct th_turned turned;
-        th_host *h = start_session(program, &asked);
+        th_host *h = th_open(&asked);
         for (int i = 0; i < 3; i++)
             CHECK(th_spawn(h, 1001, NULL, NULL) == 0);
         CHECK(th_ptrace(h, self, TH_PT_ATTACH, 1001, NULL, 0) == 0);
@@ -295,11 +258,11 @@ static void alarmed(int sig)
 }
 
 /* a signal at each of these times, without SA_RESTART: every call still answers, and a line of 8 MB is sent whole */
-static void interrupted(const char *program, int milliseconds)
+static void interrupted(int milliseconds)
 {
     struct sigaction action = {0};
     struct itimerval each = {{0, milliseconds * 1000}, {0, milliseconds * 1000}}, none = {{0, 0}, {0, 0}};
-    th_host *h = begin(program);
+    th_host *h = begin();
     action.sa_handler = alarmed;
     sigaction(SIGALRM, &action, NULL);
     setitimer(ITIMER_REAL, &each, NULL);
@@ -322,79 +285,20 @@ static void interrupted(const char *program, int milliseconds)
     CHECK(alarms > 0 && status == 0);
 }
 
-/* a program that ends is EPIPE, and no SIGPIPE; a line that is no reply is EPROTO, and EPIPE from then on */
-static void broken(const char *fake)
-{
-    static const struct {
-        const char *answer;
-        int error, then;
-    } rows[] = {
-        {"", EPIPE, EPIPE},
-        {"1001", EPROTO, EPIPE},
-        {"1001 1", EPROTO, EPIPE},
-        {"1002 1 new 1000 100000", EPROTO, EPIPE},
-        {"1001 1 new 1000", EPROTO, EPIPE},
-        {"1001 1 new 1000 99999999999", EPROTO, EPIPE},
-        {"1001 1 new 1000 4294967297", EPROTO, EPIPE},
-        {"1001 1 new 1000 100000\n1001 2 ok", EPROTO, EPIPE},
-        {"1001 1 new 1000 x", EPROTO, EPIPE},
-        {"1001 1 ok", EPROTO, EPIPE},
-        {"1001 1 error EFLY 99", EPROTO, EPIPE},
-        {"1001 1 error ENOMEM 12", ENOMEM, ENOMEM},
-        {"1001 1 error EAGAIN 35", EAGAIN, EAGAIN},
-        {"1001 1 held", TH_EHELD, TH_EHELD},
-        {"refused BadName op: \"spwan\" is no op", TH_EREFUSED, TH_EREFUSED},
-    };
-    for (size_t i = 0; i < sizeof rows / sizeof rows[0]; i++) {
-        setenv("FAKE", rows[i].answer, 1);
-        th_host *h = th_start(fake, NULL);
-        errno = 0;
-        if (th_spawn(h, 1001, NULL, NULL) != -1 || errno != rows[i].error) {
-            printf("FAILED: the answer '%s' gives errno %d\n", rows[i].answer, errno);
-            failed = 1;
-        }
-        REFUSED(rows[i].then, th_spawn(h, 1001, NULL, NULL));
-        int status = th_close(h);
-        CHECK(WIFEXITED(status) && WEXITSTATUS(status) == (rows[i].answer[0] == '\0' ? 4 : 0));
-    }
-}
-
-/* a program that has ended before anything is sent, and one that answers with a reply to another call */
-static void gone(const char *fake)
-{
-    setenv("FAKE", "gone", 1);
-    siginfo_t ended;
-    th_host *h = th_start(fake, NULL);
-    while (waitid(P_ALL, 0, &ended, WEXITED | WNOWAIT) != 0 && errno == EINTR)
-        continue;
-    REFUSED(EPIPE, th_spawn(h, 1001, NULL, NULL));
-    th_close(h);
-    setenv("FAKE", "1001 1 lwps", 1);
-    h = th_start(fake, NULL);
-    struct th_lwpinfo info;
-    REFUSED(EPROTO, th_ptrace(h, self, TH_PT_LWPINFO, 1001, &info, (int)sizeof info));
-    th_close(h);
-}
-
 int main(int argc, char **argv)
 {
-    if (argc < 5)
+    if (argc != 4)
         return 2;
-    arguments(argv[1]);
+    arguments();
     statuses();
     signals();
     words();
     flags();
-    refused_steps(argv[1]);
-    no_names(argv[1]);
-    recorded(argv[1], argv[3]);
-    standard_error(argv[2], argv[3]);
-    settings(argv[1]);
-    interrupted(argv[1], atoi(argv[4]));
-    broken(argv[2]);
-    gone(argv[2]);
-    if (argc == 5)
-        CHECK(th_start("/nowhere/tracehost", NULL) == NULL && errno == ENOENT);
+    refused_steps();
+    no_names();
+    recorded(argv[1], argv[2]);
+    settings();
+    interrupted(atoi(argv[3]));
     if (!failed)
         printf("the tests of the client in C passed\n");
     return failed;

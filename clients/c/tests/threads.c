@@ -1,19 +1,19 @@
 /*
  * Sessions of several threads, and waits that block: which steps are made, in which order, and how often.
  *
- *     threads PROGRAM FAKE FOLDER RUNS
+ *     threads FOLDER RUNS
  *
- * FAKE is a program that answers each line with the environment's FAKE. Records are left in the folder.
- * Sessions whose steps are to be the same in every run are made RUNS times.
+ * Records are left in the folder. Sessions whose steps are to be the same in every run are made RUNS times.
  */
 #define _POSIX_C_SOURCE 200809L
 
-#include "session.h"
+#include "../tracehost_client.h"
 
 #include <pthread.h>
 #include <stdio.h>
 #include <stdlib.h>
 #include <string.h>
+#include <sys/resource.h>
 #include <time.h>
 #include <unistd.h>
 
@@ -83,9 +83,9 @@ static void has_recorded(const char *wanted, int line)
 
 /* ---- one thread: what returns at once, and timeouts */
 
-static void alone(const char *program)
+static void alone(void)
 {
-    th_host *h = start_session(program, NULL);
+    th_host *h = th_open(NULL);
     th_caller self = {1001, 0};
     th_pid target;
     int status;
@@ -122,11 +122,11 @@ static void *debugger(void *argument)
     return NULL;
 }
 
-static void two_threads(const char *program)
+static void two_threads(void)
 {
     struct party p = {0};
     pthread_t thread;
-    th_host *h = start_session(program, NULL);
+    th_host *h = th_open(NULL);
     CHECK(th_record(h, scenario, lines) == 0);
     spawn(&p, h);
     start(&thread, debugger, &p);
@@ -159,11 +159,11 @@ static void *collector(void *argument)
     return NULL;
 }
 
-static void three_waits(const char *program)
+static void three_waits(void)
 {
     struct party parties[DEBUGGERS] = {{0}};
     pthread_t threads[DEBUGGERS];
-    th_host *h = start_session(program, NULL);
+    th_host *h = th_open(NULL);
     CHECK(th_record(h, scenario, lines) == 0);
     for (int i = 0; i < DEBUGGERS; i++) {
         spawn(&parties[i], h);
@@ -199,7 +199,7 @@ static void three_waits(const char *program)
         __LINE__);
 }
 
-/* ---- the end of the program, and refused steps */
+/* ---- the end of the session, and refused steps */
 
 static void *waits_for_the_end(void *argument)
 {
@@ -208,17 +208,26 @@ static void *waits_for_the_end(void *argument)
     return NULL;
 }
 
-static void broken(const char *fake)
+/* A step that can't be recorded ends the session: the wait that is blocked too. */
+static void broken(void)
 {
-    setenv("FAKE", "1001 1 nothing", 1);
-    struct party p = {th_start(fake, NULL), {1001, 1000}, 0, 0, 0, 0};
+    struct party p = {0};
+    struct rlimit old, none;
     pthread_t thread;
+    th_host *h = th_open(NULL);
+    CHECK(th_record(h, scenario, lines) == 0);
+    spawn(&p, h);
+    CHECK(th_ptrace(h, p.self, TH_PT_ATTACH, p.target, NULL, 0) == 0 && th_wait4(h, p.self, -1, NULL, 0) == p.target);
     start(&thread, waits_for_the_end, &p);
-    CHECK(th_until_blocked(p.host, 1, LONG) == 0);
-    REFUSED(EPROTO, th_spawn(p.host, 1001, NULL, NULL));
+    CHECK(th_until_blocked(h, 1, LONG) == 0 && getrlimit(RLIMIT_FSIZE, &old) == 0);
+    none = old;
+    none.rlim_cur = 1;
+    CHECK(setrlimit(RLIMIT_FSIZE, &none) == 0);
+    REFUSED(TH_ERECORD, th_spawn(h, 1001, NULL, NULL));
+    CHECK(setrlimit(RLIMIT_FSIZE, &old) == 0);
     pthread_join(thread, NULL);
-    REFUSED(EPIPE, th_until_blocked(p.host, 1, LONG));
-    CHECK(th_close(p.host) == 0);
+    REFUSED(EPIPE, th_until_blocked(h, 1, LONG));
+    CHECK(th_close(h) == 0);
 }
 
 static void *is_refused(void *argument)
@@ -230,12 +239,12 @@ static void *is_refused(void *argument)
 }
 
 /* a fault is that of the thread's own step, and of its session */
-static void faults(const char *program)
+static void faults(void)
 {
     struct party p = {0};
     pthread_t thread;
-    th_host *other = start_session(program, NULL);
-    spawn(&p, start_session(program, NULL));
+    th_host *other = th_open(NULL);
+    spawn(&p, th_open(NULL));
     start(&thread, is_refused, &p);
     pthread_join(thread, NULL);
     CHECK(th_fault(p.host)[0] == '\0' && th_reason(p.host)[0] == '\0');
@@ -257,11 +266,11 @@ static void *many_calls(void *argument)
     return NULL;
 }
 
-static void at_once(const char *program)
+static void at_once(void)
 {
     struct party parties[CALLERS];
     pthread_t threads[CALLERS];
-    th_host *h = start_session(program, NULL);
+    th_host *h = th_open(NULL);
     th_caller parent = {1001, 1000};
     struct th_turned turned;
     th_lwpid lwp;
@@ -282,19 +291,19 @@ static void at_once(const char *program)
 
 int main(int argc, char **argv)
 {
-    if (argc != 5)
+    if (argc != 3)
         return 2;
-    int runs = atoi(argv[4]);
-    snprintf(scenario, sizeof scenario, "%s/threads.json", argv[3]);
-    snprintf(lines, sizeof lines, "%s/threads.out", argv[3]);
-    alone(argv[1]);
+    int runs = atoi(argv[2]);
+    snprintf(scenario, sizeof scenario, "%s/threads.json", argv[1]);
+    snprintf(lines, sizeof lines, "%s/threads.out", argv[1]);
+    alone();
     for (int i = 0; i < runs && !failed; i++)
-        two_threads(argv[1]);
+        two_threads();
     for (int i = 0; i < runs && !failed; i++)
-        three_waits(argv[1]);
-    broken(argv[2]);
-    faults(argv[1]);
-    at_once(argv[1]);
+        three_waits();
+    broken();
+    faults();
+    at_once();
     if (!failed)
         printf("the tests of sessions of several threads passed\n");
     return failed;

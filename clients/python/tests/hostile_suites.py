@@ -163,7 +163,7 @@ def made(seed: int, plugins: Sequence[str]) -> Suite:
 def _test(chance: random.Random, number: int, has_subtests: bool, lasting: Sequence[str]) -> str:
     fixtures = ["tracehost", "new_tracehost", "monkeypatch", "tmp_path", "capfd"] + ["subtests"] * has_subtests
     chance.shuffle(fixtures)
-    host = chance.choice(["tracehost", "new_tracehost()", "new_tracehost('a\\0/..', transport='pipe')"])
+    host = chance.choice(["tracehost", "new_tracehost()", "new_tracehost('a\\0/..')"])
     body = [f"host = {host}", f"process = use(host, {chance.randrange(4)})"]
     body += [_change(chance, lasting) for _ in range(chance.choice((0, 1, 1, 2, 3)))]
     if chance.random() < 0.3:

@@ -159,26 +159,25 @@ def test_stale_files_go(runs: Runs, tmp_path: pathlib.Path) -> None:
 
 
 def test_open_sessions_are_closed_at_the_end_of_a_test(runs: Runs) -> None:
-    """50 sessions over a pipe in each of 10 tests, with room for 150 descriptors."""
+    """50 sessions with two files each in each of 10 tests, with room for 150 descriptors."""
     runs(
         """
-import os, resource, pathlib
+import os, resource
 import pytest
+import tracehost
 
-resource.setrlimit(resource.RLIMIT_NOFILE, (350, 350))
+resource.setrlimit(resource.RLIMIT_NOFILE, (150, 150))
 kept = []
-
-def children():
-    return len(pathlib.Path(f"/proc/self/task/{os.getpid()}/children").read_text().split())
 
 @pytest.mark.parametrize("n", range(10))
 def test_many(new_tracehost, n):
-    assert children() == 0
+    for host in kept[-50:]:
+        with pytest.raises(tracehost.SessionClosed):
+            host.user(1001).spawn()
     for k in range(50):
-        host = new_tracehost(f"session_{k}", transport="pipe")
+        host = new_tracehost(f"session_{k}")
         host.user(1001).spawn()
         kept.append(host)
-    assert children() == 50
 """,
         status=0,
     )

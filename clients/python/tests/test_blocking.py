@@ -13,7 +13,7 @@ import unittest
 
 sys.path.insert(0, str(pathlib.Path(__file__).resolve().parents[1]))
 from tracehost import (
-    Act, Call, Compute, Decision, Enter, Handled, Host, Leave, ProgramEnded, Raise, Request, Rule, Signal, Stopped,
+    Act, Call, Compute, Decision, Enter, Handled, Host, Leave, Raise, Request, Rule, SessionClosed, Signal, Stopped,
     User, Waited, WaitOption,
 )  # fmt: skip
 
@@ -102,7 +102,7 @@ class Threads(unittest.TestCase):
         def wait() -> None:
             try:
                 self.debugger.wait4(block=True)
-            except ProgramEnded as error:
+            except SessionClosed as error:
                 ended.append(error)
 
         waiter = self.in_a_thread(wait)
@@ -116,11 +116,11 @@ ALONE = """
 import os, signal, sys, threading, time
 from tracehost import *
 
-host = Host(transport=sys.argv[1])
+host = Host()
 user = host.user(1001)
 debugger, target = user.process(user.spawn()), user.spawn()
 debugger.ptrace(Request.PT_ATTACH, target.pid)
-if sys.argv[2] == "knows":
+if sys.argv[1] == "knows":
     debugger.wait4()
 
 def goes_on(*ignored):
@@ -128,16 +128,16 @@ def goes_on(*ignored):
     user.turn(target.tid, Raise(Signal.SIGSTOP))
     user.turn(target.tid, Compute())
 
-if sys.argv[3] == "handler":
+if sys.argv[2] == "handler":
     signal.signal(signal.SIGALRM, goes_on)
     signal.setitimer(signal.ITIMER_REAL, 0.2)
-elif sys.argv[3] == "thread":
+elif sys.argv[2] == "thread":
     threading.Timer(0.2, goes_on).start()
-elif sys.argv[3] == "raw thread":
+elif sys.argv[2] == "raw thread":
     import _thread
     _thread.start_new_thread(lambda: (time.sleep(0.2), goes_on()), ())
 try:
-    if sys.argv[2] == "knows":
+    if sys.argv[1] == "knows":
         print(describe(debugger.wait4(block=True)))
     else:
         user.turn(target.tid, Compute(), block=True)
@@ -155,17 +155,16 @@ class OnlyThread(unittest.TestCase):
         return subprocess.run(command, env=environment, stdout=subprocess.PIPE, text=True, timeout=300, check=True).stdout
 
     def test_nobody_can_wake_it(self) -> None:
-        for transport in ("library", "pipe"):
-            said = self.said(transport, "knows", "nobody")
-            endless = "deadlock: it would sleep for ever, as there is no other thread"
-            self.assertEqual(said, f"wait4 of 1000: {endless}; 1001 is stopped by SIGSTOP, which 1000 knows\n")
-            said = self.said(transport, "", "nobody")
-            self.assertEqual(said, f"turn of 100001: {endless}; 1001 is stopped by SIGSTOP, which 1000 does not know yet\n")
+        said = self.said("knows", "nobody")
+        endless = "deadlock: it would sleep for ever, as there is no other thread"
+        self.assertEqual(said, f"wait4 of 1000: {endless}; 1001 is stopped by SIGSTOP, which 1000 knows\n")
+        said = self.said("", "nobody")
+        self.assertEqual(said, f"turn of 100001: {endless}; 1001 is stopped by SIGSTOP, which 1000 does not know yet\n")
 
     def test_somebody_wakes_it(self) -> None:
         """Another thread, also one that `threading` doesn't know, or the handler of a signal."""
         for waker in ("thread", "raw thread", "handler"):
-            self.assertEqual(self.said("library", "knows", waker), "1001 stopped SIGSTOP\n", waker)
+            self.assertEqual(self.said("knows", waker), "1001 stopped SIGSTOP\n", waker)
 
 
 class Turns(unittest.TestCase):

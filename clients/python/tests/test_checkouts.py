@@ -45,7 +45,7 @@ class Checkout:
         """What it prints, or the last line of its traceback."""
         environment = {name: value for name, value in os.environ.items() if not name.startswith("TRACEHOST")}
         done = subprocess.run(
-            [sys.executable, "-c", f"from tracehost import Host\n{code}"],
+            [sys.executable, "-c", f"from tracehost import Host\nfrom tracehost.program import default\n{code}"],
             stdout=subprocess.PIPE, stderr=subprocess.PIPE, text=True, cwd=self.top,
             env={**environment, "PYTHONPATH": str(self.top / "clients/python")},
         )  # fmt: skip
@@ -58,24 +58,21 @@ def checkout(tmp_path: pathlib.Path) -> Checkout:
 
 
 def test_the_release_of_the_present_sources(checkout: Checkout) -> None:
-    assert checkout.python("print(Host().transport)") == "library"
-    program = checkout.python("print(Host(transport='pipe')._made.process.args[0])")
-    assert program == str(checkout.top / RELEASE / "tracehost")
+    assert checkout.python("print(Host()._session.library.path)") == str(checkout.top / RELEASE / "libtracehost.so")
+    assert checkout.python("print(default())") == str(checkout.top / RELEASE / "tracehost")
 
 
 def test_a_damaged_library(checkout: Checkout) -> None:
-    """The program, which is whole, takes its place; a session that asks for the library says why it has none."""
     with (checkout.top / RELEASE / "libtracehost.so").open("ab") as file:
         file.write(b"x")
-    assert checkout.python("print(Host().transport)") == "pipe"
-    said = checkout.python("Host(transport='library')")
+    said = checkout.python("Host()")
     assert said.startswith("FileNotFoundError: tracehost: the library is not built here from the present sources")
 
 
 def test_a_damaged_program(checkout: Checkout) -> None:
     with (checkout.top / RELEASE / "tracehost").open("ab") as file:
         file.write(b"x")
-    said = checkout.python("Host(transport='pipe')")
+    said = checkout.python("default()")
     assert (
         said.startswith("FileNotFoundError: tracehost: ") and "its digest is not that of its manifest; ./tracehost --prove" in said
     )
@@ -83,11 +80,13 @@ def test_a_damaged_program(checkout: Checkout) -> None:
 
 def test_a_changed_source(checkout: Checkout) -> None:
     (checkout.top / "crates/tracehost/src/main.rt").write_text("// a change\n")
-    said = checkout.python("Host()")
+    said = checkout.python("default()")
     assert (
         said.startswith("FileNotFoundError: tracehost: ")
         and "the release was built from other sources; ./tracehost --prove" in said
     )
+    said = checkout.python("Host()")
+    assert said.startswith("FileNotFoundError: tracehost: the library is not built here from the present sources")
 
 
 class Package:
@@ -108,7 +107,7 @@ class Package:
         """What it prints, or the last line of its traceback."""
         environment = {name: value for name, value in os.environ.items() if not name.startswith("TRACEHOST")}
         done = subprocess.run(
-            [sys.executable, "-c", f"from tracehost import Host\n{code}"],
+            [sys.executable, "-c", f"from tracehost import Host\nfrom tracehost.program import default\n{code}"],
             stdout=subprocess.PIPE, stderr=subprocess.PIPE, text=True, cwd=self.folder,
             env={**environment, "PYTHONPATH": str(self.folder)},
         )  # fmt: skip
@@ -121,16 +120,16 @@ def package(tmp_path: pathlib.Path) -> Package:
 
 
 def test_a_package_as_it_was_built(package: Package) -> None:
-    assert package.python("print(Host().transport)") == "library"
-    assert package.python("print(Host(transport='pipe').user(1001).spawn())") == "New(pid=1000, tid=100000)"
+    assert package.python("print(Host()._session.library.path)") == str(package.package / "lib/libtracehost.so")
+    assert package.python("print(Host().user(1001).spawn())") == "New(pid=1000, tid=100000)"
+    assert package.python("print(default())") == str(package.package / "bin/tracehost")
 
 
 def test_a_changed_library_of_a_package(package: Package) -> None:
     path = package.package / "lib/libtracehost.so"
     with path.open("ab") as file:
         file.write(b"x")
-    assert package.python("print(Host().transport)") == "pipe"
-    said = package.python("Host(transport='library')")
+    said = package.python("Host()")
     assert said.startswith(f"FileNotFoundError: {path}: its digest isn't that of ")
     assert said.endswith("it was changed; install the package again")
 
@@ -139,15 +138,15 @@ def test_a_changed_program_of_a_package(package: Package) -> None:
     path = package.package / "bin/tracehost"
     with path.open("ab") as file:
         file.write(b"x")
-    assert package.python("print(Host().transport)") == "library"
-    assert package.python("Host(transport='pipe')").startswith(f"FileNotFoundError: {path}: its digest isn't that of ")
+    assert package.python("print(Host()._session.library.path)") == str(package.package / "lib/libtracehost.so")
+    assert package.python("default()").startswith(f"FileNotFoundError: {path}: its digest isn't that of ")
 
 
 def test_a_package_without_digests(package: Package) -> None:
     (package.package / "SHA256SUMS").unlink()
-    said = package.python("Host(transport='library')")
+    said = package.python("Host()")
     assert said.endswith("lib/libtracehost.so: the package has no SHA256SUMS to compare it with; install it again")
-    assert package.python("Host()").startswith("FileNotFoundError: ")
+    assert package.python("default()").startswith("FileNotFoundError: ")
 
 
 def test_the_viewer_of_a_package_alone(tmp_path: pathlib.Path) -> None:
@@ -197,7 +196,7 @@ def pythons() -> list[str]:
 
 
 @pytest.mark.parametrize("python", pythons())
-@pytest.mark.parametrize("name", ["tracehost", "programs", "recording", "blocking", "library"])
+@pytest.mark.parametrize("name", ["tracehost", "recording", "blocking", "library"])
 def test_each_python(python: str, name: str) -> None:
     folder = pathlib.Path(__file__).parent
     libraries = {"TRACEHOST_LIBRARY": str(TOP / RELEASE / "libtracehost.so"), "TRACEHOST": str(TOP / RELEASE / "tracehost")}

@@ -1,4 +1,4 @@
-"""`Process.handle_with`: a function decides what becomes of a stop. Over the library and a pipe."""
+"""`Process.handle_with`: a function decides what becomes of a stop."""
 
 from __future__ import annotations
 
@@ -31,9 +31,9 @@ class World:
         self.user.turn(self.lwp, Compute())
 
 
-@pytest.fixture(params=["library", "pipe"])
-def world(request: pytest.FixtureRequest) -> Iterator[World]:
-    with Host(transport=request.param) as host:
+@pytest.fixture
+def world() -> Iterator[World]:
+    with Host() as host:
         yield World(host)
 
 

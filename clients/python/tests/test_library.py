@@ -1,5 +1,4 @@
-"""How `Host` chooses between the library and the program, and what the library has to do. TRACEHOST_LIBRARY names the
-library, TRACEHOST the program."""
+"""Which library `Host` takes, and what it has to do. TRACEHOST_LIBRARY names the library."""
 
 from __future__ import annotations
 
@@ -8,9 +7,8 @@ import pathlib
 import re
 import sys
 import unittest
-from collections.abc import Iterable
 from ctypes import byref, c_size_t
-from typing import Any, Literal
+from typing import Any
 from unittest import mock
 
 sys.path.insert(0, str(pathlib.Path(__file__).resolve().parents[1]))
@@ -28,18 +26,16 @@ from tracehost import (
     New,
     ProcessRow,
     ProcessState,
-    ProgramEnded,
-    ProtocolError,
     Raise,
     RefusedStep,
     Request,
     Rule,
+    SessionClosed,
     Signal,
     StopFlag,
     View,
 )
 from tracehost.library import ANSWERED, CLwp, CProcess, CRule, Reply, Session, Words, find
-from tracehost.replica import Replica
 
 NONE: frozenset[Signal] = frozenset()
 
@@ -47,10 +43,8 @@ NONE: frozenset[Signal] = frozenset()
 class Views(unittest.TestCase):
     """`User.view`: the rows as the rules of docs/internals/MACHINE.md make them."""
 
-    transport: Literal["library", "pipe"] = "library"
-
     def setUp(self) -> None:
-        self.host = Host(transport=self.transport)
+        self.host = Host()
         self.addCleanup(self.host.close)
         self.user = self.host.user(1001)
 
@@ -130,14 +124,8 @@ class Views(unittest.TestCase):
         self.user.spawn()
         self.user.view()
         self.host.close()
-        with self.assertRaises(ProgramEnded):
+        with self.assertRaises(SessionClosed):
             self.user.view()
-
-
-class ViewsOverAPipe(Views):
-    """The same rows, which a session of the library has beside the program."""
-
-    transport = "pipe"
 
     def test_refused_lines_and_the_numbers_of_steps(self) -> None:
         """A view is no step, and a refused line none either."""
@@ -150,123 +138,29 @@ class ViewsOverAPipe(Views):
     def test_the_setting(self) -> None:
         """kern.kill_on_debugger_exit is that of the session: with 0 the tracee of an ended debugger lives."""
         for kills, rows in ((True, 0), (False, 1)):
-            with Host(transport="pipe", kill_on_debugger_exit=kills) as host:
+            with Host(kill_on_debugger_exit=kills) as host:
                 user = host.user(1001)
                 debugger, target = user.process(user.spawn()), user.spawn()
                 debugger.ptrace(Request.PT_ATTACH, target.pid)
                 user.turn(100000, Raise(Signal.SIGKILL))
                 self.assertEqual(len(user.view().processes), rows)
 
-    def test_a_program_that_ends(self) -> None:
-        self.user.spawn()
-        self.host._made.close()
-        with self.assertRaises(ProgramEnded):
-            self.user.spawn()
-        with self.assertRaises(ProgramEnded):
-            self.user.view()
 
-    def test_without_a_library(self) -> None:
-        """The session goes on, without views."""
-        self.user.spawn()
-        with mock.patch.dict(os.environ, {"TRACEHOST_LIBRARY": "/nowhere/libtracehost.so"}):
-            with self.assertRaisesRegex(NotImplementedError, "view: .*/nowhere/libtracehost.so"):
-                self.user.view()
-        self.assertEqual(self.user.spawn(), New(1001, 100001))
-        with self.assertRaises(NotImplementedError):  # steps are no longer kept
-            self.user.view()
-
-
-class Replicas(unittest.TestCase):
-    """What `Replica` does with steps and their answers."""
-
-    SPAWN = '{"user":1001,"op":"spawn"}'
-
-    def test_no_memory(self) -> None:
-        """A step that was answered ENOMEM has changed nothing. Those after it have other numbers, and the same replies."""
-        replica = Replica(True)
-        replica.add(self.SPAWN, "1001 1 error ENOMEM 12")
-        processes, lwps = replica.rows(1001)
-        self.assertEqual((len(processes), len(lwps)), (0, 0))
-        replica.add(self.SPAWN, "1001 2 new 1000 100000")
-        self.assertEqual(len(replica.rows(1001)[0]), 1)
-
-    def spawns(self, replica: Replica, numbers: Iterable[int]) -> None:
-        for number in numbers:
-            replica.add(self.SPAWN, f"1001 {number + 1} new {1000 + number} {100000 + number}")
-            self.assertLessEqual(len(replica._waiting), 10)
-
-    @mock.patch("tracehost.replica.MOST_WAITING", 10)
-    def test_many_steps(self) -> None:
-        """The first view comes within a bound. After it there may be any number of steps, and no more wait than these."""
-        replica = Replica(True)
-        self.spawns(replica, range(10))
-        self.assertEqual(len(replica.rows(1001)[0]), 10)
-        self.spawns(replica, range(10, 45))
-        self.assertEqual(len(replica.rows(1001)[0]), 45)
-        replica = Replica(True)
-        self.spawns(replica, range(11))
-        with self.assertRaisesRegex(NotImplementedError, "view: .* first 10 steps"):
-            replica.rows(1001)
-
-    def test_another_program(self) -> None:
-        """A program whose answers aren't the library's has no rows there, and its steps are no longer kept."""
-        replica = Replica(True)
-        replica.add(self.SPAWN, "1001 1 new 1001 100001")
-        for _ in range(2):
-            with self.assertRaisesRegex(ProtocolError, "new 1001 100001.*new 1000 100000"):
-                replica.rows(1001)
-            replica.add(self.SPAWN, "1001 2 new 1002 100002")
-            self.assertEqual(len(replica._waiting), 0)
-
-    def test_no_memory_in_the_library(self) -> None:
-        replica = Replica(True)
-        replica.add(self.SPAWN, "1001 1 new 1000 100000")
-        with mock.patch.object(Session, "exchange", return_value="1001 1 error ENOMEM 12"):
-            with self.assertRaises(MemoryError):
-                replica.rows(1001)
-        with self.assertRaises(MemoryError):
-            replica.rows(1001)
-        replica = Replica(True)
-        with mock.patch("tracehost.replica.Session", side_effect=MemoryError):
-            with self.assertRaises(MemoryError):
-                replica.rows(1001)
-
-
-class Choices(unittest.TestCase):
-    """Which of both a `Host` takes."""
-
-    def transport_of(self, names_library: bool, names_program: bool, **arguments: Any) -> str:
-        environment = {
-            name: os.environ[name]
-            for name, is_given in (("TRACEHOST_LIBRARY", names_library), ("TRACEHOST", names_program))
-            if is_given
-        }
-        rest = {name: value for name, value in os.environ.items() if not name.startswith("TRACEHOST")}
-        with mock.patch.dict(os.environ, {**rest, **environment}, clear=True):
-            with Host(**arguments) as host:
-                host.user(1001).spawn()
-                return host.transport
+class Libraries(unittest.TestCase):
+    """Which library a `Host` takes."""
 
     def test_what_is_taken(self) -> None:
-        self.assertEqual(self.transport_of(True, False), "library")
-        self.assertEqual(self.transport_of(True, True), "library")
-        self.assertEqual(self.transport_of(False, True), "pipe")
-        self.assertEqual(self.transport_of(True, True, transport="pipe"), "pipe")
-        self.assertEqual(self.transport_of(True, True, program=os.environ["TRACEHOST"]), "pipe")
-        self.assertEqual(self.transport_of(True, False, transport="library"), "library")
+        """That of TRACEHOST_LIBRARY; TRACEHOST names only a program."""
+        with mock.patch.dict(os.environ, {"TRACEHOST": "/nowhere/tracehost"}), Host() as host:
+            self.assertEqual(host.user(1001).spawn(), New(1000, 100000))
 
     def test_what_is_not_there(self) -> None:
         with mock.patch.dict(os.environ, {"TRACEHOST_LIBRARY": "/nowhere/libtracehost.so"}):
-            for transport in (None, "library"):
-                with self.assertRaisesRegex(OSError, "/nowhere/libtracehost.so"):
-                    Host(transport=transport)  # type: ignore[arg-type]
+            with self.assertRaisesRegex(OSError, "/nowhere/libtracehost.so"):
+                Host()
         with mock.patch.dict(os.environ, {"TRACEHOST_LIBRARY": "libc.so.6"}):
             with self.assertRaisesRegex(OSError, "libc.so.6: no library of tracehost"):
                 Host()
-        with self.assertRaises(ValueError):
-            Host(transport="socket")  # type: ignore[arg-type]
-        with self.assertRaises(ValueError):
-            Host("tracehost", transport="library")
 
 
 class Structs(unittest.TestCase):
@@ -289,7 +183,7 @@ class Structs(unittest.TestCase):
 
     def test_a_reply(self) -> None:
         """A stop that goes to a handler, with all its fields: the last one of the struct is among them."""
-        library = find(needed=True) or self.fail("there is no library")
+        library = find()
         session, reply = Session(library), Reply()
 
         def make(step: str, *numbers: Any) -> None:
@@ -312,7 +206,7 @@ class Mixed(unittest.TestCase):
 
     def test_long_lists(self) -> None:
         """As many numbers as a user may have, which no room has that the client begins with."""
-        with Host(transport="library") as host:
+        with Host() as host:
             user = host.user(1001)
             self.assertEqual([user.spawn() for _ in range(250)][249], New(1249, 100249))
             self.assertEqual(user.process(1000).list(), tuple(range(1000, 1250)))
@@ -321,17 +215,17 @@ class Mixed(unittest.TestCase):
 
     def test_two_sessions(self) -> None:
         """Each `Host` has a session of its own; the end of one is not the other's."""
-        with Host(transport="library") as one, Host(transport="library") as other:
+        with Host() as one, Host() as other:
             one.user(1001).spawn()
             self.assertEqual(other.user(1001).spawn(), New(1000, 100000))
             one.close()
-            with self.assertRaises(ProgramEnded):
+            with self.assertRaises(SessionClosed):
                 one.user(1001).spawn()
             self.assertEqual(other.user(1001).spawn(), New(1001, 100001))
 
     def test_handlers_and_blocked_signals(self) -> None:
         """What the typed call refuses is refused as its line is."""
-        with Host(transport="library") as host:
+        with Host() as host:
             user = host.user(1001)
             new = user.spawn()
             user.process(new).install([Rule(Decision.LEAVE)])
@@ -343,7 +237,7 @@ class Mixed(unittest.TestCase):
             self.assertEqual(host.step({"user": 1001, "op": "spawn"}), "1001 4 new 1001 100001")
 
     def test_they_count_together(self) -> None:
-        with Host(transport="library") as host:
+        with Host() as host:
             user = host.user(1001)
             user.spawn()
             self.assertEqual(host.step({"user": 1001, "op": "spawn"}), "1001 2 new 1001 100001")
@@ -357,7 +251,7 @@ class Copies(unittest.TestCase):
     """`Host.copy`: the same rows, settings and numbers of steps; afterwards each goes its own way."""
 
     def setUp(self) -> None:
-        self.host = Host(transport="library", kill_on_debugger_exit=False)
+        self.host = Host(kill_on_debugger_exit=False)
         self.addCleanup(self.host.close)
         self.user = self.host.user(1001)
         self.debugger, self.target = self.user.process(self.user.spawn()), self.user.spawn()
@@ -365,7 +259,6 @@ class Copies(unittest.TestCase):
 
     def test_a_copy_goes_its_own_way(self) -> None:
         with self.host.copy() as copy:
-            self.assertEqual(copy.transport, "library")
             user = copy.user(1001)
             self.assertEqual(user.view(), self.user.view())
             self.assertEqual(user.process(1000).wait4().pid, 1001)
@@ -393,13 +286,8 @@ class Copies(unittest.TestCase):
         self.host.close()
         with copy:
             self.assertEqual(copy.user(1001).process(1000).list(), (1000, 1001))
-        with self.assertRaises(ProgramEnded):
+        with self.assertRaises(SessionClosed):
             self.host.copy()
-
-    def test_not_over_a_pipe(self) -> None:
-        with Host(transport="pipe") as host:
-            with self.assertRaisesRegex(NotImplementedError, "copy: .*transport='library'"):
-                host.copy()
 
 
 if __name__ == "__main__":

@@ -1,6 +1,6 @@
-"""Sessions that are dropped, inherited by fork(2), interrupted or closed, over the library and a pipe.
+"""Sessions that are dropped, inherited by fork(2), interrupted or closed.
 
-TRACEHOST_LIBRARY names the library, TRACEHOST the program. TRACEHOST_TEST_SCALE multiplies how many sessions are
+TRACEHOST_LIBRARY names the library. TRACEHOST_TEST_SCALE multiplies how many sessions are
 dropped and how often a process forks: 1 for a few seconds, 20 for 10,000 sessions and 1,000 forks.
 """
 
@@ -18,6 +18,7 @@ import subprocess
 import sys
 import threading
 import time
+import weakref
 from collections.abc import Callable, Iterator
 from types import FrameType
 from typing import Any, Literal
@@ -25,13 +26,9 @@ from typing import Any, Literal
 import pytest
 
 sys.path.insert(0, str(pathlib.Path(__file__).resolve().parents[1]))
-from tracehost import Host, New, ProgramEnded, Request, SessionBusy, SessionClosed
-from tracehost.pipe import Pipe
+from tracehost import Host, New, Request, SessionBusy, SessionClosed
 
 SCALE = int(os.environ.get("TRACEHOST_TEST_SCALE", "1"))
-TRANSPORTS: list[Literal["library", "pipe"]] = ["library", "pipe"]
-over_both = pytest.mark.parametrize("transport", TRANSPORTS)
-Transport = Literal["library", "pipe"]
 Call = Callable[[], object]
 
 
@@ -74,10 +71,9 @@ def in_child(work: Callable[[], str]) -> str:
 # ---- dropped
 
 
-@over_both
-def test_dropped_sessions_leave_nothing(transport: Transport) -> None:
-    """Neither programs nor descriptors, with room for 64 descriptors at a time."""
-    Host(transport=transport).user(1001).spawn()
+def test_dropped_sessions_leave_nothing() -> None:
+    """Neither programs, nor descriptors, nor sessions, with room for 64 descriptors at a time."""
+    Host().user(1001).spawn()
     gc.collect()
     before = programs(), descriptors()
     soft, hard = resource.getrlimit(resource.RLIMIT_NOFILE)
@@ -85,28 +81,20 @@ def test_dropped_sessions_leave_nothing(transport: Transport) -> None:
     gc.disable()  # it is not a collection that ends them
     try:
         for _ in range(500 * SCALE):
-            Host(transport=transport).user(1001).spawn()
+            host = Host()
+            host.user(1001).spawn()
+            session = weakref.ref(host._session)
+            del host
+            assert session() is None
     finally:
         gc.enable()
         resource.setrlimit(resource.RLIMIT_NOFILE, (soft, hard))
     assert (programs(), descriptors()) == before
 
 
-def test_a_program_that_ignores_the_end_of_its_input_is_killed(tmp_path: pathlib.Path, monkeypatch: pytest.MonkeyPatch) -> None:
-    monkeypatch.setattr("tracehost.pipe.SECONDS_TO_END", 0.2)
-    program = tmp_path / "program"
-    program.write_text("#!/bin/sh\nread line; echo '1001 1 new 1000 100000'; exec sleep 1000\n")
-    program.chmod(0o700)
-    before = programs()
-    host = Host(program)
-    host.user(1001).spawn()
-    del host
-    assert programs() == before
-
-
 def test_a_session_at_the_end_of_the_interpreter() -> None:
     """It is closed there, and no warning is printed."""
-    code = "import tracehost; h = tracehost.Host(transport='pipe'); h.user(1001).spawn()"
+    code = "import tracehost; h = tracehost.Host(); h.user(1001).spawn()"
     done = subprocess.run(
         [sys.executable, "-W", "error", "-X", "dev", "-c", code],
         stderr=subprocess.PIPE, timeout=300, env={**os.environ, "PYTHONPATH": str(pathlib.Path(__file__).parents[1])},
@@ -114,137 +102,29 @@ def test_a_session_at_the_end_of_the_interpreter() -> None:
     assert (done.returncode, done.stderr) == (0, b"")
 
 
-# ---- programs that hang
-
-HANGING = {
-    "answers nothing": "read line; exec sleep 1000",
-    "ignores the end of its input": "read line; echo '1001 1 new 1000 100000'; exec sleep 1000",
-    "prints without an end": "read line; echo '1001 1 new 1000 100000'; exec yes",
-    "ignores SIGTERM and has a child": "trap '' TERM; read line; echo '1001 1 new 1000 100000'; sleep 9",
-}
-
-
-@pytest.fixture
-def hanging(tmp_path: pathlib.Path, monkeypatch: pytest.MonkeyPatch, request: pytest.FixtureRequest) -> Iterator[Host]:
-    """A session with a program that hangs, and is killed soon."""
-    for module in ("pipe", "host"):
-        monkeypatch.setattr(f"tracehost.{module}.SECONDS_TO_END", 0.3)
-    program = tmp_path / "program"
-    program.write_text(f"#!/bin/sh\n{request.param}\n")
-    program.chmod(0o700)
-    before = programs(), descriptors()
-    yield Host(program)
-    assert (programs(), descriptors()) == before
-
-
-@pytest.mark.parametrize("hanging", HANGING.values(), ids=HANGING, indirect=True)
-def test_a_program_that_hangs_is_left(hanging: Host) -> None:
-    """By close and by with; closing again says the same. Who still prints then may be ended by SIGPIPE first."""
-    with hanging as host:
-        assert isinstance(host._made, Pipe)
-        host._made._to.write(b"{}\n")
-        status = host.close()
-        assert status == host.close() and status == (-signal.SIGKILL if host._made.was_killed else -signal.SIGPIPE)
-    with pytest.raises(SessionClosed):
-        host.user(1001).spawn()
-
-
-LEAVES_A_PROCESS = "read line; sleep 4 & exec sleep 1000"
-
-
-@pytest.mark.parametrize("hanging", [HANGING["answers nothing"], LEAVES_A_PROCESS], indirect=True)
-def test_a_call_of_another_thread_that_hangs_is_left(hanging: Host) -> None:
-    """Also if another process still has the program's output."""
-    said: list[BaseException] = []
-
-    def call() -> None:
-        try:
-            hanging.user(1001).spawn()
-        except BaseException as error:
-            said.append(error)
-
-    thread = threading.Thread(target=call)
-    thread.start()
-    while hanging._call_in is None:
-        time.sleep(0.01)
-    assert hanging.close() == -signal.SIGKILL
-    thread.join(60)
-    assert [type(error) for error in said] in ([ProgramEnded], [SessionClosed])
-
-
-def test_a_program_that_was_stopped_is_left() -> None:
-    """Within five seconds, and some more on a busy machine."""
-    with Host(transport="pipe") as host:
-        host.user(1001).spawn()
-        assert isinstance(host._made, Pipe)
-        os.kill(host._made.process.pid, signal.SIGSTOP)
-        began = time.monotonic()
-        assert host.close() == -signal.SIGKILL
-        assert 4 < time.monotonic() - began < 60
-
-
-@pytest.mark.parametrize("hanging", [HANGING["ignores the end of its input"]], indirect=True)
-def test_an_interrupted_close_can_be_made_again(hanging: Host) -> None:
-    hanging.user(1001).spawn()
-    assert isinstance(hanging._made, Pipe)
-    pid = hanging._made.process.pid
-    old = signal.signal(signal.SIGALRM, signal.default_int_handler)
-    try:
-        with pytest.raises(KeyboardInterrupt):
-            signal.setitimer(signal.ITIMER_REAL, 0.1)
-            hanging.close()
-            time.sleep(60)  # until the signal comes on a busy machine
-    finally:
-        signal.signal(signal.SIGALRM, old)
-    assert hanging.close() == -signal.SIGKILL
-    with pytest.raises(ProcessLookupError):
-        os.kill(pid, 0)
-
-
-def test_descriptors_that_the_test_has_closed() -> None:
-    """The program ends, and close raises nothing."""
-    host = Host(transport="pipe")
-    host.user(1001).spawn()
-    assert isinstance(host._made, Pipe)
-    made = host._made
-    assert made.process.stdin and made.process.stdout and made._errors
-    for file in (made.process.stdin, made.process.stdout, made._errors):
-        os.close(file.fileno())
-    assert isinstance(host.close(), int)
-    assert made.process.returncode is not None
-
-
 # ---- fork
 
 
-def test_a_child_of_a_session_over_a_pipe() -> None:
-    """Each of its calls says whose session it is, and the parent's goes on."""
-    with Host(transport="pipe") as host:
-        assert host.user(1001).spawn() == New(1000, 100000)
-        user = host.user(1001)
-        calls: list[Call] = [user.spawn, user.process(1000).list, lambda: host.line("{}"), user.view]
-        for call in calls:
-            text = in_child(lambda: str(call()))
-            assert text.startswith(f"SessionForked: the session belongs to process {os.getpid()}, "), text
-        assert in_child(lambda: str(host.close())) == "0"
-        assert user.spawn() == New(1001, 100001)
-
-
-def test_a_child_of_a_session_of_the_library() -> None:
+def test_a_child_of_a_session() -> None:
     """It has a copy, which goes its own way."""
-    with Host(transport="library") as host:
+    with Host() as host:
         user = host.user(1001)
         user.spawn()
         assert in_child(lambda: str(user.spawn())) == str(New(1001, 100001))
-        assert in_child(lambda: str((host.close(), host.close()))) == "(0, 0)"
+
+        def close_twice() -> str:
+            host.close()
+            host.close()
+            return "closed"
+
+        assert in_child(close_twice) == "closed"
         assert user.spawn() == New(1001, 100001)
 
 
-@over_both
-def test_a_child_that_leaves_the_with(transport: Transport) -> None:
+def test_a_child_that_leaves_the_with() -> None:
     """It runs all finalizers and ends, and the parent's session goes on."""
     for count in range(50 * SCALE):
-        with Host(transport=transport) as host:
+        with Host() as host:
             host.user(1001).spawn()
             child = os.fork()
             if child == 0:
@@ -259,7 +139,7 @@ def test_a_child_that_leaves_the_with(transport: Transport) -> None:
 def test_a_child_that_exits_inside_the_with() -> None:
     code = """
 import os, sys, tracehost
-with tracehost.Host(transport="pipe") as host:
+with tracehost.Host() as host:
     host.user(1001).spawn()
     if os.fork() == 0:
         sys.exit(0)
@@ -274,26 +154,9 @@ with tracehost.Host(transport="pipe") as host:
     assert (done.returncode, done.stdout, done.stderr) == (0, b"New(pid=1001, tid=100001)\n", b"")
 
 
-def test_a_parent_that_closes_before_its_child_ends() -> None:
-    """The child has no copy of the pipe that would keep the program waiting."""
-    host = Host(transport="pipe")
-    host.user(1001).spawn()
-    reader, writer = os.pipe()
-    child = os.fork()
-    if child == 0:
-        os.close(writer)
-        os.read(reader, 1)
-        os._exit(0)
-    os.close(reader)
-    assert host.close() == 0
-    os.close(writer)
-    os.waitpid(child, 0)
-
-
-@over_both
-def test_a_fork_while_another_thread_is_in_a_call(transport: Transport) -> None:
+def test_a_fork_while_another_thread_is_in_a_call() -> None:
     """The child isn't stopped by a lock of a thread that it doesn't have."""
-    with Host(transport=transport) as host:
+    with Host() as host:
         user = host.user(1001)
         process = user.process(user.spawn())
         stop = threading.Event()
@@ -306,8 +169,7 @@ def test_a_fork_while_another_thread_is_in_a_call(transport: Transport) -> None:
         thread.start()
         try:
             for _ in range(20 * SCALE):
-                wanted = "(1000,)" if transport == "library" else "SessionForked"
-                assert in_child(lambda: str(process.list())).startswith(wanted)
+                assert in_child(lambda: str(process.list())) == "(1000,)"
         finally:
             stop.set()
             thread.join()
@@ -317,10 +179,10 @@ def test_a_fork_while_another_thread_is_in_a_call(transport: Transport) -> None:
 
 
 class Slow:
-    """A transport that answers once a signal handler has run."""
+    """A session that answers once a signal handler has run."""
 
     def __init__(self, host: Host) -> None:
-        self._made: Any = host._made
+        self._made: Any = host._session
         self.handled = False
 
     def exchange(self, line: str) -> str:
@@ -333,13 +195,12 @@ class Slow:
         return getattr(self._made, name)
 
 
-@over_both
-def test_a_call_of_a_signal_handler_says_busy(transport: Transport) -> None:
+def test_a_call_of_a_signal_handler_says_busy() -> None:
     """The call that it has interrupted goes on."""
-    with Host(transport=transport) as host:
+    with Host() as host:
         host.user(1001).spawn()
         slow = Slow(host)
-        host._text._transport = slow
+        host._calls._session = slow  # type: ignore[assignment]
         said: list[str] = []
 
         def handler(number: int, frame: object) -> None:
@@ -356,12 +217,11 @@ def test_a_call_of_a_signal_handler_says_busy(transport: Transport) -> None:
         finally:
             signal.signal(signal.SIGUSR1, old)
         assert said == ["the session is busy: this thread is in a call of it already"] * 4
-        host._text._transport = slow._made
+        host._calls._session = slow._made
         assert host.user(1001).spawn() == New(1002, 100002)
 
 
-@over_both
-def test_an_interrupt_before_the_call_is_taken_away(transport: Transport) -> None:
+def test_an_interrupt_before_the_call_is_taken_away() -> None:
     """As Python 3.9 may raise it: the next call isn't told that the session is busy."""
     body = inspect.getsource(Host._alone).splitlines()
     first = Host._alone.__code__.co_firstlineno
@@ -374,7 +234,7 @@ def test_an_interrupt_before_the_call_is_taken_away(transport: Transport) -> Non
             raise KeyboardInterrupt
         return trace
 
-    with Host(transport=transport) as host:
+    with Host() as host:
         user, before = host.user(1001), sys.gettrace()
         sys.settrace(trace)
         try:
@@ -386,10 +246,9 @@ def test_an_interrupt_before_the_call_is_taken_away(transport: Transport) -> Non
         assert user.spawn() == New(1001, 100001)
 
 
-@over_both
 @pytest.mark.parametrize("copied", [copy.copy, copy.deepcopy, pickle.dumps])
-def test_what_only_a_copy_of_a_session_may_do(transport: Transport, copied: Call) -> None:
-    with Host(transport=transport) as host:
+def test_what_only_a_copy_of_a_session_may_do(copied: Call) -> None:
+    with Host() as host:
         with pytest.raises(TypeError, match=r"Host\.copy\(\) makes a copy"):
             copied(host)  # type: ignore[call-arg]
 
@@ -397,9 +256,8 @@ def test_what_only_a_copy_of_a_session_may_do(transport: Transport, copied: Call
 # ---- what can't be encoded, and what is closed
 
 
-@over_both
-def test_a_text_that_cannot_be_encoded(transport: Transport) -> None:
-    with Host(transport=transport) as host:
+def test_a_text_that_cannot_be_encoded() -> None:
+    with Host() as host:
         for _ in range(2):
             with pytest.raises(UnicodeEncodeError):
                 host.line("\ud800")
@@ -407,28 +265,16 @@ def test_a_text_that_cannot_be_encoded(transport: Transport) -> None:
         assert host.user(1001).spawn() == New(1000, 100000)
 
 
-@over_both
-def test_a_closed_session(transport: Transport) -> None:
-    host = Host(transport=transport)
+def test_a_closed_session() -> None:
+    host = Host()
     host.user(1001).spawn()
     host.close()
     calls: list[Call] = [host.user(1001).spawn, host.user(1001).view, lambda: host.line("{}")]
     for call in calls:
         with pytest.raises(SessionClosed, match="^the session is closed$"):
             call()
-    if transport == "library":
-        with pytest.raises(SessionClosed):
-            host.copy()
-
-
-def test_a_program_that_was_killed_is_not_told_as_closed() -> None:
-    with Host(transport="pipe") as host:
-        assert isinstance(host._made, Pipe)
-        host._made.process.kill()
-        for _ in range(2):
-            with pytest.raises(ProgramEnded, match="status -9") as caught:
-                host.user(1001).spawn()
-            assert type(caught.value) is ProgramEnded
+    with pytest.raises(SessionClosed):
+        host.copy()
 
 
 def test_a_close_wakes_a_sleeping_thread() -> None:

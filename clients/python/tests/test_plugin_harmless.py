@@ -10,7 +10,6 @@ import pathlib
 import re
 import subprocess
 import sys
-import time
 from collections.abc import Callable
 
 import pytest
@@ -146,25 +145,6 @@ def test_files_of_an_earlier_run_that_stay(runs: Runs, tmp_path: pathlib.Path) -
     assert re.search(rf"^the record stays {scenario}\.\d+: Is a directory$", said, re.MULTILINE)
     (stays,) = (tmp_path / "left").glob("*.json.*")
     assert str(stays) in said
-
-
-def test_a_program_that_hangs_is_killed_at_the_end_of_its_test(runs: Runs, tmp_path: pathlib.Path) -> None:
-    program = tmp_path / "program"
-    program.write_text("#!/bin/sh\nread line; exec sleep 1000\n")
-    program.chmod(0o700)
-    began = time.monotonic()
-    said = runs(
-        """
-kept = []
-
-def test_one(new_tracehost):
-    for n in range(40):
-        kept.append(new_tracehost(f"session_{n}", program="./program"))
-""",
-        status=0,
-    )
-    assert said.count("the program of a session didn't end, and was killed") == 1
-    assert time.monotonic() - began < 150  # 200 one after another
 
 
 UNRECORDED = {  # a suite, the folder of its artifacts, and what is said

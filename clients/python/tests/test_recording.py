@@ -1,12 +1,10 @@
-"""Recordings, refused steps and pages, through the library or the program that the environment names (`Host`)."""
+"""Recordings, refused steps and pages. TRACEHOST_LIBRARY names the library, TRACEHOST the program that replays."""
 
 from __future__ import annotations
 
-import errno
 import json
 import os
 import pathlib
-import stat
 import subprocess
 import sys
 import tempfile
@@ -17,7 +15,10 @@ from typing import Any
 from unittest import mock
 
 sys.path.insert(0, str(pathlib.Path(__file__).resolve().parents[1]))
-from tracehost import Call, Compute, Enter, Held, Host, Leave, Raise, RefusedStep, Request, Signal, view
+from tracehost import (
+    Call, Compute, Enter, Held, Host, Leave, Raise, RecordingFailed, RefusedStep, Request, SessionClosed, Signal, view,
+)  # fmt: skip
+from tracehost.library import Session
 
 
 def named_program() -> str:
@@ -31,12 +32,6 @@ class Recordings(unittest.TestCase):
         self.room = pathlib.Path(room.name)
         self.scenario = self.room / "session.json"
         self.lines = self.room / "session.out"
-
-    def script(self, text: str) -> str:
-        path = self.room / "program"
-        path.write_text("#!/bin/sh\n" + text)
-        path.chmod(stat.S_IRWXU)
-        return str(path)
 
     def replayed(self) -> str:
         """What the program prints for the recording, which also has to be what `--expect` wants."""
@@ -101,14 +96,24 @@ class Recordings(unittest.TestCase):
 
     def test_no_memory(self) -> None:
         """A step answered ENOMEM has changed nothing: the recording leaves it out, and says so."""
-        program = self.script("read line; echo '1001 1 error ENOMEM 12'; read line; echo '1001 2 new 1000 100000'\n")
-        with Host(program, record=self.scenario) as host:
-            with self.assertWarnsRegex(RuntimeWarning, "ENOMEM"), self.assertRaises(OSError) as caught:
-                host.user(1001).spawn()
-            self.assertEqual(caught.exception.errno, errno.ENOMEM)
+        with Host(record=self.scenario) as host:
+            recording = host._recording
+            assert recording is not None
+            with self.assertWarnsRegex(RuntimeWarning, "ENOMEM"):
+                recording.add('{"user":1001,"op":"spawn"}', "1001 1 error ENOMEM 12")
             host.user(1001).spawn()
         printed = subprocess.run([named_program(), self.scenario], stdout=subprocess.PIPE, text=True, check=True).stdout
         self.assertEqual(printed, "1001 1 new 1000 100000\n")
+
+    def test_no_memory_for_what_is_recorded(self) -> None:
+        """The step was made, and the recording is that of the steps before."""
+        with Host(record=self.scenario, record_lines=self.lines) as host:
+            host.user(1001).spawn()
+            with mock.patch.object(Session, "last_step", side_effect=MemoryError), self.assertRaises(RecordingFailed):
+                host.user(1001).spawn()
+            with self.assertRaises(SessionClosed):
+                host.user(1001).spawn()
+        self.assertEqual(self.replayed(), "1001 1 new 1000 100000\n")
 
     def test_more_bytes_than_a_scenario_may_have(self) -> None:
         step = "{" + " " * 50000 + '"user":1001,"op":"spawn"}'
@@ -137,7 +142,7 @@ class Recordings(unittest.TestCase):
         self.assertEqual(page, self.room / "session.html")
         text = page.read_text()
         self.assertIn("An attach", text)
-        self.assertIn('"reply":"ok","rows":{', text)
+        self.assertIn('{"reply":"ok"},{"processes":[{"pid":1001,"parent":1,"tracer":1000,', text)
         self.assertIn("PT_ATTACH", text)
         self.assertEqual(view(self.scenario, self.room / "other.html"), self.room / "other.html")
         self.assertTrue((self.room / "other.html").exists())
@@ -145,9 +150,9 @@ class Recordings(unittest.TestCase):
 
 class RefusedSteps(unittest.TestCase):
     def test_the_line_and_the_reason(self) -> None:
-        """The message has the fault, the program's explanation and the line, also for the second one."""
+        """The message has the fault, the explanation and the line, also for the second one."""
         step = {"user": 1001, "op": "lst", "caller": 1000}
-        with Host(transport="pipe") as host:
+        with Host() as host:
             for _ in range(2):
                 with self.assertRaises(RefusedStep) as caught:
                     host.step(step)
@@ -158,21 +163,13 @@ class RefusedSteps(unittest.TestCase):
                 self.assertTrue(str(refused).startswith(f"BadName: {refused.reason}\n"))
                 self.assertIn(refused.line, str(refused))
 
-    def test_the_same_reason_over_the_library(self) -> None:
-        """The program is asked when the reason is read. Without a program there is none."""
-        if not os.environ.get("TRACEHOST_LIBRARY"):
-            self.skipTest("no library is named")
-        reasons: list[str] = []
-        for transport in ("pipe", "library"):
-            with Host(transport=transport) as host, self.assertRaises(RefusedStep) as caught:  # type: ignore[arg-type]
-                host.user(1065).spawn()
-            self.assertIn("1065", caught.exception.reason)
-            reasons.append(str(caught.exception))
-        self.assertEqual(reasons[0], reasons[1])
-        with Host(transport="library") as host, self.assertRaises(RefusedStep) as caught:
-            host.user(1065).spawn()
+    def test_the_reason_of_a_typed_call(self) -> None:
+        """That of its line. No program is asked."""
         with mock.patch.dict(os.environ, {"TRACEHOST": "/nowhere/tracehost"}):
-            self.assertEqual(caught.exception.reason, "")
+            with Host() as host, self.assertRaises(RefusedStep) as caught:
+                host.user(1065).spawn()
+        reason = "user: 1065 is out of range; expected a whole number from 1001 to 1064"
+        self.assertEqual(str(caught.exception), f'BadUser: {reason}\n  sent: {{"user":1065,"op":"spawn"}}')
 
     def test_without_reasons(self) -> None:
         with Host(explain=False) as host, self.assertRaises(RefusedStep) as caught:

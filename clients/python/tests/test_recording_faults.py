@@ -16,7 +16,6 @@ import subprocess
 import sys
 import time
 from collections.abc import Callable, Iterator
-from typing import Literal
 
 import pytest
 
@@ -26,7 +25,6 @@ from tracehost.recording import _File, mend
 
 PACKAGE = pathlib.Path(__file__).resolve().parents[1]
 SCALE = int(os.environ.get("TRACEHOST_TEST_SCALE", "1"))
-TRANSPORTS: list[Literal["library", "pipe"]] = ["library", "pipe"]
 SPAWN = '{"user":1001,"op":"spawn"}'
 
 
@@ -76,7 +74,7 @@ def record_until_it_fails(host: Host) -> tuple[int, RecordingFailed]:
 @pytest.mark.parametrize("size", [*range(40, 140), 500, 4095, 4096, 4097])
 def test_a_file_that_may_not_grow(files: Files, limit: Callable[[int], None], size: int) -> None:
     """At each size the files are those of the steps that fit."""
-    host = Host(transport="library", record=files.scenario, record_lines=files.lines)
+    host = Host(record=files.scenario, record_lines=files.lines)
     limit(size)
     made, failed = record_until_it_fails(host)
     limit(resource.RLIM_INFINITY)
@@ -105,13 +103,10 @@ def fill(patch: pytest.MonkeyPatch, room: int) -> None:
     patch.setattr(_File, "write_at", write_while_there_is_room)
 
 
-@pytest.mark.parametrize("transport", TRANSPORTS)
 @pytest.mark.parametrize("room", range(150))
-def test_a_disk_that_is_full_at_each_byte(
-    files: Files, monkeypatch: pytest.MonkeyPatch, transport: Literal["library", "pipe"], room: int
-) -> None:
+def test_a_disk_that_is_full_at_each_byte(files: Files, monkeypatch: pytest.MonkeyPatch, room: int) -> None:
     """A short write and ENOSPC after it, at each byte of the first steps, of the lines as of the scenario."""
-    host = Host(transport=transport, record=files.scenario, record_lines=files.lines)
+    host = Host(record=files.scenario, record_lines=files.lines)
     with monkeypatch.context() as patch:
         fill(patch, room)
         made, failed = record_until_it_fails(host)
@@ -142,20 +137,19 @@ def test_a_typed_call_fails_too(files: Files, monkeypatch: pytest.MonkeyPatch) -
 
 RECORDER = """
 import sys, tracehost
-host = tracehost.Host(record=sys.argv[1], record_lines=sys.argv[2], transport=sys.argv[3])
+host = tracehost.Host(record=sys.argv[1], record_lines=sys.argv[2])
 print("begun", flush=True)
 while True:
     host.line('{"user":1001,"op":"list","caller":1000}')
 """
 
 
-@pytest.mark.parametrize("transport", TRANSPORTS)
-def test_a_process_that_is_killed(files: Files, transport: str) -> None:
+def test_a_process_that_is_killed(files: Files) -> None:
     """At any moment the scenario is one, and each of its steps has its line; `mend` cuts off a line too many."""
     chance = random.Random(1)
     for _ in range(20 * SCALE):
         process = subprocess.Popen(
-            [sys.executable, "-c", RECORDER, files.scenario, files.lines, transport],
+            [sys.executable, "-c", RECORDER, files.scenario, files.lines],
             stdout=subprocess.PIPE, env={**os.environ, "PYTHONPATH": str(PACKAGE)},
         )  # fmt: skip
         assert process.stdout is not None
@@ -192,7 +186,7 @@ def test_mend_cuts_back_to_whole_steps(files: Files) -> None:
 
 
 def test_a_forked_child_records_nothing(files: Files) -> None:
-    with Host(transport="library", record=files.scenario, record_lines=files.lines) as host:
+    with Host(record=files.scenario, record_lines=files.lines) as host:
         host.line(SPAWN)
         child = os.fork()
         if child == 0:

@@ -1,7 +1,7 @@
 """What an errno says: the call, and the condition of docs/FORMAT.md that held.
 
-Sessions of random steps go through the library and a pipe. Each answer is compared with the conditions of
-`tracehost.refusals`, looked up in the user's rows: the first that holds has the errno, and none holds for a step that
+Each answer is compared with the conditions of
+`tracehost.refusals` in sessions of random steps, looked up in the user's rows: the first that holds has the errno, and none holds for a step that
 was done. TRACEHOST_TEST_SCALE multiplies the sessions.
 """
 
@@ -14,7 +14,7 @@ import random
 import re
 import sys
 from collections.abc import Callable, Iterator, Sequence
-from typing import Any, Literal
+from typing import Any
 
 import pytest
 
@@ -25,7 +25,6 @@ from tracehost.names import CALLER_OPS
 from tracehost.refusals import Asked, Rows, asked_by, conditions
 
 FORMAT = pathlib.Path(__file__).resolve().parents[3] / "docs" / "FORMAT.md"
-TRANSPORTS: list[Literal["library", "pipe"]] = ["library", "pipe"]
 SCALE = int(os.environ.get("TRACEHOST_TEST_SCALE", "1"))
 Step = dict[str, Any]
 
@@ -40,12 +39,11 @@ def first_answer(host: Host, asked: Asked) -> str | None:
     return next((condition.answer for condition in found), None)
 
 
-@pytest.mark.parametrize("transport, sessions", [("library", 120), ("pipe", 10)])
-def test_the_first_condition_that_holds_gives_the_errno(transport: Literal["library", "pipe"], sessions: int) -> None:
+def test_the_first_condition_that_holds_gives_the_errno() -> None:
     met: set[str] = set()
-    for seed in range(sessions * SCALE):
+    for seed in range(120 * SCALE):
         chance = Chance(seed)
-        with Host(transport=transport) as host:
+        with Host() as host:
             for _ in range(250):
                 step = random_step(chance)
                 asked = asked_by(step)
@@ -61,9 +59,8 @@ def test_the_first_condition_that_holds_gives_the_errno(transport: Literal["libr
                 if words[2] in ("stopped", "caught", "ended") and asked.op == "turn":
                     continue  # in place of the act
                 assert before is None, (seed, step, words)
-    if transport == "library":
-        print("\n".join(sorted(met)))
-        assert len(met) >= 30, sorted(met)
+    print("\n".join(sorted(met)))
+    assert len(met) >= 30, sorted(met)
 
 
 # ---- the texts
@@ -76,9 +73,9 @@ def told(call: Callable[[], object]) -> str:
     return str(caught.value).split("] ", 1)[1]
 
 
-@pytest.fixture(params=TRANSPORTS)
-def host(request: pytest.FixtureRequest) -> Iterator[Host]:
-    with Host(transport=request.param) as made:
+@pytest.fixture
+def host() -> Iterator[Host]:
+    with Host() as made:
         yield made
 
 
@@ -170,7 +167,7 @@ def new_lwp(user: User, lwp: int) -> int:
 
 def test_a_younger_lwp_with_a_lower_number() -> None:
     """The search for a free number has gone round, so LWPs in order of birth don't have rising numbers."""
-    with Host(transport="library") as host:
+    with Host() as host:
         user = host.user(1001)
         lwp = user.spawn().tid
         numbers = range(lwp + 1, lwp + 3999)
@@ -207,9 +204,8 @@ def test_a_target_that_has_ended(host: Host) -> None:
     assert told(lambda: user.process(parent).ptrace(Request.PT_ATTACH, 1001)).endswith("ESRCH, 1001 has ended")
 
 
-def test_without_rows_each_possible_condition_is_told(monkeypatch: pytest.MonkeyPatch) -> None:
-    monkeypatch.setenv("TRACEHOST_LIBRARY", "/nowhere/libtracehost.so")
-    with Host(transport="pipe") as session:
+def test_without_rows_each_possible_condition_is_told() -> None:
+    with Host(explain=False) as session:
         user = session.user(1001)
         debugger = user.process(user.spawn())
         user.spawn()

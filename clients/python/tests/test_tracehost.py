@@ -1,4 +1,4 @@
-"""Each call and each kind of reply, through the library or the program that the environment names (`Host`).
+"""Each call and each kind of reply.
 
 What is expected comes from the manual pages, named beside each test, and from the rules in docs/FORMAT.md.
 """
@@ -13,6 +13,7 @@ import sys
 import threading
 import unittest
 from collections.abc import Callable
+from unittest import mock
 
 sys.path.insert(0, str(pathlib.Path(__file__).resolve().parents[1]))
 from tracehost import (
@@ -32,11 +33,11 @@ from tracehost import (
     LwpEvent,
     LwpInfo,
     New,
-    ProgramEnded,
     Raise,
     RefusedStep,
     Request,
     Rule,
+    SessionClosed,
     Signal,
     StopFlag,
     Stopped,
@@ -44,6 +45,8 @@ from tracehost import (
     Waited,
     WaitOption,
 )
+from tracehost.replies import Answered
+from tracehost.typed import TypedCalls
 
 R = Request
 
@@ -423,12 +426,22 @@ class Settings(unittest.TestCase):
                 self.assertEqual(looker.list(), left)
 
 
+class NoMemory(unittest.TestCase):
+    def test_no_memory(self) -> None:
+        """It is an OSError with this system's number, as the other errnos are."""
+        with Host() as host, mock.patch.object(TypedCalls, "_made", side_effect=Answered("ENOMEM")):
+            with self.assertRaisesRegex(OSError, r"spawn\(\) by user 1001: ENOMEM, no memory is left") as caught:
+                host.user(1001).spawn()
+            self.assertEqual(caught.exception.errno, errno.ENOMEM)
+
+
 class Sharing(unittest.TestCase):
     def test_closing(self) -> None:
         host = Host()
         host.user(1001).spawn()
-        self.assertEqual((host.close(), host.close()), (0, 0))
-        with self.assertRaises(ProgramEnded):
+        host.close()
+        host.close()
+        with self.assertRaises(SessionClosed):
             host.user(1001).spawn()
 
     def test_threads_share_a_host(self) -> None:

@@ -10,19 +10,16 @@
         print(debugger.wait4())                                     # Waited(pid=1001, status=4479)
         print(debugger.ptrace(Request.PT_LWPINFO, target.pid))      # LwpInfo(pl_lwpid=100001, ..)
 
-A `Host` is a session: in this process, if the library libtracehost.so is found, else in a program at the end of a
-pipe. A `User` makes the steps that have no caller: a new process, the turn of an LWP. A `Process` is a caller, and has
-the calls of the manual pages. A call returns what the manual page says, or raises:
+A `Host` is a session of the library libtracehost.so, in this process. A `User` makes the steps that have no caller: a new
+process, the turn of an LWP. A `Process` is a caller, and has the calls of the manual pages. A call returns what the
+manual page says, or raises:
 
 - `OSError` with the host's number of the errno that the model answers by name: ESRCH is `ProcessLookupError`,
   EPERM `PermissionError`, ECHILD `ChildProcessError` and EAGAIN `BlockingIOError`;
 - `Held` if the caller, or the LWP at its turn, doesn't run;
-- `RefusedStep` if the program takes what was sent for no step (a user outside 1001 to 1064, a 17th rule), with the
-  reason and the line;
-- `ProgramEnded` if the program has ended, with the kinds `SessionClosed` and `SessionForked`, and `ProtocolError`
-  if a line can't be understood;
-- `RecordingFailed` if a step can't be recorded, and `SessionBusy` for a call from a signal handler that has
-  interrupted another call.
+- `RefusedStep` if what was sent is no step (a user outside 1001 to 1064, a 17th rule), with the reason and the line;
+- `SessionClosed` after `Host.close`, `RecordingFailed` if a step can't be recorded, and `SessionBusy` for a call from a
+  signal handler that has interrupted another call.
 
 ``tracehost session.json`` prints the lines of the recorded session again, and `view` makes a page that shows it.
 ``block=True`` lets `wait4`, `handle` and `turn` sleep until another thread's step has brought news; `Host.run` runs
@@ -34,31 +31,47 @@ Signals and the codes of system calls have FreeBSD's numbers, whatever the machi
 <sys/signal.h> and <sys/wait.h>. docs/FORMAT.md describes the meaning of each call, and the protocol.
 """
 
-from .errors import (
-    Held,
-    ProgramEnded,
-    ProtocolError,
-    RecordingFailed,
-    RefusedStep,
-    SessionBusy,
-    SessionClosed,
-    SessionForked,
-)
+from __future__ import annotations
+
+from typing import TYPE_CHECKING
+
+from .errors import Held, RecordingFailed, RefusedStep, SessionBusy, SessionClosed
 from .host import Host, Process, User
 from .names import Action, Call, Decision, EventMask, LwpEvent, Request, Signal, StopFlag, WaitOption
-from .naming import describe
 from .replies import Caught, Ended, Handled, LwpInfo, New, Stopped, Turned, Waited
-from .rows import DueStop, LwpMode, LwpRow, ProcessRow, ProcessState, View
 from .steps import Act, Block, Compute, Enter, Leave, Raise, Rule
-from .viewing import view
+
+if TYPE_CHECKING:
+    from .naming import describe
+    from .rows import DueStop, LwpMode, LwpRow, ProcessRow, ProcessState, View
+    from .viewing import view
 
 # tools/format version
-__version__ = "0.22.0"
+__version__ = "0.24.0"
 # end
 
 __all__ = [
     "Act", "Action", "Block", "Call", "Caught", "Compute", "Decision", "DueStop", "Ended", "Enter", "EventMask",
     "Handled", "Held", "Host", "Leave", "LwpEvent", "LwpInfo", "LwpMode", "LwpRow", "New", "Process", "ProcessRow",
-    "ProcessState", "ProgramEnded", "ProtocolError", "Raise", "RecordingFailed", "RefusedStep", "Request", "Rule",
-    "SessionBusy", "SessionClosed", "SessionForked", "Signal", "StopFlag", "Stopped", "Turned", "User", "View", "WaitOption", "Waited", "describe", "view",
+    "ProcessState", "Raise", "RecordingFailed", "RefusedStep", "Request", "Rule",
+    "SessionBusy", "SessionClosed", "Signal", "StopFlag", "Stopped", "Turned", "User", "View", "WaitOption", "Waited", "describe", "view",
 ]  # fmt: skip
+
+# modules that most tests need not import
+_LATER = {
+    "describe": "naming", "view": "viewing",
+    **dict.fromkeys(("DueStop", "LwpMode", "LwpRow", "ProcessRow", "ProcessState", "View"), "rows"),
+}  # fmt: skip
+
+
+def __dir__() -> list[str]:
+    return __all__
+
+
+def __getattr__(name: str) -> object:
+    if name not in _LATER:
+        raise AttributeError(f"module {__name__!r} has no attribute {name!r}")
+    from importlib import import_module
+
+    globals()[name] = getattr(import_module(f".{_LATER[name]}", __name__), name)
+    return globals()[name]

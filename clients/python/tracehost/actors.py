@@ -6,7 +6,7 @@ import enum
 import json
 import threading
 from collections.abc import Callable, Generator, Iterable, Mapping, Sequence
-from typing import Any, Generic, Optional, TypeVar, Union
+from typing import TYPE_CHECKING, Any, Generic, Optional, TypeVar, Union
 
 from . import host as hosts
 from .checks import of_kind, whole
@@ -16,7 +16,11 @@ from .names import Action, Request, StopFlag, WaitOption
 from .recording import Recording
 from .replies import NOTHING, Caught, Handled, New, Stopped, Turned, Waited
 from .steps import Act, Block, Compute, Enter, Leave, Raise, Rule, check_act
-from .text import Sent
+
+if TYPE_CHECKING:
+    from typing_extensions import ParamSpec
+
+    _Arguments = ParamSpec("_Arguments")
 
 _T = TypeVar("_T")
 ZOMBIE = 3
@@ -39,7 +43,7 @@ class Look:
 
 
 class Explored(Host):
-    """The host in a state of a search: over the library, with the users that are searched."""
+    """The host in a state of a search: with the users that are searched."""
 
     def __init__(
         self,
@@ -85,21 +89,24 @@ class Explored(Host):
         copy._is_copy, copy.seen = True, self.seen
         return copy
 
-    def _alone(self, function: Callable[..., _T], *arguments: Any) -> _T:
+    def _alone(self, function: Callable[_Arguments, _T], *arguments: _Arguments.args, **none: _Arguments.kwargs) -> _T:
         if function != self._close:
             if self._look.is_over if self._look is not None else not self.is_open:
                 what = "copy is that of another look" if self._is_copy else "host is that of the world's beginning"
                 raise TypeError(f"this {what}: a coroutine awaits calls of a tracehost.explore.Process")
             if not self.is_open and function not in (self._view, self.session.copy):
                 raise ValueError("a function that looks at a state makes no step; host.copy() may")
+        called: Any = function
+        if self._is_copy and called != self._calls.line and getattr(called, "__self__", None) is self._calls:
+            self._sees(arguments[0])
         return super()._alone(function, *arguments)
 
-    def _call_alone(self, name: str, arguments: tuple[Any, ...], explains_held: bool = True) -> Any:
+    def _call_and_see(self, quiet: object, call: Callable[..., Any], *arguments: Any) -> tuple[Any, int]:
         if self._is_copy:
             self._sees(arguments[0])
-        return super()._call_alone(name, arguments, explains_held)
+        return super()._call_and_see(quiet, call, *arguments)
 
-    def _send(self, text: str) -> Sent:
+    def _send(self, text: str) -> str:
         if self._is_copy:
             step = json.loads(text)
             self._sees(step.get("user") if isinstance(step, dict) else None)

@@ -5,6 +5,7 @@ from __future__ import annotations
 import sys
 import threading
 import time
+from collections import defaultdict
 from collections.abc import Callable, Sequence
 from types import FrameType
 from typing import Any, Optional
@@ -18,7 +19,7 @@ class Progress:
     """Counts each user's steps that may have changed something, and lets threads sleep until the next one."""
 
     def __init__(self) -> None:
-        self._counts: dict[int, int] = {}
+        self._counts: defaultdict[int, int] = defaultdict(int)
         self._news = threading.Condition()
         self._sleepers = 0
         self._closed = False
@@ -26,14 +27,14 @@ class Progress:
 
     def note(self, uid: int) -> None:
         """Counts a step of the user that may have changed something. One thread at a time calls it."""
-        self._counts[uid] = self._counts.get(uid, 0) + 1
+        self._counts[uid] += 1
         if self._sleepers:  # looked at after the count, which a sleeper looks at after it is counted here
             with self._news:
                 self._news.notify_all()
 
     def seen(self, uid: int) -> int:
         """The user's count."""
-        return self._counts.get(uid, 0)
+        return self._counts[uid]
 
     def in_child(self) -> None:
         """After fork(2), in the child: no other thread sleeps there, or runs functions by turns."""

@@ -8,8 +8,8 @@
 
 A test that fails leaves its scenario, its lines and its page in the folder that the environment's ``TRACEHOST_ARTIFACTS``
 names, else in a new one for temporary files, and its report says where, and what its session comes to; standard error does if
-the result has no list of reports. One that passes leaves nothing. What can't be
-recorded is told there, and fails nothing. A test whose process dies leaves a scenario with the process's number at the end
+the result has no list of reports. One that passes leaves nothing. If ``TRACEHOST_TRACES`` names a folder, each test leaves a
+copy of its scenario there. What can't be recorded is told there, and fails nothing. A test whose process dies leaves a scenario with the process's number at the end
 of its name; the next run of such a test case tells of it.
 """
 

@@ -3,8 +3,7 @@
 from __future__ import annotations
 
 import functools
-import subprocess
-from pathlib import Path
+import os
 from typing import Optional
 
 
@@ -15,13 +14,15 @@ def answer_of(tool: str) -> Optional[str]:
     They compare digests of the sources and of the files. Raises FileNotFoundError with what they say if neither what
     was built there nor the release is of the present sources, or the release is damaged.
     """
-    folders = list(Path(__file__).resolve().parents)[3:4]
-    if not folders or not (folders[0] / "crates.txt").exists():
+    top = os.path.realpath(f"{__file__}/../../../..")
+    if not os.path.exists(f"{top}/crates.txt"):
         return None
+    import subprocess  # installed packages need none
+
     done = subprocess.run(
-        [folders[0] / "tools" / tool],
+        [f"{top}/tools/{tool}"],
         stdin=subprocess.DEVNULL, stdout=subprocess.PIPE, stderr=subprocess.PIPE, encoding="utf-8", errors="replace",
     )  # fmt: skip
     if done.returncode:
-        raise FileNotFoundError(done.stderr.strip() or f"{folders[0] / 'tools' / tool}: status {done.returncode}")
+        raise FileNotFoundError(done.stderr.strip() or f"{top}/tools/{tool}: status {done.returncode}")
     return done.stdout.strip()

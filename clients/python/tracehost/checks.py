@@ -2,10 +2,8 @@
 
 from __future__ import annotations
 
-import difflib
 import enum
 import operator
-import signal
 from collections.abc import Mapping
 from typing import Any, TypeVar
 
@@ -22,7 +20,9 @@ def whole(name: str, value: object, kind: type[enum.Enum] = Signal) -> int:
     """The value as a whole number. Neither a bool nor a signal of this system is one: its number may be another's. `kind` has
     the names that a text may mean.
     """
-    if isinstance(value, (bool, signal.Signals)):
+    if type(value) is int:
+        return value
+    if isinstance(value, bool) or _is_foreign(value):
         raise _wrong(name, value, kind)
     try:
         return int(operator.index(value))  # type: ignore[arg-type]  # the index of an IntEnum is one in Python 3.9
@@ -32,6 +32,8 @@ def whole(name: str, value: object, kind: type[enum.Enum] = Signal) -> int:
 
 def word(name: str, value: object, kind: type[enum.Enum] = Signal) -> int:
     """A number of C's 32 bits, as the protocol has it: -1 is 4294967295."""
+    if type(value) is int and value >= 0:
+        return value
     number = whole(name, value, kind)
     return number + (1 << 32) if -(1 << 31) <= number < 0 else number
 
@@ -57,7 +59,7 @@ def without_foreign_signals(step: Mapping[str, Any]) -> Mapping[str, Any]:
         raise TypeError(f'step: expected a mapping, such as {{"user": 1001, "op": "spawn"}}, got {step!r}')
     for key, value in step.items():
         for item in value if isinstance(value, (list, tuple)) else (value,):
-            if isinstance(item, signal.Signals):
+            if _is_foreign(item):
                 raise _wrong(key, item, Signal)
             if isinstance(item, Request):
                 raise TypeError(f'{key}: expected a name, got {item!r}; write "{item.name}"')
@@ -66,19 +68,24 @@ def without_foreign_signals(step: Mapping[str, Any]) -> Mapping[str, Any]:
     return step
 
 
+def _is_foreign(value: object) -> bool:
+    """Whether it is one of `signal.Signals`. Most tests need not import that."""
+    return type(value).__name__ == "Signals" and type(value).__module__ == "signal"
+
+
 def _wrong(name: str, value: object, kind: type[enum.Enum]) -> TypeError:
     return TypeError(f"{name}: expected a whole number, got {value!r}{_hint(value, kind)}")
 
 
-def _hint(value: object, kind: type[enum.Enum]) -> str:
+def _hint(value: Any, kind: type[enum.Enum]) -> str:
     """What to write in the place of a value that is no whole number."""
     if isinstance(value, New):
         return "; it has a pid and a tid"
     if isinstance(value, bool):
         return f"; write {int(value)}"
-    if isinstance(value, signal.Signals) and value.name not in Signal.__members__:
+    if _is_foreign(value) and value.name not in Signal.__members__:
         return f", a signal of this system; FreeBSD has no {value.name}"
-    if isinstance(value, signal.Signals):
+    if _is_foreign(value):
         return f", a signal of this system; write Signal.{value.name}"
     if isinstance(value, float) and value.is_integer():
         return f"; write {int(value)}"
@@ -101,6 +108,8 @@ _FEW = 8
 
 def _member(value: object, kind: type[enum.Enum]) -> str:
     """The member of this value or name, or of one like it; of few members all of them."""
+    import difflib
+
     for member in kind:
         if value == member.value or value == member.name:
             return f"; write {kind.__name__}.{member.name}"

@@ -21,7 +21,6 @@ from collections.abc import Sequence
 from typing import Optional
 
 from .comparing import differences_of
-from .errors import ProgramEnded
 from .outputs import Parser, closed, status_of
 from .prompt import Prompt
 from .saving import Session, read_session
@@ -81,7 +80,7 @@ def _options() -> argparse.ArgumentParser:
         help="last: the last step and its reply (the default); reply=TEXT: a reply with these words; fault: the fault of a "
         "refused scenario; status=COMMAND: the status of a shell's command, in which {} is the scenario",
     )
-    parser.add_argument("--program", help="the program; what Host chooses if it isn't given")
+    parser.add_argument("--program", help="the program that runs scenarios; else $TRACEHOST, else the package's own")
     parser.add_argument("--kill-on-debugger-exit", choices=("0", "1"), help="of a new session, as for tracehost --lines")
     return parser
 
@@ -132,19 +131,11 @@ def _run(words: Optional[Sequence[str]]) -> int:
     if given.story:
         print("\n".join(story(session, given.called or given.file, given.at, given.program)))
         return 0
-    try:
-        prompt = Prompt(session, given.at, given.program)
-    except OSError as error:
-        if given.program is None:
-            raise
-        parser.error(f"{error.filename or given.program}: {error.strerror}")
+    prompt = Prompt(session, given.at, given.program)
     try:
         if given.batch is not None:
             return prompt.batch(given.batch)
         return _converse(prompt, given.file == "-")
-    except ProgramEnded as error:
-        print(error, file=sys.stderr)
-        return 1
     finally:
         prompt.close()
 

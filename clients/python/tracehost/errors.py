@@ -2,8 +2,7 @@
 
 from __future__ import annotations
 
-from collections.abc import Callable
-from typing import Any, Optional
+from typing import Any
 
 
 class Held(Exception):
@@ -14,70 +13,26 @@ class Held(Exception):
 
 
 class RefusedStep(ValueError):
-    """The text that was sent isn't a step. Nothing was done."""
+    """The text that was sent isn't a step. Nothing was done.
 
-    fault: str
-    """The fault's name in docs/FORMAT.md, section 8."""
-    line: str
-    """The line that was sent."""
-    ask: Optional[Callable[[str], str]] = None
-    """Who says why a line is refused, if the transport doesn't."""
+    `fault` is its name in docs/FORMAT.md, section 8, `reason` the library's explanation, in words that may change, or "" if
+    nobody wants it (`Host`), and `line` what was sent.
+    """
 
     def __init__(self, fault: str, reason: str = "", line: str = "") -> None:
         super().__init__(fault, reason, line)
-        self.fault = fault
-        self._reason = reason
-        self.line = line
-
-    @property
-    def reason(self) -> str:
-        """The program's explanation, in words that may change; "" if it gave none.
-
-        Over the library the program is asked when this is read first, or printed.
-        """
-        if not self._reason and self.ask is not None:
-            self._reason, self.ask = self.ask(self.line), None
-        return self._reason
+        self.fault, self.reason, self.line = fault, reason, line
 
     def __str__(self) -> str:
         text = self.fault if not self.reason else f"{self.fault}: {self.reason}"
         return text if not self.line else f"{text}\n  sent: {self.line}"
 
 
-class ProtocolError(Exception):
-    """The program's line isn't one that docs/FORMAT.md describes."""
+class SessionClosed(Exception):
+    """The session was closed: `Host.close`, the end of a ``with``, or a step that can't be recorded."""
 
-
-class ProgramEnded(ProtocolError):
-    """The program has ended before it answered."""
-
-    status: int | None
-    """Its exit status, negative for a signal; None if that isn't known."""
-
-    def __init__(self, status: int | None, errors: str = "", program: str = "") -> None:
-        ended = f"the program {program}".rstrip() + " has ended"
-        if status is not None:
-            ended += f" with status {status}"
-        super().__init__(f"{ended}: {errors.strip()}" if errors.strip() else ended)
-        self.status = status
-
-
-class SessionClosed(ProgramEnded):
-    """The session was closed: `Host.close`, or the end of a ``with``."""
-
-    def __init__(self, status: int | None = 0) -> None:
-        ProtocolError.__init__(self, "the session is closed")
-        self.status = status
-
-
-class SessionForked(ProgramEnded):
-    """The session over a pipe was opened before fork(2), and is the parent's. Open another one in the child."""
-
-    def __init__(self, owner: int) -> None:
-        ProtocolError.__init__(
-            self, f"the session belongs to process {owner}, which opened it before a fork; this process needs its own"
-        )
-        self.status = None
+    def __init__(self) -> None:
+        super().__init__("the session is closed")
 
 
 class SessionBusy(RuntimeError):

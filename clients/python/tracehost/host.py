@@ -2,121 +2,87 @@
 
 from __future__ import annotations
 
-import json
+import errno
 import os
 import sys
 import threading
 import time
 from collections.abc import Callable, Iterable, Mapping, Sequence
 from types import FrameType, TracebackType
-from typing import Any, Literal, NoReturn, Optional, TypeVar, Union, overload
+from typing import TYPE_CHECKING, Any, Literal, NoReturn, Optional, TypeVar, overload
 
-from . import deadlock, forks
+from . import forks
 from .blocking import Progress, is_running
 from .checks import number_of_process, of_kind, whole, without_foreign_signals, word
-from .errors import Held, ProtocolError, RecordingFailed, RefusedStep, SessionBusy, SessionClosed, hides_from_pytest
+from .errors import Held, RecordingFailed, SessionBusy, hides_from_pytest
 from .library import RawRows, Session, find
+from .lines import line_of, raise_answer, reason_in
 from .names import ALL_EVENTS, CALLER_OPS, OPTIONS, Action, Decision, EventMask, Request, WaitOption, names_of
-from .pipe import SECONDS_TO_END, Pipe
-from .program import asked_for, command
-from .recording import Recording
-from .refusals import Asked, Rows, asked_by, explanation, refusal
-from .replica import Replica
 from .replies import NOTHING, Answered, Handled, LwpInfo, New, Turned, Waited
-from .rows import View, lwp_row, process_row
 from .steps import Act, Rule, check_act
-from .text import Sent, TextCalls, ask_program, words_of
 from .typed import NotTyped, TypedCalls
 from .verdicts import REQUESTS, Verdict, verdict
 
+if TYPE_CHECKING:
+    from typing_extensions import ParamSpec
+
+    from .recording import Recording
+    from .refusals import Asked, Rows
+    from .rows import View
+
+    _Arguments = ParamSpec("_Arguments")
+
 __tracebackhide__ = hides_from_pytest
 
-_ENCODE = json.JSONEncoder(separators=(",", ":")).encode
 _Result = TypeVar("_Result")
+_SET_EVENT_MASK, _NO_OPTION, _WNOHANG = Request.PT_SET_EVENT_MASK, WaitOption(0), WaitOption.WNOHANG
 
 
 class Host:
-    """A session with a new host. Threads may share it: calls wait for each other."""
-
-    transport: Literal["library", "pipe"]
-    """Whether the session is in this process, or in a running ``tracehost --lines``."""
+    """A session with a new host, in this process. Threads may share it: calls wait for each other."""
 
     def __init__(
         self,
-        program: str | os.PathLike[str] | None = None,
         *,
-        transport: Literal["library", "pipe"] | None = None,
         kill_on_debugger_exit: bool | None = None,
         record: str | os.PathLike[str] | None = None,
         record_lines: str | os.PathLike[str] | None = None,
         explain: bool = True,
     ) -> None:
-        """Opens a session of the library, or starts a program.
-
-        `program` is what a pipe leads to. Without it: what the environment's ``TRACEHOST`` names, else the program that
-        was installed with this package, else ``tracehost`` on the path. The library is what ``TRACEHOST_LIBRARY``
-        names, else the package's own. Without `transport` the session is in the library if ``TRACEHOST_LIBRARY`` is
-        set, or if there is one and neither `program` nor ``TRACEHOST`` names a program.
+        """Opens a session of the library that the environment's ``TRACEHOST_LIBRARY`` names, else the package's own.
 
         `kill_on_debugger_exit` is the sysctl kern.kill_on_debugger_exit: whether the end of a debugger kills the
         processes that it traces. `record` is a file that becomes a scenario with the steps of the session, and is one
         after each step; `record_lines` gets the lines that were answered, for ``--expect``.
 
-        With `explain` the program says why it refuses a step, which is `RefusedStep.reason`, and an OSError says which
-        condition held, by a look at the user's rows. Without it the program's standard error is this process's, and an
-        OSError names each condition that is possible. The library gives no reasons: `RefusedStep.reason` asks the
-        program then. Raises OSError if the program can't be started, the library can't be loaded, or a file can't be
-        made.
+        With `explain` the library says why it refuses a step, which is `RefusedStep.reason`, and an OSError says which
+        condition held, by a look at the user's rows. Without it an OSError names each condition that is possible. Raises
+        OSError if there is no library, it can't be loaded, or a file can't be made, and MemoryError.
         """
         if record is None and record_lines is not None:
             raise ValueError("record_lines goes with record")
-        if transport not in (None, "library", "pipe"):
-            raise ValueError(f"transport: expected 'library' or 'pipe', got {transport!r}")
-        if transport == "library" and program is not None:
-            raise ValueError("program: it goes with a pipe")
-        wants_library = transport == "library"
-        library = None
-        if wants_library or (transport is None and program is None and not asked_for()):
-            library = find(needed=wants_library)
-        recording = None if record is None else Recording(record, kill_on_debugger_exit, record_lines)
-        made: Union[Session, Pipe]
-        try:
-            if library is not None:
-                made = Session(library, kill_on_debugger_exit is not False)
-            else:
-                made = Pipe(command(program, kill_on_debugger_exit, explain), keep_errors=explain)
-        except BaseException:
-            if recording is not None:
-                recording.close()
-            raise
-        self._begin(made, recording, kill_on_debugger_exit is not False, explain)
+        session, recording = Session(find(), kill_on_debugger_exit is not False), None
+        if record is not None:
+            from .recording import Recording
 
-    def _begin(
-        self,
-        made: Union[Session, Pipe],
-        recording: Optional[Recording],
-        kill_on_debugger_exit: bool = True,
-        explain: bool = True,
-    ) -> None:
-        self._made = made
-        self._replica = None if isinstance(made, Session) else Replica(kill_on_debugger_exit)
+            recording = Recording(record, kill_on_debugger_exit, record_lines)
+        self._begin(session, recording, explain)
+
+    def _begin(self, session: Session, recording: Optional[Recording], explain: bool) -> None:
+        self._session = session
         self._recording = recording
         self._explains = explain
         self._progress = Progress()
         # a signal handler and a ``__del__`` run in the thread of a call, which a plain lock would stop for ever
         self._lock = threading.RLock()
         self._call_in: Optional[FrameType] = None
-        self._text = TextCalls(made, self._progress, recording, self._replica)
-        self._typed = TypedCalls(made, self._progress) if isinstance(made, Session) and recording is None else None
-        self.transport = "library" if isinstance(made, Session) else "pipe"
+        self._calls = TypedCalls(session, self._progress, recording)
         forks.tell(self)
 
     def in_child(self) -> None:
-        """After fork(2), in the child: over the library it has a copy of the session, which isn't recorded."""
+        """After fork(2), in the child: it has a copy of the session, which isn't recorded."""
         self._lock, self._call_in = threading.RLock(), None
         self._progress.in_child()
-        if self._replica is not None and isinstance(self._made, Pipe):
-            self._replica.end(self._made.why_ended())
         if self._recording is not None:
             self._recording.in_child()
 
@@ -126,30 +92,15 @@ class Host:
     def __exit__(self, kind: type[BaseException] | None, error: BaseException | None, trace: TracebackType | None) -> None:
         self.close()
 
-    def close(self) -> int:
-        """Ends the session, waits for the program, and returns its exit status. Closing again does nothing.
+    def close(self) -> None:
+        """Ends the session. Another thread's call that sleeps raises SessionClosed. Closing again does nothing."""
+        self._alone(self._close)
 
-        Another thread's call that sleeps raises SessionClosed. A program that doesn't end in five seconds is killed.
-        """
-        if isinstance(self._made, Session):
-            return self._alone(self._close)
-        for _ in range(2):
-            if self._lock.acquire(timeout=SECONDS_TO_END):
-                try:
-                    return self._alone(self._close)
-                finally:
-                    self._lock.release()
-            self._made.kill()
-        return self._close()  # a process that the program has left keeps that thread waiting
-
-    def _close(self) -> int:
-        status = self._made.close()
+    def _close(self) -> None:
+        self._session.close()
         self._progress.close()
-        if self._replica is not None:
-            self._replica.end(SessionClosed(status))
         if self._recording is not None:
             self._recording.close()
-        return status
 
     def stop_recording(self) -> None:
         """Later steps aren't recorded. The files are those of the steps so far."""
@@ -159,12 +110,10 @@ class Host:
     def copy(self) -> Host:
         """A host at the present state of this one: the same machine, with no recording. Both go their own ways.
 
-        Raises NotImplementedError over a pipe, SessionClosed and MemoryError.
+        Raises SessionClosed and MemoryError.
         """
-        if not isinstance(self._made, Session):
-            raise NotImplementedError("copy: it needs transport='library'")
         host = Host.__new__(Host)
-        host._begin(self._alone(self._made.copy), None, explain=self._explains)
+        host._begin(self._alone(self._session.copy), None, self._explains)
         return host
 
     def __reduce__(self) -> NoReturn:
@@ -175,31 +124,33 @@ class Host:
         """Sends a line as it is, and returns the line of its answer, without their line feeds.
 
         It raises nothing for `refused`, `held` and `error`. Raises ValueError if `text` has a line feed of its own,
-        UnicodeEncodeError if it can't be encoded, and ProgramEnded.
+        UnicodeEncodeError if it can't be encoded, and SessionClosed.
         """
         if not isinstance(text, str):
             raise TypeError(f"text: expected a text, got {text!r}")
         if "\n" in text:
             raise ValueError("text: a line feed ends the line; send one line at a time")
-        return self._send(text).line
+        return self._send(text)
 
     def step(self, step: Mapping[str, Any]) -> str:
         """Sends a step as docs/FORMAT.md describes it, and returns the line of its answer.
 
         It raises what the other calls raise: RefusedStep, Held and OSError.
         """
-        text = _ENCODE(without_foreign_signals(step))
+        import json
+
+        text = json.dumps(without_foreign_signals(step), separators=(",", ":"))
         return self._alone(self._step, text, step)
 
     def _step(self, text: str, step: Mapping[str, Any]) -> str:
-        sent = self._text.send(text)
+        from .refusals import asked_by
+
+        answer = self._calls.line(text)
         try:
-            words_of(text, sent, str(step.get("user")))
-        except Answered as answered:
-            raise self._refusal(answered, asked_by(step)) from None
-        except Held:
-            raise self._held(asked_by(step)) from None
-        return sent.line
+            raise_answer(text, answer, self._reason)
+        except (Answered, Held) as refusal:
+            raise self._refusal(refusal, asked_by(step)) from None
+        return answer
 
     def run(self, *functions: Callable[[], Any]) -> list[Any]:
         """Runs the functions, each in a thread of its own, and returns their results.
@@ -214,11 +165,14 @@ class Host:
         """The user with this number, 1001 to 1064."""
         return User(self, uid)
 
-    def _send(self, text: str) -> Sent:
-        return self._alone(self._text.send, text)
+    def _send(self, text: str) -> str:
+        return self._alone(self._calls.line, text)
 
-    def _alone(self, function: Callable[..., _Result], *arguments: Any) -> _Result:
-        """Calls the function while no other call of the session runs. Raises SessionBusy."""
+    def _alone(self, function: Callable[_Arguments, _Result], *arguments: _Arguments.args, **none: _Arguments.kwargs) -> _Result:
+        """Calls the function, one of `TypedCalls` as an example, while no other call of the session runs.
+
+        Raises SessionBusy, and as Held and OSError what was answered, with the condition that held.
+        """
         with self._lock:
             # Python 3.9 may raise KeyboardInterrupt before the frame is taken away, so one that has ended is none
             if self._call_in is not None and is_running(self._call_in):
@@ -226,97 +180,104 @@ class Host:
             try:
                 self._call_in = sys._getframe()
                 return function(*arguments)
+            except (Answered, Held, NotTyped) as refusal:
+                raise self._explained(refusal, function, arguments) from None
             except RecordingFailed:
                 self._close()
-                raise
-            except RefusedStep as refused:
-                if self._explains and isinstance(self._made, Session):
-                    refused.ask = ask_program
                 raise
             finally:
                 self._call_in = None
 
-    def _call(self, name: str, *arguments: Any) -> Any:
-        """Makes the call of this name (`TextCalls`, `TypedCalls`)."""
-        return self._alone(self._call_alone, name, arguments)
+    def _explained(self, refusal: Exception, function: Callable[..., Any], arguments: Sequence[Any]) -> Exception:
+        """What is raised for the refusal of a call of `TypedCalls`."""
+        if function == self._call_and_see:
+            _, function, *arguments = arguments
+        if function == self._step:
+            return refusal  # with its words already
+        op = function.__name__
+        if isinstance(refusal, NotTyped):
+            line = line_of(op, arguments)
+            try:
+                raise_answer(line, self._calls.line(line), self._reason)
+            except ValueError as refused:
+                return refused
+            raise AssertionError(f"the library makes no such call, and a step of {line}")
+        caller = arguments[1] if op in CALLER_OPS else 0
+        rest = arguments[2:] if op in CALLER_OPS else arguments[1:]
+        from .refusals import Asked
 
-    def _call_alone(self, name: str, arguments: tuple[Any, ...], explains_held: bool = True) -> Any:
-        try:
-            typed = getattr(self._typed, name, None)
-            if typed is not None:
-                try:
-                    return typed(*arguments)
-                except NotTyped:
-                    pass
-            return getattr(self._text, name)(*arguments)
-        except Answered as answered:
-            raise self._refusal(answered, _asked(name, arguments)) from None
-        except Held:
-            if not explains_held:
-                raise
-            raise self._held(_asked(name, arguments)) from None
+        return self._refusal(refusal, Asked(op, arguments[0], caller, rest))
 
-    def _held(self, asked: Asked) -> Held:
-        return Held(explanation("held", asked, lambda: self._known_rows(asked.user)))
+    def _refusal(self, refusal: Exception, asked: Asked) -> Exception:
+        """The Held, or OSError with this system's number, for an answer, with its words."""
+        if isinstance(refusal, Answered):
+            return OSError(getattr(errno, refusal.name), self._words(refusal.name, asked))
+        return Held(self._words("held", asked))
 
-    def _refusal(self, answered: Answered, asked: Asked) -> OSError:
-        return refusal(answered.name, asked, lambda: self._known_rows(asked.user))
+    def _words(self, answer: str, asked: Asked) -> str:
+        """What an errno, or ``held``, says of a call."""
+        from .refusals import explanation
+
+        return explanation(answer, asked, lambda: self._known_rows(asked.user))
+
+    def _reason(self, line: str) -> str:
+        """Why a line isn't a step."""
+        return reason_in(self._session.explain(line) or "") if self._explains else ""
 
     def _known_rows(self, uid: int) -> Optional[Rows]:
-        """The user's rows; None if nothing has them, as over a pipe without the library."""
-        if not self._explains:
-            return None
+        """The user's rows; None if nobody wants them, or there is no memory."""
+        from .refusals import Rows
+
         try:
-            return Rows(self._rows(uid))
-        except (NotImplementedError, ProtocolError, MemoryError, ValueError):
+            return Rows(self._rows(uid)) if self._explains else None
+        except (MemoryError, ValueError):
             return None
 
-    def _call_and_see(self, name: str, arguments: tuple[Any, ...], quiet: object) -> tuple[Any, int]:
+    def _call_and_see(self, quiet: object, call: Callable[..., Any], *arguments: Any) -> tuple[Any, int]:
         """The result of a call, Held if that is quiet, and how many steps its user has had until then."""
         try:
-            result = self._call_alone(name, arguments, explains_held=quiet is not Held)
+            result = call(*arguments)
         except Held:
             if quiet is not Held:
                 raise
             result = Held
         return result, self._progress.seen(arguments[0])
 
-    def _news(self, quiet: object, timeout: float | None, what: str, name: str, *arguments: Any) -> Any:
+    def _news(
+        self, quiet: object, timeout: float | None, what: str, call: Callable[_Arguments, _Result],
+        *arguments: _Arguments.args, **none: _Arguments.kwargs,
+    ) -> _Result:  # fmt: skip
         """The first result other than `quiet`, which may be Held: the call is made again after each step that may have
         brought news to its user, the first of its arguments."""
+        from . import deadlock
+
+        uid: Any = arguments[0]
         deadline = None if timeout is None else time.monotonic() + timeout
         while True:
-            result, seen = self._alone(self._call_and_see, name, arguments, quiet)
+            result, seen = self._alone(self._call_and_see, quiet, call, *arguments)
             if result != quiet:
-                return result
+                found: _Result = result
+                return found
             if deadline is None and deadlock.is_alone():
-                raise TimeoutError(
-                    f"{what}: deadlock: it would sleep for ever, as there is no other thread" + self._stops(arguments[0])
-                )
-            self._progress.sleep(arguments[0], seen, deadline, what)
+                raise TimeoutError(f"{what}: deadlock: it would sleep for ever, as there is no other thread" + self._stops(uid))
+            self._progress.sleep(uid, seen, deadline, what)
 
     def _stops(self, uid: int) -> str:
+        from . import deadlock
+
         try:
             return deadlock.sentence(self._alone(self._view, uid).processes)
-        except (NotImplementedError, ProtocolError, MemoryError, ValueError):  # as over a pipe without the library
+        except (MemoryError, ValueError):
             return ""
 
     def _view(self, uid: int) -> View:
+        from .rows import View, lwp_row, process_row
+
         processes, lwps = self._rows(uid)
         return View(tuple(map(process_row, processes)), tuple(map(lwp_row, lwps)))
 
     def _rows(self, uid: int) -> RawRows:
-        if isinstance(self._made, Session):
-            return self._made.rows(uid)
-        assert self._replica is not None
-        return self._replica.rows(uid)
-
-
-def _asked(name: str, arguments: Sequence[Any]) -> Asked:
-    """What was asked by a call of this name."""
-    if name in CALLER_OPS:
-        return Asked(name, arguments[0], arguments[1], arguments[2:])
-    return Asked(name, arguments[0], 0, arguments[1:])
+        return self._session.rows(uid)
 
 
 def _check_timeout(block: bool, timeout: float | None) -> None:
@@ -340,8 +301,7 @@ class User:
 
     def spawn(self) -> New:
         """A new process with one LWP and parent 1. EAGAIN if the user has 250 processes or 1000 LWPs."""
-        new: New = self.host._call("spawn", self.uid)
-        return new
+        return self.host._alone(self.host._calls.spawn, self.uid)
 
     def process(self, pid: int | New) -> Process:
         """The process with this number, or that `spawn` has just made, as a caller.
@@ -357,17 +317,15 @@ class User:
         and raises TimeoutError after `timeout` seconds.
         """
         _check_timeout(block, timeout)
-        call = ("turn", self.uid, word("lwp", lwp), check_act(act))
-        turned: Turned
-        turned = self.host._news(Held, timeout, f"turn of {lwp}", *call) if block else self.host._call(*call)
-        return turned
+        host, number = self.host, word("lwp", lwp)
+        if block:
+            return host._news(Held, timeout, f"turn of {lwp}", host._calls.turn, self.uid, number, check_act(act))
+        return host._alone(host._calls.turn, self.uid, number, check_act(act))
 
     def view(self) -> View:
         """The user's rows: processes by rising number, LWPs in order of birth. No step is made.
 
-        Raises ValueError if this is no user, ProgramEnded and MemoryError. Over a pipe the library makes the steps of
-        the session again: NotImplementedError if there is none, or the session had over 10,000 steps before its first
-        view, and ProtocolError if the library isn't the program's.
+        Raises ValueError if this is no user, SessionClosed and MemoryError.
         """
         if not 0 <= self.uid < 1 << 32:
             raise ValueError(f"{self.uid} is no user")
@@ -410,18 +368,24 @@ class Process:
         PT_TRACE_ME ignores both. PT_LWPINFO returns an `LwpInfo`, PT_GET_EVENT_MASK an `EventMask`, PT_GETNUMLWPS a number, PT_GETLWPLIST the
         numbers of LWPs in order of birth, and every other request None. docs/ERRNOS.md explains each errno.
         """
-        of_kind("request", Request, request)
-        if request == Request.PT_SET_EVENT_MASK and whole("data", data, EventMask) & ~ALL_EVENTS:
-            # bits without a name: the model is asked for what it refuses first, and EINVAL comes last
+        if type(request) is not Request:
+            of_kind("request", Request, request)
+        elif request is _SET_EVENT_MASK and whole("data", data, EventMask) & ~ALL_EVENTS:
+            # bits without a name, which no line has: the model is asked for what it refuses first, and EINVAL comes last
             self.ptrace(Request.PT_GET_EVENT_MASK, target)
+            from .refusals import Asked
+
             asked = Asked("ptrace", self.user.uid, self.pid, (request, target, data))
-            raise refusal("EINVAL", asked, lambda: None)
-        return self._call("ptrace", request, word("target", target), word("data", data))
+            raise self.user.host._refusal(Answered("EINVAL"), asked)
+        user = self.user
+        calls = user.host._calls
+        pid = word("pid", self.pid)
+        return user.host._alone(calls.ptrace, user.uid, pid, request, word("target", target), word("data", data))
 
     def wait4(
         self,
         which: int = -1,
-        options: WaitOption = WaitOption(0),
+        options: WaitOption = _NO_OPTION,
         *,
         block: bool = False,
         timeout: float | None = None,
@@ -432,29 +396,37 @@ class Process:
         something to collect. It raises TimeoutError after `timeout` seconds, or at once if nothing could end it. ECHILD
         if the caller has none that `which` names; EINVAL if `which` is 0 or below -1.
         """
-        asked = whole("options", options, WaitOption)
-        if asked:
+        asked = 0
+        if options is not _NO_OPTION:
+            asked = whole("options", options, WaitOption)
             names_of(asked, OPTIONS)  # ValueError if a bit has no name
-        sleeps = block and not asked & WaitOption.WNOHANG
-        waited: Waited = self._wait(NOTHING, block, sleeps, timeout, "wait4", whole("which", which), asked)
-        return waited
+        user, pid, number = self.user, word("pid", self.pid), whole("which", which)
+        host, call = user.host, user.host._calls.wait4
+        if block or timeout is not None:
+            _check_timeout(block, timeout)
+            if not asked & _WNOHANG:
+                return host._news(NOTHING, timeout, f"wait4 of {self.pid}", call, user.uid, pid, number, asked)
+        return host._alone(call, user.uid, pid, number, asked)
 
     def kill(self, which: int, signal: int) -> None:
         """kill(2): posts a signal (0 for none) to a process, or with -1 to all others of the user."""
-        self._call("kill", whole("which", which), word("signal", signal))
+        user, pid = self.user, word("pid", self.pid)
+        user.host._alone(user.host._calls.kill, user.uid, pid, whole("which", which), word("signal", signal))
 
     def sigaction(self, signal: int, action: Action) -> None:
         """sigaction(2): what the caller does with a signal. EINVAL for no signal, and for SIGKILL and SIGSTOP."""
-        self._call("sigaction", word("signal", signal), of_kind("action", Action, action))
+        user, pid, number = self.user, word("pid", self.pid), word("signal", signal)
+        user.host._alone(user.host._calls.sigaction, user.uid, pid, number, of_kind("action", Action, action))
 
     def list(self) -> tuple[int, ...]:
         """The user's processes, zombies too, by rising number."""
-        pids: tuple[int, ...] = self._call("list")
-        return pids
+        user = self.user
+        return user.host._alone(user.host._calls.list, user.uid, word("pid", self.pid))
 
     def install(self, rules: Iterable[Rule]) -> None:
         """Adds a stop handler with these rules after the caller's others. EAGAIN if the user has 64."""
-        self._call("install", [of_kind("rules", Rule, rule) for rule in rules])
+        user, pid, kept = self.user, word("pid", self.pid), [of_kind("rules", Rule, rule) for rule in rules]
+        user.host._alone(user.host._calls.install, user.uid, pid, kept)
 
     # fmt: off
     @overload
@@ -468,8 +440,11 @@ class Process:
 
         `block` and `timeout` are as for `wait4`.
         """
-        handled: None | Waited | Handled = self._wait(None, block, block, timeout, "handle")
-        return handled
+        _check_timeout(block, timeout)
+        host, uid, pid = self.user.host, self.user.uid, word("pid", self.pid)
+        if block:
+            return host._news(None, timeout, f"handle of {self.pid}", host._calls.handle, uid, pid)
+        return host._alone(host._calls.handle, uid, pid)
 
     def handle_with(
         self, decide: Callable[[Handled], Verdict], *, block: bool = False, timeout: float | None = None
@@ -489,13 +464,3 @@ class Process:
             self.ptrace(request, handled.pid, passed)
         passes = decision in (Decision.CONTINUE, Decision.DETACH)
         return handled._replace(handler=None, decision=decision, pass_signal=passed if passes else None)
-
-    def _call(self, name: str, *arguments: Any) -> Any:
-        return self.user.host._call(name, self.user.uid, word("pid", self.pid), *arguments)
-
-    def _wait(self, quiet: object, asked: bool, block: bool, timeout: float | None, name: str, *arguments: int) -> Any:
-        _check_timeout(asked, timeout)
-        if not block:
-            return self._call(name, *arguments)
-        uid, pid = self.user.uid, word("pid", self.pid)
-        return self.user.host._news(quiet, timeout, f"{name} of {self.pid}", name, uid, pid, *arguments)

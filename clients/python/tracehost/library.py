@@ -7,7 +7,6 @@ import functools
 import os
 from collections.abc import Callable
 from ctypes import POINTER, Array, byref, c_bool, c_char_p, c_size_t, c_uint32, c_uint64
-from pathlib import Path
 from typing import Any, Optional
 
 from . import checkout, packaged
@@ -121,6 +120,7 @@ _TYPES: dict[str, list[Any]] = {
     "close": [_HANDLE],
     "copy": [_HANDLE, _HANDLE],
     "copy_over": [_HANDLE, _HANDLE],
+    "copy_user": [_HANDLE, _HANDLE, c_uint32],
     "explain": [c_char_p, c_size_t, c_size_t, c_char_p, c_size_t, _LENGTH],
     "line": [_HANDLE, c_bool, c_char_p, c_size_t, c_char_p, c_size_t, _LENGTH],
     "last_line": [_HANDLE, c_bool, c_char_p, c_size_t, _LENGTH],
@@ -163,7 +163,7 @@ def load(path: str) -> Library:
     return Library(path)
 
 
-def _own() -> Path:
+def _own() -> str:
     """The library that nobody names: that of this package, else of the checkout that it is run from.
 
     Raises OSError if there is none, if the package's isn't the one that it was built with, and if the checkout's isn't of
@@ -175,27 +175,19 @@ def _own() -> Path:
     folder = checkout.answer_of("library")
     if folder is None:
         raise FileNotFoundError("no libtracehost.so: TRACEHOST_LIBRARY names none, and this package has none")
-    return Path(folder) / _NAME
+    return f"{folder}/{_NAME}"
 
 
-def find(needed: bool = False) -> Optional[Library]:
+def find() -> Library:
     """What the environment's ``TRACEHOST_LIBRARY`` names, else the package's own library, else the checkout's.
 
-    None if there is none, or it doesn't run here. If it is `needed`, or the environment names one, raises OSError.
+    Raises OSError if there is none, or it can't be loaded here.
     """
-    named = os.environ.get("TRACEHOST_LIBRARY")
-    if named:
-        return load(named)
-    try:
-        return load(str(_own()))
-    except OSError:
-        if needed:
-            raise
-        return None
+    return load(os.environ.get("TRACEHOST_LIBRARY") or _own())
 
 
 class Session:
-    """A session of the library: a `Transport` of lines, and a handle for the other calls."""
+    """A session of the library: lines, and a handle for the other calls."""
 
     def __init__(self, library: Library, kill_on_debugger_exit: bool = True) -> None:
         """Opens a session. Raises MemoryError."""
@@ -240,6 +232,13 @@ class Session:
         if other is not self:
             self.check(self.library["copy_over"](self.handle, other.handle))
 
+    def copy_user(self, other: Session, user: int) -> None:
+        """Gives the other session what one user has in this one, for the time and memory of only this user. Raises
+        ValueError for other settings or another user, and MemoryError, and leaves it then.
+        """
+        if other is not self:
+            self.check(self.library["copy_user"](self.handle, other.handle, user))
+
     def _text(self, name: str, *words: object) -> Optional[str]:
         """The text that the call stores; None if it returns INVALID."""
         while True:
@@ -256,9 +255,9 @@ class Session:
         no line is: a mask with bits that no event has."""
         return self._text("last_step", self.handle)
 
-    def last_answer(self) -> str:
-        """The last answer as a JSON object; "" before any."""
-        return (self._text("last_line", self.handle, True) or "").rstrip("\n")
+    def last_line(self, json: bool = False) -> str:
+        """The line of the last answer, in words or as a JSON object; "" before any."""
+        return (self._text("last_line", self.handle, json) or "").rstrip("\n")
 
     def explain(self, line: str, number: int = 1) -> Optional[str]:
         """Why the line isn't a step, as ``tracehost --lines --explain`` prints it; empty if it is one."""
@@ -272,12 +271,8 @@ class Session:
             raise ValueError(f"{uid} is no user")
         return text
 
-    def new_errors(self) -> str:
-        return ""
-
-    def close(self) -> int:
+    def close(self) -> None:
         self.library["close"](self.handle)  # closed already: it returns NOT_OPEN
-        return 0
 
     def _array(self, name: str, *words: object) -> tuple[int, ...]:
         """The numbers that the call stores."""

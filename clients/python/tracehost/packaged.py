@@ -3,29 +3,32 @@
 from __future__ import annotations
 
 import functools
-import hashlib
-from pathlib import Path
+import os
 from typing import Optional
 
 _SUMS = "SHA256SUMS"
 
 
 @functools.lru_cache(maxsize=None)
-def file_of(name: str) -> Optional[Path]:
-    """The package's file of this name; None if it has none.
+def file_of(name: str) -> Optional[str]:
+    """The path of the package's file of this name; None if it has none.
 
     Raises FileNotFoundError, with the reason, if it isn't the file that the package was built with. The package has the
     digests in the form of sha256sum(1).
     """
-    package = Path(__file__).resolve().parent
-    path = package / name
-    if not path.exists():
+    package = os.path.dirname(os.path.realpath(__file__))
+    path = f"{package}/{name}"
+    if not os.path.exists(path):
         return None
+    import hashlib  # takes as long to import as all of the client
+
     try:
-        lines = (package / _SUMS).read_text(encoding="ascii").splitlines()
+        with open(f"{package}/{_SUMS}", encoding="ascii") as sums:
+            lines = sums.read().splitlines()
     except (OSError, ValueError):
         raise FileNotFoundError(f"{path}: the package has no {_SUMS} to compare it with; install it again") from None
-    digest = hashlib.sha256(path.read_bytes()).hexdigest()
+    with open(path, "rb") as file:
+        digest = hashlib.sha256(file.read()).hexdigest()
     if f"{digest}  {name}" not in lines:
-        raise FileNotFoundError(f"{path}: its digest isn't that of {package / _SUMS}: it was changed; install the package again")
+        raise FileNotFoundError(f"{path}: its digest isn't that of {package}/{_SUMS}: it was changed; install the package again")
     return path

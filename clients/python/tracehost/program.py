@@ -14,7 +14,7 @@ def bundled() -> str | None:
     Raises FileNotFoundError if it isn't the one that the package was built with.
     """
     path = packaged.file_of("bin/tracehost")
-    return str(path) if path is not None and os.access(path, os.X_OK) else None
+    return path if path is not None and os.access(path, os.X_OK) else None
 
 
 def default() -> str:
@@ -24,19 +24,6 @@ def default() -> str:
     Raises FileNotFoundError if the checkout's isn't of its present sources, or the package's was changed.
     """
     return os.environ.get("TRACEHOST") or bundled() or checkout.answer_of("program") or "tracehost"
-
-
-def asked_for() -> bool:
-    """Whether the environment names a program, and no library."""
-    return bool(os.environ.get("TRACEHOST")) and not os.environ.get("TRACEHOST_LIBRARY")
-
-
-def command(program: str | os.PathLike[str] | None, kill_on_debugger_exit: bool | None, explain: bool) -> list[str]:
-    """The words that start a session over a pipe."""
-    words = [os.fspath(program or default()), "--lines", f"--explain={'always' if explain else 'never'}"]
-    if kill_on_debugger_exit is not None:
-        words += ["--kill-on-debugger-exit", str(int(kill_on_debugger_exit))]
-    return words
 
 
 def explained(words: Sequence[str]) -> Sequence[str]:

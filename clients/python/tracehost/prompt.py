@@ -16,7 +16,6 @@ from .host import Host
 from .manual import explain
 from .naming import word_text
 from .refusals import asked_by
-from .replies import Answered
 from .saving import Session, save
 from .step_words import Unclear, step_of, words_of
 from .timeline import Refused, Step, Timeline, change_text, tree_of
@@ -48,8 +47,8 @@ class _Branch(NamedTuple):
 class _Model:
     """A host that has made some steps."""
 
-    def __init__(self, setting: Optional[bool], program: Optional[str]) -> None:
-        self._setting, self._program = setting, program
+    def __init__(self, setting: Optional[bool]) -> None:
+        self._setting = setting
         self._made: list[Mapping[str, Any]] = []
         self._host = self._start()
 
@@ -71,8 +70,7 @@ class _Model:
         self._host.close()
 
     def _start(self) -> Host:
-        # over a pipe, since the program says why it refuses a line
-        return Host(self._program, transport="pipe", kill_on_debugger_exit=self._setting)
+        return Host(kill_on_debugger_exit=self._setting)
 
 
 class Prompt(cmd.Cmd):
@@ -86,7 +84,7 @@ class Prompt(cmd.Cmd):
         self._branches = [_Branch(list(session.steps), 0, 0)]
         self._current = 0
         self._timelines: dict[int, Timeline] = {}
-        self._model = _Model(session.kill_on_debugger_exit, program)
+        self._model = _Model(session.kill_on_debugger_exit)
         self._at = len(session.steps) if at is None else at
         self._has_failed = False
         self._uid = session.steps[self._at - 1]["user"] if self._at else 1001
@@ -372,9 +370,9 @@ class Prompt(cmd.Cmd):
     def _make(self, text: str) -> None:
         """Makes a step after the cursor. If that isn't the end, it begins a branch."""
         host = self._model.after(self._steps()[: self._at])
-        sent = host._send(text)
-        if sent.line.startswith("refused"):
-            self._complain(f"{sent.line}: {sent.reason}" if sent.reason else sent.line)
+        answer = host._send(text)
+        if answer.startswith("refused"):
+            self._complain(f"{answer}: {host._reason(text)}")
             return
         step = json.loads(text)
         self._model.note(step)
@@ -384,9 +382,9 @@ class Prompt(cmd.Cmd):
             self._print(f"branch {self._current}, after step {self._at}")
         self._steps().append(step)
         self._at = len(self._steps())
-        words = sent.line.split()
-        why = _why(host, step, words[3] if words[2] == "error" else None) if words[2] in ("error", "held") else ""
-        self._print(sent.line + _meaning(words[2:]) + why)
+        words = answer.split()
+        why = _why(host, step, words[3] if words[2] == "error" else "held") if words[2] in ("error", "held") else ""
+        self._print(answer + _meaning(words[2:]) + why)
 
     def _print(self, text: str) -> None:
         print(text, file=self.stdout)
@@ -411,12 +409,9 @@ def _meaning(words: Sequence[str]) -> str:
     return f"   ({word_text(int(words[1]))})" if words[0] == "ended" else ""
 
 
-def _why(host: Host, step: Mapping[str, Any], name: Optional[str]) -> str:
-    """Why a step was answered by the errno of this name, or held if it is None. It has changed nothing."""
-    asked = asked_by(step)
-    if name is None:
-        return f"   ({str(host._held(asked)).split('held, ', 1)[-1]})"
-    return f"   ({str(host._refusal(Answered(name), asked).strerror).split(f'{name}, ', 1)[-1]})"
+def _why(host: Host, step: Mapping[str, Any], answer: str) -> str:
+    """Why a step was answered by this errno, or held. It has changed nothing."""
+    return f"   ({host._words(answer, asked_by(step)).split(f'{answer}, ', 1)[-1]})"
 
 
 def _reason(model: _Model, steps: Sequence[Mapping[str, Any]], step: Step) -> str:
@@ -424,12 +419,12 @@ def _reason(model: _Model, steps: Sequence[Mapping[str, Any]], step: Step) -> st
     if step.reply["reply"] not in ("error", "held"):
         return ""
     host = model.after(steps[: step.number - 1])
-    return _why(host, steps[step.number - 1], step.reply.get("errno"))
+    return _why(host, steps[step.number - 1], step.reply.get("errno", "held"))
 
 
-def reason_of(session: Session, step: Step, program: Optional[str] = None) -> str:
+def reason_of(session: Session, step: Step) -> str:
     """The same of a step of the session."""
-    model = _Model(session.kill_on_debugger_exit, program)
+    model = _Model(session.kill_on_debugger_exit)
     try:
         return _reason(model, session.steps, step)
     finally:

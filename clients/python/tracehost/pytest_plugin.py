@@ -11,7 +11,8 @@
   one that ``--tracehost-artifacts``, or the environment's ``TRACEHOST_ARTIFACTS``, names. The report says where, and
   JUnit's XML has the page as the property ``tracehost_page``. Pages are made at the end of the run, when no test's patches
   are left. A test that passes leaves nothing. The record of one that ends its process is told at the end, or by the next run.
-- ``--tracehost-coverage`` says which rows of the machine the sessions of all tests have met: `pytest_coverage`.
+- ``--tracehost-coverage`` says which rows of the machine the sessions of all tests have met: `pytest_coverage`. If the environment's
+  ``TRACEHOST_TRACES`` names a folder, each session leaves a copy of its scenario there.
 - The plugin changes no test's outcome. What can't be done, as on a full disk, is told in a section of the test's report,
   or of the summary.
 """

@@ -75,7 +75,7 @@ class Recording:
         try:
             self._put(text, answer.encode() + b"\n")
         except OSError as error:
-            self._lose(error)
+            self.lose(error)
 
     def _warn(self, text: str) -> None:
         if self.tell is not None:
@@ -83,7 +83,7 @@ class Recording:
         else:
             warnings.warn(f"{self.path}: {text}", RuntimeWarning, stacklevel=3)
 
-    def _lose(self, error: OSError) -> None:
+    def lose(self, error: OSError) -> None:
         """Ends the recording: the files have the steps before."""
         self.close()
         if self.tell is None:

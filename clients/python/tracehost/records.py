@@ -16,8 +16,9 @@ import time
 from collections.abc import Iterator
 from contextlib import contextmanager, suppress
 from fcntl import LOCK_EX, LOCK_NB, LOCK_UN, flock
-from os import O_CLOEXEC, O_DIRECTORY, O_RDONLY, close, getpid, lstat, replace, scandir, unlink
+from os import O_CLOEXEC, O_DIRECTORY, O_RDONLY, close, environ, getpid, lstat, makedirs, replace, scandir, unlink
 from os import open as open_file
+from os.path import abspath
 from pathlib import Path
 from time import sleep
 from typing import NamedTuple, Optional
@@ -28,6 +29,7 @@ _MOST_OF_A_PROGRAM, _MOST_OF_A_TEST, _MOST_OF_A_SESSION = 30, 50, 80
 _ENDS = (".json", ".out", ".html")
 _RUNNING = re.compile(r"(.+)\.(json|out)\.(\d+)")
 _TRIES, _SECONDS_OF_A_TRY = 1000, 0.01
+_TRACES = environ.get("TRACEHOST_TRACES") and abspath(environ["TRACEHOST_TRACES"])
 _BEGAN = time.time_ns() - 20_000_000  # a file's time may be so much behind
 
 
@@ -182,6 +184,26 @@ class Folder:
                 replace(lines, last.with_suffix(".out"))
                 adopted.append(last)
         return adopted
+
+
+def leave_trace(record: Path) -> None:
+    """Copies a record to the folder ``$TRACEHOST_TRACES``, if it is set, as STEM.PROCESS.json. Raises OSError."""
+    if not _TRACES:
+        return
+    makedirs(_TRACES, exist_ok=True)
+    front = f"{_TRACES}/{re.sub(r'[.]json([.][0-9]+)?$', '', record.name)}.{getpid()}"
+    path, number = front + ".json", 2
+    while True:
+        try:
+            with open(path, "xb") as trace:
+                trace.write(record.read_bytes())
+            return
+        except FileExistsError:
+            path, number = f"{front}-{number}.json", number + 1
+        except OSError:
+            with suppress(OSError):
+                unlink(path)
+            raise
 
 
 def hold(number: int) -> None:

@@ -221,11 +221,6 @@ def explanation(answer: str, asked: Asked, rows: Callable[[], Optional[Rows]]) -
     return f"{_filled(_call(asked).text, asked)}: {answer}, {why}"
 
 
-def refusal(name: str, asked: Asked, rows: Callable[[], Optional[Rows]]) -> OSError:
-    """The OSError for an errno, with this system's number."""
-    return OSError(getattr(errno, name), explanation(name, asked, rows))
-
-
 def _call(asked: Asked) -> CallOfTable:
     return next(call for call in CALLS if call.op == asked.op and call.request in (-1, asked.request))
 

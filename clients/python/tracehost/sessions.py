@@ -11,9 +11,9 @@ from pathlib import Path
 from typing import TYPE_CHECKING, Any, ClassVar, NamedTuple, Optional
 from weakref import WeakSet, ref
 
+from . import deadlock, recording, refusals, rows  # noqa: F401  # what Host needs later, when a test may have broken imports
 from .host import Host
-from .pipe import Pipe
-from .records import Folder, Kept, Running, hold, session_name
+from .records import Folder, Kept, Running, hold, leave_trace, session_name
 from .viewing import NoPage, shown, view
 
 if TYPE_CHECKING:
@@ -257,18 +257,16 @@ class Sessions(Told):
     def _count_record(self, path: Path) -> None:
         if self._count is not None:
             self._count(path)
+        try:
+            leave_trace(path)
+        except OSError as error:
+            self.tell(f"no trace is left in {error.filename}: {error.strerror}")
 
     def close(self) -> None:
-        """Closes those that the test hasn't closed, with a time limit for all. What it has dropped is closed already."""
-        hosts = list(self._hosts)
-        for host in hosts:
-            if isinstance(host._made, Pipe) and not host._made.is_forked():
-                host._made.end_input()
-        for host in hosts:
+        """Closes those that the test hasn't closed. What it has dropped is closed already."""
+        for host in list(self._hosts):
             with self.guarded("a session can't be closed"):
                 host.close()
-            if isinstance(host._made, Pipe) and host._made.was_killed:
-                self.tell("the program of a session didn't end, and was killed")
         self._hosts.clear()
 
 

@@ -62,9 +62,7 @@ class _Replay:
 
     def __init__(self, session: Session, timeline: Timeline) -> None:
         self._session = session
-        found = library.find(needed=True)
-        assert found is not None
-        self._library = found
+        self._library = library.find()
         self._births = [self._born(timeline, step) for step in timeline.steps]
         self._all = {number for numbers in self._births for number in numbers}
         self.runs = 0
@@ -87,7 +85,7 @@ class _Replay:
                 seen = [row["pid"] for row in rows.get("processes", ())] + [row["lwp"] for row in rows.get("lwps", ())]
                 for old, new in zip(self._births[index], sorted(set(seen) - set(there))):
                     here[old], there[new] = new, old
-            made.replies.append(answer_text(_with_numbers(json.loads(host.last_answer()), there)))
+            made.replies.append(answer_text(_with_numbers(json.loads(host.last_line(json=True)), there)))
         host.close()
         return made
 

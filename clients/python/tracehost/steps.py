@@ -1,9 +1,8 @@
 """What is sent: the acts of an LWP at its turn, and the rules of a stop handler."""
 
-from __future__ import annotations
-
+# no annotations of __future__: a named tuple would compile each one
 from collections.abc import Iterable
-from typing import NamedTuple, Union
+from typing import NamedTuple, Optional, Union
 
 from .checks import of_kind, whole, word
 from .errors import hides_from_pytest
@@ -41,7 +40,7 @@ class Enter(NamedTuple):
     """The LWP enters a system call. `code` is the exit code of `Call.EXIT`, and the number of `Call.OTHER`."""
 
     call: Call
-    code: int | None = None
+    code: Optional[int] = None
 
     def _keys(self) -> str:
         code = "" if self.code is None else f',"code":{whole("code", self.code)}'
@@ -71,9 +70,9 @@ class Rule(NamedTuple):
     """A rule of a stop handler: it fits a stop with this signal (any, if it is None) that has all these flags."""
 
     decision: Decision
-    signal: int | None = None
+    signal: Optional[int] = None
     flags: StopFlag = StopFlag(0)
-    pass_signal: int | None = None
+    pass_signal: Optional[int] = None
     """The signal that the process goes on with, only for `Decision.CONTINUE` and `Decision.DETACH`."""
 
     def _object(self) -> str:

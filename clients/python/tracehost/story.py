@@ -28,7 +28,7 @@ def story(session: Session, file: str, at: Optional[int] = None, program: Option
     if not end:
         return ["no step was made", command]
     step = timeline.steps[end - 1]
-    lines = [f"step {end} of user {step.user}: {step.words()}{reason_of(session, step, program)}"]
+    lines = [f"step {end} of user {step.user}: {step.words()}{reason_of(session, step)}"]
     lines += [f"  {line}" for line in _concerned(timeline, end, step)]
     lines += _to_look_at(timeline, step)
     lines += ["the last steps, and what each changed:", *_last_steps(timeline, end, _MOST_LINES - len(lines) - 2)]

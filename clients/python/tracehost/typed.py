@@ -2,15 +2,18 @@
 
 from __future__ import annotations
 
+import errno
 import functools
+import os
 from collections.abc import Callable, Iterable, Sequence
 from ctypes import byref, c_int64, c_size_t
-from typing import Any, NoReturn
+from typing import TYPE_CHECKING, Any, NoReturn, Optional
 
 from .blocking import Progress
 from .checks import of_kind, whole, word
 from .errors import Held, hides_from_pytest
 from .library import INVALID, CRule, Reply, Session
+from .lines import user_changed
 from .names import Action, Call, Decision, EventMask, LwpEvent, Request, Signal, StopFlag
 from .replies import (
     NOTHING,
@@ -27,6 +30,9 @@ from .replies import (
 )
 from .steps import Act, Block, Compute, Enter, Raise, Rule
 
+if TYPE_CHECKING:
+    from .recording import Recording
+
 __tracebackhide__ = hides_from_pytest
 
 # the library's numbers of acts, calls, actions, decisions, and its bits of flags
@@ -39,6 +45,7 @@ _NUMBER_OF_ACTION = {action: number for number, action in enumerate(Action)}
 _DECISIONS: tuple[Decision, ...] = tuple(Decision)
 _PASSING = (Decision.CONTINUE, Decision.DETACH)
 _FLAGS: tuple[StopFlag, ...] = tuple(StopFlag)
+_ANY = c_int64(-1)
 
 
 class NotTyped(Exception):
@@ -108,12 +115,14 @@ def _c_rule(rule: Rule) -> CRule:
 class TypedCalls:
     """The calls of a session of the library. One thread at a time uses it.
 
-    A call raises NotTyped if a number is refused, or doesn't fit the call's type: nothing was done then.
+    A call raises NotTyped if a number is refused, or doesn't fit the call's type: nothing was done then. It raises Held
+    and Answered as the model answers, and RecordingFailed.
     """
 
-    def __init__(self, session: Session, progress: Progress) -> None:
+    def __init__(self, session: Session, progress: Progress, recording: Optional[Recording] = None) -> None:
         self._session = session
         self._progress = progress
+        self._recording = recording
         self._reply = Reply()
         library, self._handle, self._into = session.library, session.handle, byref(self._reply)
         self._spawn, self._turn, self._ptrace = library["spawn"], library["turn"], library["ptrace"]
@@ -133,12 +142,14 @@ class TypedCalls:
         return turned
 
     def ptrace(self, uid: int, pid: int, request: Request, target: int, data: int) -> Any:
-        _check_words(uid | pid | target | data)
+        if (uid | pid | target | data) >> 32:
+            raise NotTyped
         return self._made(self._ptrace(self._handle, uid, pid, request, target, data, self._into), uid)
 
     def wait4(self, uid: int, pid: int, which: int, options: int) -> Waited:
-        _check_words(uid | pid | options)
-        code = self._wait4(self._handle, uid, pid, _number(which), options, self._into)
+        if (uid | pid | options) >> 32:
+            raise NotTyped
+        code = self._wait4(self._handle, uid, pid, _ANY if which == -1 else _number(which), options, self._into)
         waited: Waited | None = self._made(code, uid)
         return NOTHING if waited is None else waited
 
@@ -166,16 +177,38 @@ class TypedCalls:
         handled: None | Waited | Handled = self._made(self._handles(self._handle, uid, pid, self._into), uid)
         return handled
 
+    def line(self, text: str) -> str:
+        """Makes the step of a line, and returns the line of its answer."""
+        answer = self._session.exchange(text)
+        if self._recording is not None:
+            self._recording.add(text, answer)
+        uid = user_changed(answer)
+        if uid is not None:
+            self._progress.note(uid)
+        return answer
+
     def _made(self, code: int, uid: int) -> Any:
         """The reply as the calls return it. Raises Held and Answered if it is one of these."""
-        if code == INVALID:
-            raise NotTyped
         if code:
+            if code == INVALID:
+                raise NotTyped
             self._session.check(code)
-        changes, reader = self._readers[self._reply.kind]
+        reply = self._reply
+        if self._recording is not None:
+            self._record(self._recording)
+        changes, reader = self._readers[reply.kind]
         if changes:
             self._progress.note(uid)
-        return reader(self._reply)
+        return reader(reply)
+
+    def _record(self, recording: Recording) -> None:
+        try:
+            step, line = self._session.last_step(), self._session.last_line()
+        except MemoryError:
+            recording.lose(OSError(errno.ENOMEM, os.strerror(errno.ENOMEM)))
+            return
+        if step is not None:  # a mask with bits that no event has is refused, and no line
+            recording.add(step, line)
 
     def _table(self) -> tuple[tuple[bool, Callable[[Reply], Any]], ...]:
         """For each kind of reply, whether its step may have changed something, and what it means."""

@@ -38,7 +38,7 @@ def view(
     """Makes a page of this scenario, such as `Host` records one, and returns its path.
 
     Without `page` the HTML file is called as the scenario, with ``.html``. `program` runs the scenario; without it the one
-    that `Host` chooses. The page shows the test `failed`, what it said, `message`, and the `step`, from 1, after which it
+    that ``TRACEHOST`` names, or the package's own. The page shows the test `failed`, what it said, `message`, and the `step`, from 1, after which it
     failed; else the last one. Raises FileNotFoundError if there is no such scenario, or the viewer isn't installed, and
     NoPage if the scenario is refused or the page can't be written.
     """

@@ -1,17 +1,17 @@
 /*
  * Sessions that are inherited by fork(2), and records on a full disk. Compiled together with tracehost_client.c and
- * -Dpwrite=pwrite_of_a_small_disk; with -DTRACEHOST_IN_PROCESS the sessions are in the process.
+ * -Dpwrite=pwrite_of_a_small_disk.
  *
- *     faults fork PROGRAM
- *     faults disk PROGRAM SCENARIO LINES ROOM     a disk with room for so many bytes
- *     faults limit PROGRAM SCENARIO LINES SIZE    RLIMIT_FSIZE, with the default action of SIGXFSZ
+ *     faults fork
+ *     faults disk SCENARIO LINES ROOM     a disk with room for so many bytes
+ *     faults limit SCENARIO LINES SIZE    RLIMIT_FSIZE, with the default action of SIGXFSZ
  *
  * The last two print how many steps were recorded.
  */
 #define _POSIX_C_SOURCE 200809L
 #undef pwrite
 
-#include "../session.h"
+#include "../../tracehost_client.h"
 
 #include <pthread.h>
 #include <stdio.h>
@@ -56,9 +56,9 @@ ssize_t pwrite_of_a_small_disk(int file, const void *bytes, size_t length, off_t
     return pwrite(file, bytes, length, at);
 }
 
-static th_host *begin(const char *program)
+static th_host *begin(void)
 {
-    th_host *h = start_session(program, NULL);
+    th_host *h = th_open(NULL);
     require(h != NULL, "a session");
     return h;
 }
@@ -81,9 +81,9 @@ static int record(th_host *h, int error)
     return 0;
 }
 
-static int disk(const char *program, const char *scenario, const char *lines, const char *room)
+static int disk(const char *scenario, const char *lines, const char *room)
 {
-    th_host *h = begin(program);
+    th_host *h = begin();
     require(th_record(h, scenario, lines) == 0, "th_record");
     require(th_record_error(h) == 0, "th_record_error");
     room_left = atoll(room);
@@ -91,9 +91,9 @@ static int disk(const char *program, const char *scenario, const char *lines, co
     return 0;
 }
 
-static int limit(const char *program, const char *scenario, const char *lines, const char *size)
+static int limit(const char *scenario, const char *lines, const char *size)
 {
-    th_host *h = begin(program);
+    th_host *h = begin();
     require(th_record(h, scenario, lines) == 0, "th_record");
     struct rlimit old, small;
     require(getrlimit(RLIMIT_FSIZE, &old) == 0, "getrlimit");
@@ -121,28 +121,16 @@ static void *sleep_in_wait(void *argument)
     return NULL;
 }
 
-/* A child's calls, while a thread of the parent sleeps in a wait; 0 if each is as it has to be. */
+/* A child has a copy, which goes its own way while a thread of the parent sleeps in a wait; 0 if it does. */
 static int in_child(th_host *h)
 {
-    th_caller self = {1001, 1000};
     th_pid pid = 0;
-    char answer[16];
-    if (IN_PROCESS)
-        return th_spawn(h, 1001, &pid, NULL) == 0 && pid == 1002 ? 0 : 1;
-    if (th_spawn(h, 1001, &pid, NULL) != -1 || errno != TH_EFORKED)
-        return 2;
-    if (th_step_text(h, "{}", answer, sizeof answer) != -1 || errno != TH_EFORKED)
-        return 3;
-    if (th_wait4_block(h, self, -1, NULL, 0, -1) != -1 || errno != TH_EFORKED)
-        return 4;
-    if (th_until_blocked(h, 1, -1) != -1 || errno != TH_EFORKED)
-        return 5;
-    return strcmp(th_strerror(errno), "The session is that of the parent, which opened it before a fork") == 0 ? 0 : 6;
+    return th_spawn(h, 1001, &pid, NULL) == 0 && pid == 1002 ? 0 : 1;
 }
 
-static int forked(const char *program)
+static int forked(void)
 {
-    th_host *h = begin(program);
+    th_host *h = begin();
     th_caller self = {1001, 1000};
     th_pid pid = 0, parent = 0;
     require(th_spawn(h, 1001, &parent, NULL) == 0 && th_spawn(h, 1001, &pid, NULL) == 0, "two processes");
@@ -174,11 +162,11 @@ static int forked(const char *program)
 
 int main(int argc, char **argv)
 {
-    if (argc == 3 && strcmp(argv[1], "fork") == 0)
-        return forked(argv[2]);
-    if (argc == 6 && strcmp(argv[1], "disk") == 0)
-        return disk(argv[2], argv[3], argv[4], argv[5]);
-    if (argc == 6 && strcmp(argv[1], "limit") == 0)
-        return limit(argv[2], argv[3], argv[4], argv[5]);
+    if (argc == 2 && strcmp(argv[1], "fork") == 0)
+        return forked();
+    if (argc == 5 && strcmp(argv[1], "disk") == 0)
+        return disk(argv[2], argv[3], argv[4]);
+    if (argc == 5 && strcmp(argv[1], "limit") == 0)
+        return limit(argv[2], argv[3], argv[4]);
     return 2;
 }

@@ -1,9 +1,9 @@
 /*
- * Sessions in the process over a library that runs out of memory, or answers a long line: this file has that library, and
+ * Sessions over a library that runs out of memory, or answers a long line: this file has that library, and
  * is linked without the other. Each test says what its next calls return.
  */
 #include "../check.h"
-#include "../session.h"
+#include "../../tracehost_client.h"
 
 #include <stdio.h>
 #include <string.h>
@@ -63,6 +63,13 @@ uint32_t tracehost_last_line(tracehost *h, bool json, uint8_t *out, size_t out_s
     if (code == TRACEHOST_ANSWERED)
         store(out, out_size, length);
     return code;
+}
+
+/* There is no memory to explain it. */
+uint32_t tracehost_explain(const uint8_t *line, size_t line_length, size_t number, uint8_t *out, size_t out_size, size_t *length)
+{
+    CHECK(line_length == strlen(SPAWN) && memcmp(line, SPAWN, line_length) == 0 && number == 1);
+    return TRACEHOST_NO_MEMORY;
 }
 
 uint32_t tracehost_spawn(tracehost *h, uint32_t user, tracehost_reply *reply)

@@ -1,9 +1,9 @@
 /*
- * The same calls, with odd numbers among them, over a pipe and in the process: both return and store the same.
+ * Calls with odd numbers among them. What a call returns and stores is the same whether the session is recorded or not.
  *
- *     both_ways PROGRAM FOLDER FROM TO       a session for each seed; with PRINT in the environment, prints what calls return
+ *     random_calls FOLDER FROM TO       a session for each seed; with PRINT in the environment, prints what calls return
  *
- * The records of each second seed are in FOLDER, those over a pipe as 0.SEED.json and 0.SEED.out, the others from 1 on.
+ * The record of a seed is in FOLDER, as SEED.json and SEED.out. Printed is how many calls were answered by a reply.
  */
 #define _POSIX_C_SOURCE 200809L
 
@@ -128,7 +128,7 @@ static long ask(th_host *h, const struct drawn *d, struct stored *stored)
     }
 }
 
-/* Makes a call both ways; whether it was answered by a reply. */
+/* Makes a call in both sessions; whether it was answered by a reply. */
 static int make_call(th_host *hosts[WAYS], const struct drawn *drawn, unsigned long seed)
 {
     static struct stored stored[WAYS];
@@ -143,27 +143,25 @@ static int make_call(th_host *hosts[WAYS], const struct drawn *drawn, unsigned l
         printf("%lu %u: %s; %d %d %d\n", seed, drawn->call, told[1], stored[1].status, stored[1].room.numbers[1],
             stored[1].room.numbers[4]);
     if (strcmp(told[0], told[1]) != 0 || memcmp(&stored[0], &stored[1], sizeof stored[0]) != 0) {
-        printf("seed %lu, call %u: '%s' over a pipe, '%s' in the process\n", seed, drawn->call, told[0], told[1]);
+        printf("seed %lu, call %u: '%s' recorded, '%s' not\n", seed, drawn->call, told[0], told[1]);
         exit(1);
     }
     return told[0][0] != '-';
 }
 
-/* a session both ways; how many calls were answered by a reply */
-static int session(const char *program, const char *folder, unsigned long seed)
+/* two sessions, and a record of the first one; returns how many calls a reply answered */
+static int session(const char *folder, unsigned long seed)
 {
     struct th_settings settings = {seed % 3 != 0};
-    th_host *hosts[WAYS] = {th_start(program, &settings), th_open(&settings)};
+    th_host *hosts[WAYS] = {th_open(&settings), th_open(&settings)};
+    char scenario[4096], lines[4096];
     int answered = 0;
     state = seed;
-    for (int way = 0; way < WAYS; way++) {
-        char scenario[4096], lines[4096];
-        snprintf(scenario, sizeof scenario, "%s/%d.%lu.json", folder, way, seed);
-        snprintf(lines, sizeof lines, "%s/%d.%lu.out", folder, way, seed);
-        if (hosts[way] == NULL || (seed % 2 == 0 && th_record(hosts[way], scenario, lines) != 0)) {
-            perror("both_ways: a session");
-            exit(1);
-        }
+    snprintf(scenario, sizeof scenario, "%s/%lu.json", folder, seed);
+    snprintf(lines, sizeof lines, "%s/%lu.out", folder, seed);
+    if (hosts[0] == NULL || hosts[1] == NULL || th_record(hosts[0], scenario, lines) != 0) {
+        perror("random_calls: a session");
+        exit(1);
     }
     for (int count = 0; count < CALLS; count++) {
         struct drawn spawn = {.user = 1001}, drawn = count < 3 ? spawn : draw();
@@ -178,10 +176,10 @@ static int session(const char *program, const char *folder, unsigned long seed)
 int main(int argc, char **argv)
 {
     unsigned long answered = 0;
-    if (argc != 5)
+    if (argc != 4)
         return 2;
-    for (unsigned long seed = strtoul(argv[3], NULL, 10); seed < strtoul(argv[4], NULL, 10); seed++)
-        answered += (unsigned long)session(argv[1], argv[2], seed);
+    for (unsigned long seed = strtoul(argv[2], NULL, 10); seed < strtoul(argv[3], NULL, 10); seed++)
+        answered += (unsigned long)session(argv[1], seed);
     printf("%lu\n", answered);
     return 0;
 }

@@ -1,8 +1,8 @@
-/* A session in the process: the library libtracehost answers each step. tracehost_client.h describes th_open. */
+/* How the library libtracehost makes a step: by a typed call, or by a line. */
 #include "internal.h"
 
 #include <stdlib.h>
-#include <tracehost.h>
+#include <string.h>
 
 enum { ANSWER = 4096 }; /* room for most answers */
 
@@ -126,7 +126,7 @@ static uint32_t last_line(th_host *h, size_t length)
     uint32_t code = TRACEHOST_NO_MEMORY;
     answer->length = 0;
     while (thp_room_for(answer, length) == 0) {
-        code = tracehost_last_line(h->library, false, (uint8_t *)answer->bytes, answer->size, &length);
+        code = tracehost_last_line(&h->library, false, (uint8_t *)answer->bytes, answer->size, &length);
         if (code != TRACEHOST_ANSWERED || length <= answer->size)
             break;
         code = TRACEHOST_NO_MEMORY;
@@ -145,7 +145,7 @@ static uint32_t make_line(th_host *h)
     if (thp_room_for(answer, ANSWER) != 0)
         return TRACEHOST_NO_MEMORY;
     uint8_t *room = (uint8_t *)answer->bytes;
-    uint32_t code = tracehost_line(h->library, false, (uint8_t *)step->bytes, step->length - 1, room, answer->size, &length);
+    uint32_t code = tracehost_line(&h->library, false, (uint8_t *)step->bytes, step->length - 1, room, answer->size, &length);
     if (code == TRACEHOST_NO_TEXT || (code == TRACEHOST_ANSWERED && length > answer->size))
         return last_line(h, length);
     return end_line(h, code, length);
@@ -159,51 +159,54 @@ static int result_of(uint32_t code)
     return -1;
 }
 
-static int library_exchange(th_host *h) { return result_of(make_line(h)); }
+/* What the line of an answer says: whether it was refused, has changed nothing, or memory ran out. */
+static void read_answer(const char *answer, struct thp_reply *reply)
+{
+    const char *step = strchr(answer, ' '), *words = step == NULL ? NULL : strchr(step + 1, ' ');
+    memset(reply, 0, sizeof *reply);
+    reply->kind = THP_DONE;
+    if (strncmp(answer, "refused ", 8) == 0)
+        reply->kind = THP_REFUSED;
+    else if (words != NULL && strcmp(words, " held") == 0)
+        reply->kind = THP_HELD;
+    else if (words != NULL && strcmp(words, " nothing") == 0)
+        reply->kind = THP_NOTHING;
+    else if (words != NULL && strncmp(words, " error ", 7) == 0)
+        reply->kind = THP_ERROR;
+    if (reply->kind == THP_ERROR)
+        reply->error = thp_errno_numbered((unsigned)atoi(strrchr(answer, ' ')));
+}
 
-static int library_make(th_host *h, const struct thp_step *step, struct thp_reply *reply)
+static int make_by_line(th_host *h, const struct thp_step *step, struct thp_reply *reply)
+{
+    if (thp_write_step(h, step) != 0 || result_of(make_line(h)) != 0)
+        return -1;
+    read_answer(h->answer.bytes, reply);
+    return 0;
+}
+
+int thp_make(th_host *h, const struct thp_step *step, struct thp_reply *reply)
 {
     tracehost_reply told;
     int records = h->scenario.number >= 0;
     if (records && thp_write_step(h, step) != 0)
         return -1;
-    uint32_t code = call_library(h->library, step, &told);
+    uint32_t code = call_library(&h->library, step, &told);
     if (code == TRACEHOST_INVALID)
-        return thp_make_by_line(h, step, reply); /* a line of th_step_text, or one that is refused with the name of its fault */
+        return make_by_line(h, step, reply); /* a line of th_step_text, or one that is refused with the name of its fault */
     if (code == TRACEHOST_ANSWERED) {
-        take_reply(h->library, &told, step, reply);
+        take_reply(&h->library, &told, step, reply);
         if (records)
             code = last_line(h, ANSWER);
     }
     return result_of(code);
 }
 
-/* ---------------------------------------------------------------- start and end */
-
-static int library_end(th_host *h)
+void thp_read_reason(const th_host *h, char *reason, size_t size)
 {
-    tracehost_close(h->library);
-    free(h->library);
-    return 0;
-}
-
-th_host *th_open(const struct th_settings *settings)
-{
-    static const struct thp_transport in_process = {
-        library_make, library_exchange, NULL, thp_first_that_holds, NULL, library_end, 0};
-    static const tracehost closed = TRACEHOST_CLOSED;
-    th_host *h = thp_new(&in_process, settings);
-    if (h == NULL)
-        return NULL;
-    tracehost *library = malloc(sizeof *library);
-    if (library != NULL)
-        *library = closed;
-    if (library != NULL && tracehost_open(h->kills, library) == TRACEHOST_ANSWERED) {
-        h->library = library;
-        return h;
-    }
-    free(library);
-    thp_free(h);
-    errno = ENOMEM;
-    return NULL;
+    size_t length = 0;
+    const uint8_t *line = (const uint8_t *)h->step.bytes;
+    reason[0] = '\0';
+    if (tracehost_explain(line, h->step.length - 1, h->asked, (uint8_t *)reason, size - 1, &length) == TRACEHOST_ANSWERED)
+        reason[length < size ? length : size - 1] = '\0';
 }
