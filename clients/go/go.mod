@@ -1,0 +1,3 @@
+module tracehost
+
+go 1.19
