@@ -1,18 +1,13 @@
 /* Ends of LWPs and processes. */
 #include <errno.h>
+#include <poll.h>
 #include <signal.h>
 #include <stdlib.h>
 #include <sys/socket.h>
-#include <time.h>
+#include <sys/syscall.h>
+#include <unistd.h>
 #include "calls.h"
 #include "run.h"
-
-static double seconds(void)
-{
-	struct timespec now;
-	clock_gettime(CLOCK_MONOTONIC, &now);
-	return now.tv_sec + now.tv_nsec / 1e9;
-}
 
 static void remove_lwp(struct lwp *l)
 {
@@ -26,20 +21,23 @@ static void remove_lwp(struct lwp *l)
 	retire(l);
 }
 
-/* Its socket reads the end once the thread, or the process, has let go all else. */
+/* Its socket reads the end once the thread, or the process, has let go all else. One that hangs there isn't waited for. */
 void forget_lwp(struct lwp *l)
 {
+	enum { MOST = 20000 }; /* messages that nobody awaits */
 	char line[MESSAGE];
-	double began = l->fd >= 0 ? seconds() : 0;
+	struct watch watch;
+	watch_begin(&watch, ENDING_S);
 	touch_host();
-	while (l->fd >= 0 && seconds() - began < ENDING_S) {
-		ssize_t got = recv(l->fd, line, sizeof line, 0);
-		if (got == 0 || (got < 0 && errno != EAGAIN && errno != EINTR))
+	for (int heard = 0; l->fd >= 0 && heard < MOST; heard++) {
+		int flags = !l->foreign && stays_silent(l) ? MSG_DONTWAIT : 0; /* what one without the runtime has left is nobody's */
+		ssize_t got = recv(l->fd, line, sizeof line, flags);
+		if (got > 0 || (got < 0 && errno == EINTR))
+			continue;
+		if (got == 0 || errno != EAGAIN || watch_look(&watch, l->process->real, l->real))
 			break;
-		if (got < 0) {
-			take_notices();
-			end_if_python_is_gone();
-		}
+		take_notices();
+		end_if_python_is_gone();
 	}
 	close_socket(l);
 	remove_lwp(l);
@@ -95,6 +93,19 @@ static void tell_end(struct process *p, struct lwp *exits)
 		send(told->fd, exits != NULL ? "end" : "die", 3, MSG_NOSIGNAL | MSG_DONTWAIT);
 }
 
+/* The host's kernel may let go a process's last descriptor, its socket, before a pipe that another one reads to its end. */
+void wait_for_end_in_host(int real)
+{
+	const int fd = (int)syscall(SYS_pidfd_open, real, 0);
+	struct watch watch;
+	if (fd < 0) /* gone */
+		return;
+	watch_begin(&watch, ENDING_S);
+	while (poll(&(struct pollfd){.fd = fd, .events = POLLIN}, 1, LOOK_MS) <= 0 && !watch_look(&watch, real, real))
+		end_if_python_is_gone();
+	close(fd);
+}
+
 /* Ended in the model: now in the host. An LWP that `exits` runs its last handlers there. Its tracees end, or are let go. */
 static void end_process(struct process *p, int status, struct lwp *exits)
 {
@@ -108,6 +119,8 @@ static void end_process(struct process *p, int status, struct lwp *exits)
 		forget_lwp(p->lists.lwps.at[0]);
 	for (size_t i = 0; i < p->lists.replaced.count; i++)
 		forget_lwp(p->lists.replaced.at[i]);
+	if (!p->collected)
+		wait_for_end_in_host(p->real);
 	release_parent(p);
 	table_end(p, status);
 	if (p != run.first)

@@ -7,6 +7,7 @@
 #include "run.h"
 
 enum { LAST = 200 }; /* of a run without an end, so many last questions are told */
+enum { MOST_REMARKS = 400 }; /* before an answer */
 /* Seconds of its processor's time after which a thread asks `poke`. */
 static const double until_poke[] = {[COMPUTES] = 0.1, [ASLEEP_IN_HOST] = 0.1, [SPINS] = 0.005};
 
@@ -161,18 +162,20 @@ static enum reading receive(struct lwp *l, bool amid, struct question *q)
 {
 	static char line[MESSAGE], copy[MESSAGE];
 	struct watch watch;
-	watch_begin(&watch);
+	watch_begin(&watch, options.patience);
 	for (;;) {
-		bool waits = l->foreign && !compute_foreign(l);
 		int sender;
-		ssize_t got = take_message(l, line, waits ? MSG_DONTWAIT : 0, &sender);
+		const bool silent = stays_silent(l);
+		ssize_t got = silent ? -1 : take_message(l, line, 0, &sender);
+		if (silent)
+			errno = EAGAIN;
 		if (got < 0 && errno == EINTR)
 			continue;
 		if (got < 0 && errno == EAGAIN) {
 			take_notices();
 			end_if_python_is_gone();
 			limits(l);
-			if (watch_look(&watch, l))
+			if (watch_poke(&watch, l))
 				hangs(l);
 			continue;
 		}
@@ -235,8 +238,10 @@ static bool hear(struct lwp *l, bool amid)
 		return false;
 	bool is_poke = reading == ASKS && q.call->body == poke;
 	l->computed = is_poke ? l->computed + until_poke[q.arguments[0]] : 0;
-	if (is_poke) /* a thread that computes leaves no time without a message */
+	if (is_poke) { /* a thread that computes leaves no time without a message */
 		end_if_python_is_gone();
+		take_notices();
+	}
 	if (l->computed > options.patience)
 		hangs(l);
 	count_busy(l);
@@ -261,12 +266,14 @@ static int real_of(const struct question *hello)
 }
 
 /* A new thread, or image, says hello. */
-static void meet(struct lwp *l)
+void meet(struct lwp *l)
 {
 	struct question q;
 	struct lists *lists = &l->process->lists;
 	enum reading reading = receive(l, true, &q);
 	bool is_foreign = l->born && reading == ASKS && q.call->body == foreign;
+	if (l->born)
+		l->process->looks_for_leaks = false;
 	if (!is_foreign && (reading != ASKS || q.call->body != hello || q.sender <= 0))
 		broken("begins %d %s", l->process->pid, q.text);
 	snprintf(l->asked, sizeof l->asked, "%s", q.text);
@@ -420,10 +427,16 @@ const char *aside(struct lwp *l, const char *line)
 {
 	static char text[MESSAGE];
 	static const char remarks[] = "0 remark ";
+	struct watch watch;
+	watch_begin(&watch, ENDING_S);
 	send_line(l, line);
-	for (int looks = 0, sender; looks < ENDING_S * 1000 / LOOK_MS; looks++) {
+	for (int told = 0, sender; told < MOST_REMARKS;) {
 		ssize_t got = take_message(l, text, 0, &sender);
-		if (got < 0 && (errno == EAGAIN || errno == EINTR)) {
+		if (got < 0 && errno == EINTR)
+			continue;
+		if (got < 0 && errno == EAGAIN) {
+			if (watch_look(&watch, l->process->real, l->real))
+				break;
 			take_notices();
 			end_if_python_is_gone();
 			continue;
@@ -432,6 +445,7 @@ const char *aside(struct lwp *l, const char *line)
 			gone(l->process);
 		if (strncmp(text, remarks, strlen(remarks)) == 0) {
 			remark("%s", text + strlen(remarks));
+			told++;
 			continue;
 		}
 		const char *last = strrchr(text, ' ');

@@ -7,18 +7,17 @@
 #include <errno.h>
 #include <fcntl.h>
 #include <linux/audit.h>
-#include <linux/seccomp.h>
 #include <poll.h>
 #include <signal.h>
 #include <stdlib.h>
 #include <string.h>
 #include <sys/ioctl.h>
-#include <sys/mman.h>
-#include <sys/stat.h>
+#include <sys/socket.h>
 #include <sys/syscall.h>
 #include <unistd.h>
 #include "../runtime/held.h"
 #include "calls.h"
+#include "notices.h"
 
 enum held_kind { KILLS, SIGNALS_THREAD, QUEUES, PIDFD, FORKS, GROUPS, TRACES, READS, PRIORITY, OTHERS_PRIORITY, OWNER, HOST };
 static const struct held {
@@ -48,16 +47,8 @@ static const struct held *held_of(const struct seccomp_data *data)
 	broken("notice %d", data->nr);
 }
 
-/* A call that waits for its answer. */
-struct notice {
-	uint64_t id;
-	struct lwp *lwp; /* whose computation it is; NULL for nobody's */
-	int tid, pid; /* of the host's: who calls */
-	struct seccomp_data data;
-};
-
 static int listener = -1;
-static LIST(struct notice) waiting; /* for their LWPs' turns */
+static LIST(struct notice) waiting; /* for their LWPs' turns, and answers */
 static struct notice last; /* whose answer nobody has taken */
 static int64_t last_answer;
 
@@ -65,82 +56,12 @@ void notices_of(int fd) { listener = fd; }
 
 void notices_begin(void) { waiting.count = 0, last.id = 0; }
 
-/* ---- processes of the host */
-
-/* A number of proc(5)'s `status`; -1 if there is no such process. */
-int status_of(int pid, const char *name)
-{
-	char path[64], line[256];
-	int number = -1;
-	snprintf(path, sizeof path, "/proc/%d/status", pid);
-	FILE *file = fopen(path, "re");
-	while (file != NULL && fgets(line, sizeof line, file) != NULL)
-		if (strncmp(line, name, strlen(name)) == 0) {
-			number = atoi(line + strlen(name));
-			break;
-		}
-	if (file != NULL)
-		fclose(file);
-	return number;
-}
-
-static struct process *process_with(int real)
-{
-	for (EACH_PROCESS(p))
-		if (table.processes.at[p_at]->real == real && !table.processes.at[p_at]->collected)
-			return table.processes.at[p_at];
-	return NULL;
-}
-
-/* The process of the model's that this one descends from, or is; NULL for none. */
-static struct process *maker_of(int pid)
-{
-	for (; pid > 1; pid = status_of(pid, "PPid:")) {
-		struct process *p = process_with(pid);
-		if (p != NULL)
-			return p;
-	}
-	return NULL;
-}
-
-static bool descends_from(int pid, const struct process *p) { return pid > 1 && pid != p->real && maker_of(pid) == p; }
-
 static struct lwp *foreign_of(const struct process *p)
 {
 	for (size_t i = 0; i < p->lists.lwps.count; i++)
 		if (p->lists.lwps.at[i]->foreign)
 			return p->lists.lwps.at[i];
 	return NULL;
-}
-
-static const char *file_of(int pid)
-{
-	static char file[2048];
-	char path[64];
-	snprintf(path, sizeof path, "/proc/%d/exe", pid);
-	ssize_t length = readlink(path, file, sizeof file - 1);
-	file[length > 0 ? length : 0] = 0;
-	return length > 0 ? file : "a program";
-}
-
-/* The file with this instruction. */
-static const char *file_at(int pid, uint64_t address)
-{
-	static char file[2048];
-	char path[64], *line = NULL;
-	unsigned long from, to;
-	int at = 0;
-	size_t room = 0;
-	snprintf(path, sizeof path, "/proc/%d/maps", pid);
-	FILE *maps = fopen(path, "re");
-	snprintf(file, sizeof file, "an unknown place");
-	while (maps != NULL && getline(&line, &room, maps) > 0)
-		if (sscanf(line, "%lx-%lx %*s %*s %*s %*s %n", &from, &to, &at) == 2 && address >= from && address < to && line[at] == '/')
-			snprintf(file, sizeof file, "%.*s", (int)strcspn(line + at, "\n"), line + at);
-	free(line);
-	if (maps != NULL)
-		fclose(maps);
-	return file;
 }
 
 /* ---- answers */
@@ -166,16 +87,31 @@ static bool is_again(const struct notice *n)
 		   memcmp(last.data.args, n->data.args, sizeof n->data.args) == 0;
 }
 
-static _Noreturn void outside(const struct process *p, int tid, const char *call, const char *file)
+static _Noreturn void outside(const struct process *p, int tid, const char *call, const char *file, uint64_t where)
 {
 	struct lwp *l = p->lists.lwps.at[0];
 	for (size_t i = 0; i < p->lists.lwps.count; i++)
 		if (p->lists.lwps.at[i]->real == tid)
 			l = p->lists.lwps.at[i];
-	l->where = 0;
+	l->where = where;
 	snprintf(l->asked, sizeof l->asked, "outside %s", call);
 	blame(l, "");
 	failed("outside %d %d %s %s", p->pid, l->tid, call, file);
+}
+
+/* What isn't an errno: a number that the call returns. */
+void answer_with(const struct notice *n, int64_t value)
+{
+	struct seccomp_notif_resp response = {.id = n->id, .val = value};
+	ioctl(listener, SECCOMP_IOCTL_NOTIF_SEND, &response);
+}
+
+int give_descriptor(const struct notice *n, int fd)
+{
+	struct seccomp_notif_addfd added = {.id = n->id, .srcfd = (unsigned)fd};
+	const int number = ioctl(listener, SECCOMP_IOCTL_NOTIF_ADDFD, &added);
+	close(fd);
+	return number;
 }
 
 /* FreeBSD's number of a signal of the host's; -1 if there is none. */
@@ -193,6 +129,14 @@ static int signal_of(int64_t host)
 	/* end */
 	const int count = sizeof signals / sizeof signals[0];
 	return host >= 0 && host < count && (host == 0 || signals[host] != 0) ? signals[host] : -1;
+}
+
+int host_signal_of(int number)
+{
+	for (int host = 1; host < SIGRTMIN; host++)
+		if (signal_of(host) == number)
+			return host;
+	return SIGKILL;
 }
 
 /* ---- what a program without the runtime calls */
@@ -235,6 +179,11 @@ static int64_t kills(struct lwp *l, const struct notice *n)
 {
 	const struct process *p = l->process;
 	int64_t which = (int32_t)n->data.args[0], number = (int32_t)n->data.args[1];
+	const struct process *started = which > 1 ? started_as((int)which) : NULL;
+	if (started != NULL && is_of_model(which))
+		broken("both %d %s", (int)which, file_of(n->pid));
+	if (started != NULL)
+		return kill_by_model(l, n, started->pid, number);
 	bool is_own = which > 1 && descends_from((int)which, p);
 	if (is_own && is_of_model(which))
 		broken("both %d %s", (int)which, file_of(n->pid));
@@ -292,25 +241,7 @@ static int64_t answer_of(struct lwp *l, const struct notice *n)
 				   : not_own(n, call, second);
 	default: break;
 	}
-	outside(l->process, 0, call->name, file_of(n->pid));
-}
-
-/* With clang a sanitizer is a part of the program. */
-static bool is_sanitizer(const char *file)
-{
-	static const char name[] = "__sanitizer_set_death_callback";
-	struct stat of;
-	int fd = open(file, O_RDONLY | O_CLOEXEC);
-	bool is = strstr(file, "san.so") != NULL;
-	if (fd >= 0 && !is && fstat(fd, &of) == 0) {
-		void *text = mmap(NULL, of.st_size, PROT_READ, MAP_PRIVATE, fd, 0);
-		is = text != MAP_FAILED && memmem(text, of.st_size, name, strlen(name)) != NULL;
-		if (text != MAP_FAILED)
-			munmap(text, of.st_size);
-	}
-	if (fd >= 0)
-		close(fd);
-	return is;
+	outside(l->process, 0, call->name, file_of(n->pid), 0);
 }
 
 /* What a process of the model's may call from elsewhere: in a later image, whose libraries have other addresses. */
@@ -320,13 +251,9 @@ static bool is_allowed(const struct notice *n, const struct held *call, const st
 		int64_t whose = (int32_t)n->data.args[call->kind == OTHERS_PRIORITY];
 		return n->pid == p->real && (whose == 0 || has_thread(n, whose));
 	}
+	if (call->kind == QUEUES) /* aio_read(3) sends signal 0, which is none */
+		return n->pid == p->real && (int32_t)n->data.args[0] == p->real && (int32_t)n->data.args[1] == 0;
 	return (call->kind == FORKS || call->kind == TRACES || call->kind == SIGNALS_THREAD) && is_sanitizer(file);
-}
-
-/* A program of tracehost-cc that such a program has started. */
-static bool is_behind(const struct notice *n)
-{
-	return n->data.nr == SYS_pidfd_send_signal && (int)n->data.args[0] == -1 && n->data.args[3] == BEHIND_ANOTHER;
 }
 
 /* ---- notices */
@@ -347,6 +274,23 @@ static bool receive_notice(struct notice *n)
 	return n->pid > 0 && ioctl(listener, SECCOMP_IOCTL_NOTIF_ID_VALID, &n->id) == 0;
 }
 
+/* Its maker has ended. */
+static void answer_orphan(const struct notice *n, const struct held *call)
+{
+	if (is_proxy(n))
+		end_proxy(NULL, n);
+	else if (is_behind(n))
+		failed("behind %s", file_of(n->pid));
+	else if (call->kind == FORKS)
+		answer_notice(n, GOES_ON);
+	else {
+		remark("%s has called %s after its end in the model: EPERM", file_of(n->pid), call->name);
+		answer_notice(n, -EPERM);
+	}
+}
+
+static unsigned long taken; /* notices, in all */
+
 static void take_notice(struct notice *n)
 {
 	const struct held *call = held_of(&n->data);
@@ -355,56 +299,201 @@ static void take_notice(struct notice *n)
 		answer_notice(n, last_answer);
 		return;
 	}
-	if (p == NULL) { /* its maker has ended */
-		if (call->kind != FORKS)
-			remark("%s has called %s after its end in the model: EPERM", file_of(n->pid), call->name);
-		answer_notice(n, call->kind == FORKS ? GOES_ON : -EPERM);
+	if (p == NULL) {
+		answer_orphan(n, call);
 		return;
 	}
 	n->lwp = foreign_of(p);
-	if (is_behind(n))
-		failed("behind %d %s", p->pid, file_of(n->pid));
-	if (n->lwp != NULL) {
+	if (n->lwp != NULL && call->kind == FORKS)
+		answer_notice(n, GOES_ON);
+	else if (n->lwp != NULL)
 		APPEND(&waiting, *n);
-		return;
+	else if (is_proxy(n))
+		end_proxy(NULL, n);
+	else if (is_behind(n))
+		failed("behind %s", file_of(n->pid));
+	else {
+		uint64_t loaded, where = n->data.instruction_pointer;
+		const char *found = file_at(n->pid, where, &loaded), *file = found != NULL ? found : "an unknown place";
+		if (!is_allowed(n, call, p, file))
+			outside(p, n->tid, name_of(call, &n->data), file, where);
+		p->looks_for_leaks |= call->kind == FORKS;
+		answer_notice(n, GOES_ON);
 	}
-	const char *file = file_at(n->pid, n->data.instruction_pointer);
-	if (!is_allowed(n, call, p, file))
-		outside(p, n->tid, name_of(call, &n->data), file);
-	answer_notice(n, GOES_ON);
 }
 
 /* Those that have come. */
 void take_notices(void)
 {
 	struct notice n;
-	while (listener >= 0 && receive_notice(&n))
+	for (; listener >= 0 && receive_notice(&n); taken++)
 		take_notice(&n);
 }
 
-/* What waits for this LWP, whose computation goes on. */
+/* ---- a program without the runtime computes */
+
+/* Whether its processes wait, at two looks: one may be about to be woken. */
+static enum rest rest_now(const struct lwp *l)
+{
+	enum { BETWEEN_US = 500 };
+	const unsigned long before = taken;
+	enum rest first = rest_of(l->process);
+	if (first == RUNS_ON)
+		return RUNS_ON;
+	usleep(BETWEEN_US);
+	enum rest second = rest_of(l->process);
+	take_notices();
+	return taken != before ? RUNS_ON : second < first ? second : first;
+}
+
+/* It has ended, and its process says so. */
+bool is_over(const struct lwp *l)
+{
+	static const char exit[] = "0 exit ";
+	char text[sizeof exit] = "";
+	return recv(l->fd, text, sizeof text - 1, MSG_PEEK | MSG_DONTWAIT) > 0 && strcmp(text, exit) == 0;
+}
+
+/* In which order its processes' calls are answered that are the model's, so that this doesn't depend on the host: new
+ * processes first, and an image that takes the LWP up last. Before them comes what isn't the model's. */
+enum rank { AT_ONCE, STARTS, SIGNALS, ENDS_ONE, REPLACES, NOT_YET };
+
+static enum rank rank_of(const struct notice *n)
+{
+	if (is_behind(n))
+		return replaces(n) ? REPLACES : STARTS;
+	if (is_proxy(n))
+		return may_end(n) ? ENDS_ONE : NOT_YET;
+	return held_of(&n->data)->kind == KILLS ? SIGNALS : AT_ONCE;
+}
+
+/* The place of the next one for this LWP, whose computation goes on; -1 for none now. */
+static long next_notice(const struct lwp *l)
+{
+	long best = -1;
+	enum rank least = NOT_YET;
+	for (size_t i = 0; i < waiting.count; i++) {
+		const struct notice *n = &waiting.at[i];
+		enum rank rank = n->lwp == l && !n->answered ? rank_of(n) : NOT_YET;
+		if (rank < least ||
+			(rank == least && rank != NOT_YET && rank != AT_ONCE && compare_by_age(n->pid, waiting.at[best].pid, l->process) < 0))
+			best = (long)i, least = rank;
+	}
+	if (best < 0 || least == AT_ONCE)
+		return best;
+	return rest_now(l) != RUNS_ON && (least != REPLACES || !is_over(l)) ? best : -1;
+}
+
+/* The host's kernel says of such a thread that it waits for a disk, if a signal has come meanwhile. */
+bool awaits_answer(int tid)
+{
+	for (size_t i = 0; i < waiting.count; i++)
+		if (waiting.at[i].tid == tid)
+			return true;
+	return false;
+}
+
+static void forget_notice(uint64_t id)
+{
+	for (size_t i = waiting.count; i-- > 0;)
+		if (waiting.at[i].id == id)
+			TAKE_OUT(&waiting, i);
+}
+
 static void answer_notices(struct lwp *l)
 {
 	take_notices();
-	for (size_t i = 0; i < waiting.count;) {
-		struct notice n = waiting.at[i];
-		if (n.lwp != l) {
-			i++;
-			continue;
-		}
-		TAKE_OUT(&waiting, i);
-		answer_notice(&n, answer_of(l, &n));
-		i = 0; /* others may have gone on */
+	for (long next; l->foreign && (next = next_notice(l)) >= 0; take_notices()) {
+		const struct notice n = waiting.at[next];
+		waiting.at[next].answered = true;
+		if (is_behind(&n))
+			take_up(l, &n);
+		else if (is_proxy(&n))
+			end_proxy(l, &n);
+		else
+			answer_notice(&n, answer_of(l, &n));
+		forget_notice(n.id);
 	}
 }
 
-/* Whether the program without the runtime that is the LWP's computation has come to its end, of all that come to be heard in
- * LOOK_MS; its calls are answered meanwhile. */
-bool compute_foreign(struct lwp *l)
+static bool has_due(const struct lwp *l)
 {
-	struct pollfd ready[] = {{.fd = l->fd, .events = POLLIN}, {.fd = listener, .events = POLLIN}};
-	answer_notices(l);
-	poll(ready, 2, LOOK_MS);
-	answer_notices(l);
-	return ready[0].revents != 0;
+	for (size_t i = 0; i < waiting.count; i++)
+		if (waiting.at[i].lwp == l && !waiting.at[i].answered && rank_of(&waiting.at[i]) != NOT_YET)
+			return true;
+	return false;
+}
+
+/* What it leaves may be about to start a process of the model's, on a busy host too. */
+static void let_rest(struct lwp *l)
+{
+	struct watch watch;
+	watch_begin(&watch, options.patience);
+	do {
+		answer_notices(l);
+		end_if_python_is_gone();
+		if (!has_due(l) && rest_now(l) != RUNS_ON)
+			return;
+		poll(&(struct pollfd){.fd = listener, .events = POLLIN}, 1, LOOK_MS);
+	} while (!watch_look(&watch, l->process->real, l->real));
+}
+
+static bool has_news(const struct lwp *l)
+{
+	take_notices();
+	return has_due(l) || poll(&(struct pollfd){.fd = l->fd, .events = POLLIN}, 1, 0) > 0;
+}
+
+/* It waits in the host for children only, and has been woken: whether that is so still, once the host has done its part. */
+bool still_awaits(const struct lwp *l)
+{
+	enum { LOOKS = 1000 };
+	for (int looks = 0; looks < LOOKS && !has_news(l); looks++) {
+		const enum rest how = rest_now(l);
+		if (how != RUNS_ON)
+			return how == AWAITS_CHILDREN && !has_news(l);
+	}
+	return false;
+}
+
+/* It waits in the host, and others go on: until one that it has started ends, if it waits for nothing else. How many
+ * milliseconds of patience that took. */
+static int rest(struct lwp *l, enum rest how)
+{
+	const long steps = run.steps;
+	l->awaits = how == AWAITS_CHILDREN;
+	change(IO); /* it may have written before */
+	ask_for(l, "0 poke %d", ASLEEP_IN_HOST);
+	const bool others_went_on = run.steps > steps + 1;
+	l->idle = others_went_on ? 0 : l->idle < LOOK_MS ? l->idle + 1 : LOOK_MS;
+	if (!others_went_on)
+		poll(&(struct pollfd){.fd = listener, .events = POLLIN}, 1, l->idle);
+	return l->idle;
+}
+
+/* Whether an LWP that computes says nothing for LOOK_MS, while the calls of its computation are answered as they come: of a
+ * program without the runtime, or of a sanitizer that looks for leaks. The calls of others are heard when there is time. */
+bool stays_silent(struct lwp *l)
+{
+	enum { SHORT_MS = 1 };
+	const bool was_foreign = l->foreign;
+	if (!was_foreign && !l->process->looks_for_leaks)
+		return false;
+	for (int left = LOOK_MS; left > 0;) {
+		answer_notices(l);
+		if (l->foreign != was_foreign) /* it has become an image of the runtime */
+			return false;
+		struct pollfd ready[] = {{.fd = l->fd, .events = POLLIN}, {.fd = listener, .events = POLLIN}};
+		const bool starts = was_foreign && has_started(l->process);
+		const int time = starts || has_due(l) ? SHORT_MS : left;
+		const bool hears = poll(ready, 2, time) > 0;
+		if (ready[0].revents != 0) {
+			if (was_foreign && is_over(l))
+				let_rest(l);
+			return false;
+		}
+		const enum rest how = starts && !hears && !has_news(l) ? rest_now(l) : RUNS_ON;
+		left -= how != RUNS_ON ? rest(l, how) : hears ? SHORT_MS : time;
+	}
+	return true;
 }

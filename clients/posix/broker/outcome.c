@@ -55,6 +55,7 @@ void flush_notes(void)
 void note_place(const char *kind, const struct lwp *l, const char *then, size_t step)
 {
 	char path[64], program[4096] = "";
+	uint64_t loaded = l != NULL ? l->process->base : 0, of_library;
 	if (l == NULL) {
 		note("%s\t\t\t0\t\ta process has ended; %s\t%zu\n", kind, then, step);
 		return;
@@ -62,9 +63,14 @@ void note_place(const char *kind, const struct lwp *l, const char *then, size_t 
 	snprintf(path, sizeof path, "/proc/%d/exe", l->process->real);
 	ssize_t length = readlink(path, program, sizeof program - 1);
 	program[length > 0 ? length : 0] = 0;
+	const char *file = l->where != 0 ? file_at(l->process->real, l->where, &of_library) : NULL;
+	if (file != NULL && strcmp(file, program) != 0) {
+		snprintf(program, sizeof program, "%s", file);
+		loaded = of_library;
+	}
 	note(l->is_timer ? "%s\tthe timer of %d\t" : "%s\t%d/%d\t", kind, l->process->pid, l->tid);
 	note_text(l->asked);
-	note("\t%llu\t", l->where != 0 ? (unsigned long long)(l->where - l->process->base) : 0ull);
+	note("\t%llu\t", l->where != 0 ? (unsigned long long)(l->where - loaded) : 0ull);
 	note_text(program);
 	note("\t%s\t%zu\n", then, step);
 }

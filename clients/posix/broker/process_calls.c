@@ -198,9 +198,10 @@ BODY(exec_image)
 /* The exec was of a program without the runtime, which runs as one computation. */
 BODY(foreign)
 {
-	(void)call, (void)arguments;
+	(void)call;
 	l->born = false;
 	l->foreign = true;
+	l->held = arguments[0], l->reader = arguments[1];
 	not_reported(l, "those of a program without the runtime");
 	user(l);
 	say("ok");
@@ -246,11 +247,14 @@ BODY(poke)
 	if (!asleep)
 		table.now = later(now(), arguments[0] == SPINS ? SPUN : COMPUTED);
 	others(l);
-	if (asleep && !is_due(l)) {
+	if (asleep && !is_due(l) && !l->awaits) {
 		l->hosted = true;
 		AWAIT(l, NEVER, SYNC, IO, pid, -pid);
 		l->hosted = false;
 	}
+	while (l->awaits && !is_due(l) && still_awaits(l))
+		AWAIT(l, NEVER, pid, -pid);
+	l->awaits = false;
 	if (!l->begun)
 		user(l);
 	say("ok");

@@ -74,7 +74,9 @@ static ssize_t hear_server(char *line, size_t room, int *given)
 	} u;
 	struct iovec part = {line, room};
 	double patience = options.patience > ENDING_S ? options.patience : ENDING_S;
-	for (long looks = (long)(patience * 1000 / LOOK_MS) + 1; looks > 0; looks--) {
+	struct watch watch;
+	watch_begin(&watch, patience);
+	do {
 		struct msghdr message = {.msg_iov = &part, .msg_iovlen = 1, .msg_control = u.space, .msg_controllen = sizeof u.space};
 		struct ucred from = {0};
 		ssize_t got = recvmsg(control, &message, MSG_CMSG_CLOEXEC);
@@ -91,7 +93,7 @@ static ssize_t hear_server(char *line, size_t room, int *given)
 			return got;
 		end_if_python_is_gone();
 		kill(server, SIGCONT);
-	}
+	} while (!watch_look(&watch, server, server));
 	kill(server, SIGKILL);
 	broken("server %g", patience);
 }
@@ -199,6 +201,7 @@ void program_start(char **argv)
 
 /* ---- a run */
 
+int program_server(void) { return server; }
 int program_filters(void) { return filters; }
 
 int program_run(void)
@@ -237,6 +240,20 @@ static void hear_all(const char *order)
 	for (int answers = 0; hear_ends(order); answers++)
 		if (answers == MOST)
 			broken("control");
+}
+
+/* DEVICE:INODE of its standard input, output and error. */
+void program_files(char *text, size_t room)
+{
+	char path[64];
+	size_t length = 0;
+	for (int fd = 0; fd < 3; fd++) {
+		struct stat file = {0};
+		snprintf(path, sizeof path, "/proc/%d/fd/%d", server, fd);
+		stat(path, &file);
+		length +=
+			(size_t)snprintf(text + length, room - length, " %lx:%lx", (unsigned long)file.st_dev, (unsigned long)file.st_ino);
+	}
 }
 
 void program_collect(void) { hear_all("collect"); }

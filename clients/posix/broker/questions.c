@@ -18,7 +18,7 @@ static const struct call calls[] = {
 	{"thr_exit",  thr_exit,        0,  0, 0, "enter leave",                  RUNS, ENDS, false, "pthread_exit"},
 	{"exec",      exec_image,      0,  0, 0, "enter leave",                  0, NEWS | RUNS | ENDS, false,
 		"execve's family, fexecve"},
-	{"foreign",   foreign,         0,  0, 0, "compute",                      0, 0, false, "a program without the runtime"},
+	{"foreign",   foreign,         0,  2, 2, "compute",                      0, 0, false, "a program without the runtime"},
 	{"exit",      exit_process,    0,  1, 1, "enter leave",                  0, NEWS | RUNS | ENDS | FILES, false,
 		"exit, _exit, quick_exit"},
 	{"user",      user_call,       0,  0, 0, "compute",                      0, 0, false,
@@ -231,8 +231,6 @@ enum reading read_question(char *line, struct question *q)
 		return FOREIGN_TEXT;
 	q->text = line + (at + 1 - line);
 	const char *end = after_letters(q->text);
-	if (end == q->text)
-		return FOREIGN_TEXT;
 	q->words = line + (end - line) + (*end == ' ');
 	enum reading reading = read_text(q, end);
 	if (reading != UNKNOWN)

@@ -94,6 +94,7 @@ enum reading read_question(char *line, struct question *q);
 void leg_asks(const struct question *q, const char *text); /* of legs.c */
 
 void live(struct lwp *l);
+void meet(struct lwp *l);
 void run_handler(struct lwp *l, struct info info);
 const char *aside(struct lwp *l, const char *line);
 void close_socket(struct lwp *l);
@@ -103,13 +104,16 @@ int code_of(const struct lwp *l, int64_t number); /* of a call that the LWP stay
 void count_ring(const struct lwp *timer);
 int64_t ask_for(struct lwp *l, const char *format, ...) __attribute__((format(printf, 2, 3)));
 
-/* ---- notices.c: what programs without the runtime call */
+/* ---- notices.c, host_processes.c: programs without the runtime */
 
 void notices_of(int listener);
 void notices_begin(void);
 void take_notices(void);
-bool compute_foreign(struct lwp *l);
+bool stays_silent(struct lwp *l);
+bool still_awaits(const struct lwp *l);
+bool awaits_answer(int tid);
 int status_of(int pid, const char *name);
+const char *file_at(int pid, uint64_t address, uint64_t *loaded);
 
 /* ---- ends.c */
 
@@ -119,6 +123,7 @@ void release_parent(struct process *p);
 void forget_lwp(struct lwp *l);
 void replace_lwp(struct lwp *l);
 void ended_in_host(int real, int status);
+void wait_for_end_in_host(int real);
 
 /* ---- outcome.c: what is answered to tracehost-run */
 
@@ -149,8 +154,10 @@ void remark(const char *format, ...) __attribute__((format(printf, 1, 2))); /* t
 enum { LOOK_MS = 50, ENDING_S = 20, MESSAGE = 4097 };
 void program_start(char **argv);
 void program_end(void);
+int program_server(void); /* the host's number */
 int program_filters(void); /* of seccomp(2), in each first process */
 int program_run(void); /* the broker's end of the first thread's socket */
+void program_files(char *text, size_t room);
 void program_collect(void); /* of those that have ended the ones without a parent */
 void program_sweep(void);
 long long program_printed(void);
@@ -172,11 +179,10 @@ void cover(const struct lwp *current, const struct lwp *chosen); /* a choice of 
 /* ---- watch.c */
 
 struct watch {
-	double left;
-	int asleep;
-	char letter;
-	long used;
+	double left, asleep; /* seconds */
+	long own, others; /* processor time at the last look; -1 for none */
 };
-void watch_begin(struct watch *w);
-bool watch_look(struct watch *w, const struct lwp *l); /* whether the thread hangs */
+void watch_begin(struct watch *w, double patience);
+bool watch_look(struct watch *w, int real, int thread); /* of the host's numbers */
+bool watch_poke(struct watch *w, const struct lwp *l);
 #endif

@@ -84,9 +84,11 @@ struct process {
 	int real; /* the host's number */
 	bool collected; /* there is none any more; it has ended with the status `how` of the host's */
 	int how;
+	int proxy; /* the host's number of the process that waits for it, a child of a program without the runtime; 0 if there is none */
 	uint64_t base; /* where the host has loaded its program */
 	int filters; /* of seccomp(2), that the program hasn't set itself */
 	bool live;
+	bool looks_for_leaks; /* a sanitizer of this image does: the host's kernel tells of its calls, for which a thread may spin */
 	bool examines; /* a debugger that has asked for registers, or set a byte: its steps are instructions */
 	bool stops; /* it has been stopped, or sent a signal that stops */
 	bool vforked; /* its parent waits for its exec or end */
@@ -133,11 +135,14 @@ struct lwp {
 	int64_t seen; /* the clock then; -1 looks again */
 	long ran, points, before; /* before: steps that were kept when its leg began */
 	bool yields, stepping, leaves, foreign;
+	int64_t held, reader; /* of one that is foreign: for an image of the runtime that takes it up */
 	struct touches asleep; /* of the leg that was due when it was preempted: it sleeps until another leg touches that */
 	bool traps; /* it steps by an instruction */
 	bool to_step; /* by PT_SETSTEP or PT_STEP: the mark stays until it has stepped */
 	bool lands; /* its call is over: it asks `user` after the call has returned */
 	bool hosted; /* it waits in a call of the host's */
+	bool awaits; /* a program without the runtime, which waits for its children only */
+	int idle; /* how often it has waited, and nobody else has gone on */
 	bool lost; /* a debugger has let it go on at address 0 */
 	bool cancelled, born; /* born: its next message is the hello of a new image */
 	int level, depth; /* how many questions wait for an answer; and how many did when its debugger made it step */

@@ -165,7 +165,7 @@ static struct lwp *stopped_lwp(struct lwp *l, int64_t target, reply *r)
 		return NULL;
 	}
 	struct lwp *other = lwp_of(r->lwp);
-	if (other != NULL && !(other->foreign || other->leaves || other->born))
+	if (other != NULL && !(other->foreign || other->born))
 		return other;
 	say_error(EINVAL);
 	return NULL;

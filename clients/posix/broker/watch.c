@@ -1,50 +1,121 @@
 /* A thread that has been asked to run, and hasn't asked anything yet: it is looked at each LOOK_MS.
  *
- * Patience is counted in looks, so that a host that is suspended takes none of it; a look at a thread that has no
- * processor, on a busy host, counts a tenth. */
+ * Patience is what the thread has had of a processor, or slept, whatever else the host does meanwhile. A look at one that can
+ * go on, but has had no processor since the last look, or waits for a disk, counts a tenth. If it sleeps while another thread of
+ * the run goes on, that one's time counts: of what a sanitizer starts to look for leaks, of a program without the runtime, or
+ * of a thread that is about to end, and has a lock of the C library's. A host that is suspended takes none, since it makes no
+ * looks. */
+#include <dirent.h>
 #include <fcntl.h>
 #include <signal.h>
+#include <stdlib.h>
 #include <string.h>
 #include <sys/syscall.h>
 #include <unistd.h>
 #include "run.h"
 
-enum { ASLEEP = 3 }; /* a thread that is asleep in the host's kernel at so many looks is poked */
 enum { LONGEST = 10 }; /* one without a processor is waited for so many times longer */
+enum { OTHERS = 256 }; /* of so many threads the host is asked */
 
-void watch_begin(struct watch *w) { *w = (struct watch){.left = options.patience * 1000 / LOOK_MS, .letter = 'Z'}; }
+static const double of_a_look = LOOK_MS / 1e3;
+static const double until_poked = 2.5 * LOOK_MS / 1e3; /* three looks, while every thread of the run sleeps */
 
-/* What the host's kernel says of a thread: a letter of proc(5), and its processor time in the kernel's ticks. */
-static void look_at(const struct lwp *l, char *letter, long *used)
+void watch_begin(struct watch *w, double patience) { *w = (struct watch){.left = patience, .own = -1, .others = -1}; }
+
+/* What the host's kernel says of threads: a letter of proc(5), and their processor time in the kernel's ticks. */
+struct seen {
+	char letter; /* Z: there is none */
+	long used;
+};
+
+static struct seen look_at(int pid, int tid)
 {
-	char path[64], text[1024];
+	char path[64], text[1024], letter = 'Z';
 	long user = 0, system = 0;
-	snprintf(path, sizeof path, "/proc/%d/task/%d/stat", l->process->real, l->real);
+	snprintf(path, sizeof path, "/proc/%d/task/%d/stat", pid, tid);
 	int fd = open(path, O_RDONLY | O_CLOEXEC);
 	ssize_t got = fd < 0 ? 0 : read(fd, text, sizeof text - 1);
 	if (fd >= 0)
 		close(fd);
 	text[got > 0 ? got : 0] = 0;
 	const char *name_end = strrchr(text, ')');
-	*letter = 'Z', *used = 0;
-	if (name_end != NULL &&
-		sscanf(name_end + 1, " %c %*d %*d %*d %*d %*d %*u %*u %*u %*u %*u %ld %ld", letter, &user, &system) == 3)
-		*used = user + system;
+	if (name_end != NULL)
+		sscanf(name_end + 1, " %c %*d %*d %*d %*d %*d %*u %*u %*u %*u %*u %ld %ld", &letter, &user, &system);
+	if (letter == 'D' && awaits_answer(tid))
+		letter = 'S';
+	return (struct seen){letter, user + system};
 }
 
-/* Pokes the thread if it sleeps; whether it hangs. */
-bool watch_look(struct watch *w, const struct lwp *l)
+static bool goes_on(char letter) { return letter == 'R' || letter == 'D'; }
+
+static void add_process(struct seen *all, int pid, int but, int *left);
+
+static void add_children(struct seen *all, int pid, int tid, int but, int *left)
 {
-	char letter;
-	long used;
-	look_at(l, &letter, &used);
-	bool starved = letter == 'R' && w->letter == 'R' && used == w->used;
-	w->left -= starved ? 1.0 / LONGEST : 1;
-	w->letter = letter, w->used = used;
-	w->asleep = letter == 'S' ? w->asleep + 1 : 0;
-	if (!l->foreign && w->asleep == ASLEEP) {
+	char path[64];
+	int child;
+	snprintf(path, sizeof path, "/proc/%d/task/%d/children", pid, tid);
+	FILE *list = fopen(path, "re");
+	while (list != NULL && *left > 0 && fscanf(list, "%d", &child) == 1)
+		add_process(all, child, but, left);
+	if (list != NULL)
+		fclose(list);
+}
+
+/* A process of the host's and all below it, `but` for a thread. */
+static void add_process(struct seen *all, int pid, int but, int *left)
+{
+	char path[64];
+	snprintf(path, sizeof path, "/proc/%d/task", pid);
+	DIR *threads = opendir(path);
+	for (struct dirent *entry; threads != NULL && *left > 0 && (entry = readdir(threads)) != NULL;) {
+		const int tid = atoi(entry->d_name);
+		if (tid == 0)
+			continue;
+		--*left;
+		struct seen seen = tid == but ? (struct seen){'S', 0} : look_at(pid, tid);
+		all->used += seen.used;
+		if (goes_on(seen.letter))
+			all->letter = seen.letter;
+		add_children(all, pid, tid, but, left);
+	}
+	if (threads != NULL)
+		closedir(threads);
+}
+
+/* Seconds of a processor since the last look, at most a look's own. */
+static double had_since(long before, long now)
+{
+	double had = before < 0 || now < before ? 0 : (double)(now - before) / sysconf(_SC_CLK_TCK);
+	return had < of_a_look ? had : of_a_look;
+}
+
+/* Whether the thread hangs. */
+bool watch_look(struct watch *w, int real, int thread)
+{
+	const struct seen self = look_at(real, thread);
+	struct seen others = {'S', 0};
+	int left = OTHERS;
+	double had = had_since(w->own, self.used);
+	if (goes_on(self.letter))
+		others.used = -1;
+	else {
+		add_process(&others, program_server(), thread, &left);
+		had = goes_on(others.letter) ? had_since(w->others, others.used) : of_a_look;
+	}
+	w->asleep = self.letter == 'S' ? w->asleep + had : 0;
+	w->left -= had > of_a_look / LONGEST ? had : of_a_look / LONGEST;
+	w->own = self.used, w->others = others.used;
+	return w->left < 0;
+}
+
+/* The same; it pokes the thread if it sleeps. */
+bool watch_poke(struct watch *w, const struct lwp *l)
+{
+	bool hangs = watch_look(w, l->process->real, l->real);
+	if (!l->foreign && w->asleep > until_poked) {
 		w->asleep = 0;
 		syscall(SYS_tgkill, l->process->real, l->real, SIGRTMIN + 3);
 	}
-	return w->left < 0;
+	return hangs;
 }

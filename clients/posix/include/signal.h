@@ -71,6 +71,16 @@
 #define SIGINFO 29
 #define SIGUSR1 30
 #define SIGUSR2 31
+/* No signal above 31 is in the model: EINVAL. */
+#undef NSIG
+#undef SIGRTMIN
+#undef SIGRTMAX
+#define NSIG 32
+#define SIGTHR 32
+#define SIGLWP SIGTHR
+#define SIGLIBRT 33
+#define SIGRTMIN 65
+#define SIGRTMAX 126
 
 #undef SA_ONSTACK
 #undef SA_RESTART

@@ -4,11 +4,12 @@
 #include <fcntl.h>
 #include <stdio.h>
 #include <string.h>
+#include <sys/stat.h>
 #include <sys/syscall.h>
 #include <unistd.h>
 #include "runtime.h"
 
-enum { CHILDREN = 1024 };
+enum { CHILDREN = 1024, LIST = 65536 /* bytes */ };
 
 static pid_t children[CHILDREN]; /* 0 is free: what has no room stays a zombie until the run's end */
 static int count;
@@ -66,17 +67,58 @@ void tracehost_collect(void)
 			forget(children[i]);
 }
 
+/* The host's numbers of the thread's children, as text; it may be called in a handler. */
+void tracehost_list_children(char *list, size_t size)
+{
+	char path[64];
+	snprintf(path, sizeof path, "/proc/self/task/%d/children", (int)syscall(SYS_gettid));
+	int fd = open(path, O_RDONLY | O_CLOEXEC);
+	ssize_t got = fd < 0 ? 0 : read(fd, list, size - 1);
+	if (fd >= 0)
+		close(fd);
+	list[got > 0 ? got : 0] = 0;
+}
+
 /* The image before this one has made some. */
 void tracehost_find_children(void)
 {
-	char path[64];
+	char list[LIST];
 	pid_t child;
-	snprintf(path, sizeof path, "/proc/self/task/%d/children", (int)syscall(SYS_gettid));
-	FILE *list = fopen(path, "re");
-	while (list != NULL && fscanf(list, "%d", &child) == 1)
+	tracehost_list_children(list, sizeof list);
+	for (char *at = list, *next; (child = strtol(at, &next, 10)) > 0; at = next)
 		note(child);
-	if (list != NULL)
-		fclose(list);
+}
+
+static int is_ours(pid_t child)
+{
+	for (int i = 0; i < CHILDREN; i++)
+		if (children[i] == child)
+			return 1;
+	return 0;
+}
+
+/* One that has ended, and isn't collected yet, has no file. */
+static int may_run_this_program(pid_t child)
+{
+	char path[64];
+	struct stat own_file, file;
+	snprintf(path, sizeof path, "/proc/%d/exe", child);
+	return stat(path, &file) != 0 ||
+		   (stat("/proc/self/exe", &own_file) == 0 && file.st_dev == own_file.st_dev && file.st_ino == own_file.st_ino);
+}
+
+/* A sanitizer's process looks for leaks in this one's memory, while the thread that has started it waits. */
+int tracehost_looks_for_leaks(void)
+{
+	char list[LIST];
+	pid_t child;
+	if (!tracehost_is_sanitized() || count == CHILDREN)
+		return 0;
+	tracehost_list_children(list, sizeof list);
+	for (char *at = list, *next; (child = strtol(at, &next, 10)) > 0; at = next)
+		if (!is_ours(child) && may_run_this_program(child))
+			return 1;
+	return 0;
 }
 
 /* fork(2) of the host. Where few processes are allowed those that are about to end are waited for. */

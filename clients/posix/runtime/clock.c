@@ -6,6 +6,7 @@
 #include "runtime.h"
 
 enum { EPOCH = 1767225600 }; /* where the clock of the day begins: 2026-01-01 */
+enum { NO_CLOCK = 0x7fffffff }; /* of none, in the host too */
 
 static long long ns_of(const struct timespec *time)
 {
@@ -41,6 +42,22 @@ static long long now(const void *where)
 	return tracehost_number();
 }
 
+clockid_t tracehost_host_clock(clockid_t number)
+{
+	static const struct {
+		clockid_t number, host;
+	} clocks[] = {{BSD_CLOCK_REALTIME, CLOCK_REALTIME}, {BSD_CLOCK_PROF, CLOCK_PROCESS_CPUTIME_ID},
+		{BSD_CLOCK_MONOTONIC, CLOCK_MONOTONIC}, {BSD_CLOCK_UPTIME, CLOCK_BOOTTIME}, {BSD_CLOCK_UPTIME_PRECISE, CLOCK_BOOTTIME},
+		{BSD_CLOCK_UPTIME_FAST, CLOCK_BOOTTIME}, {BSD_CLOCK_REALTIME_PRECISE, CLOCK_REALTIME},
+		{BSD_CLOCK_REALTIME_FAST, CLOCK_REALTIME_COARSE}, {BSD_CLOCK_MONOTONIC_PRECISE, CLOCK_MONOTONIC},
+		{BSD_CLOCK_MONOTONIC_FAST, CLOCK_MONOTONIC_COARSE}, {BSD_CLOCK_THREAD_CPUTIME_ID, CLOCK_THREAD_CPUTIME_ID},
+		{BSD_CLOCK_PROCESS_CPUTIME_ID, CLOCK_PROCESS_CPUTIME_ID}};
+	for (size_t i = 0; i < sizeof clocks / sizeof clocks[0]; i++)
+		if (clocks[i].number == number)
+			return clocks[i].host;
+	return number < 0 ? number : NO_CLOCK;
+}
+
 /* Whether the clock is the broker's: CLOCK_REALTIME, CLOCK_MONOTONIC and their kin. The processor's clocks are the host's. */
 static int is_virtual(clockid_t clock)
 {
@@ -59,8 +76,9 @@ long long tracehost_moment(clockid_t clock, const struct timespec *time)
 	return ns > 0 ? ns : 0;
 }
 
-int tracehost_clock_nanosleep(clockid_t clock, int flags, const struct timespec *time, struct timespec *left)
+int tracehost_clock_nanosleep(clockid_t number, int flags, const struct timespec *time, struct timespec *left)
 {
+	const clockid_t clock = tracehost_host_clock(number);
 	if (!is_virtual(clock) || tracehost_no_time(time) || time->tv_sec < 0)
 		return EINVAL;
 	long long ns = flags & TIMER_ABSTIME ? tracehost_moment(clock, time) - now(HERE) : ns_of(time);
@@ -75,8 +93,9 @@ unsigned tracehost_sleep(unsigned seconds)
 	return sleep_for(HERE, seconds * 1000000000LL, &left) == 0 ? 0 : (unsigned)left.tv_sec + (left.tv_nsec > 0);
 }
 
-int tracehost_clock_gettime(clockid_t clock, struct timespec *to)
+int tracehost_clock_gettime(clockid_t number, struct timespec *to)
 {
+	const clockid_t clock = tracehost_host_clock(number);
 	if (!is_virtual(clock))
 		return clock_gettime(clock, to);
 	*to = time_of(now(HERE) + beginning(clock));
@@ -84,8 +103,9 @@ int tracehost_clock_gettime(clockid_t clock, struct timespec *to)
 }
 
 /* Each look takes a microsecond. */
-int tracehost_clock_getres(clockid_t clock, struct timespec *to)
+int tracehost_clock_getres(clockid_t number, struct timespec *to)
 {
+	const clockid_t clock = tracehost_host_clock(number);
 	if (!is_virtual(clock))
 		return clock_getres(clock, to);
 	if (to != NULL)

@@ -2,6 +2,7 @@
  * C++ that is compiled with <tracehost/posix.h> refers to tracehost_cplusplus. */
 #define _GNU_SOURCE
 #include <dlfcn.h>
+#include "freebsd.h"
 #include "runtime.h"
 
 const char tracehost_cplusplus = 1;
@@ -30,8 +31,14 @@ FORWARD(pthread_cond_destroy, (pthread_cond_t * condition), (condition))
 FORWARD(pthread_cond_wait, (pthread_cond_t * condition, pthread_mutex_t *mutex), (condition, mutex))
 FORWARD(pthread_cond_timedwait, (pthread_cond_t * condition, pthread_mutex_t *mutex, const struct timespec *until),
 	(condition, mutex, until))
-FORWARD(pthread_cond_clockwait, (pthread_cond_t * condition, pthread_mutex_t *mutex, clockid_t clock, const struct timespec *until),
-	(condition, mutex, clock, until))
 FORWARD(pthread_cond_signal, (pthread_cond_t * condition), (condition))
 FORWARD(pthread_cond_broadcast, (pthread_cond_t * condition), (condition))
 FORWARD(nanosleep, (const struct timespec *time, struct timespec *left), (time, left))
+
+/* The C++ library has the host's numbers of clocks. */
+int tracehost_pthread_cond_clockwait(pthread_cond_t *, pthread_mutex_t *, clockid_t, const struct timespec *);
+int pthread_cond_clockwait(pthread_cond_t *condition, pthread_mutex_t *mutex, clockid_t clock, const struct timespec *until)
+{
+	const clockid_t number = clock == CLOCK_MONOTONIC ? BSD_CLOCK_MONOTONIC : BSD_CLOCK_REALTIME;
+	return tracehost_pthread_cond_clockwait(condition, mutex, number, until);
+}

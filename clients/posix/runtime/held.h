@@ -2,6 +2,7 @@
  * holds them by seccomp(2), and the broker answers those of programs without the runtime. */
 #ifndef BEHIND_ANOTHER
 #define BEHIND_ANOTHER 0x7472 /* flags of pidfd_send_signal(2) that say: a program without the runtime has started one with it */
+#define BEHIND_ENDS 0x7473 /* and: the one that a program without the runtime has started is at its end */
 #endif
 #ifndef HELD
 #define HELD(name, number, number_of_32, kind)

@@ -2,6 +2,7 @@
 #define _GNU_SOURCE
 #include <stdio.h>
 #include <string.h>
+#include <sys/resource.h>
 #include <sys/socket.h>
 #include <sys/syscall.h>
 #include <ucontext.h>
@@ -72,15 +73,24 @@ static long computed_ms(void)
 	return used.tv_sec * 1000 + used.tv_nsec / 1000000;
 }
 
-/* Whether the thread is where it was at the last tick, with the same registers: a loop that only reads memory. */
+static long page_faults(void)
+{
+	struct rusage usage = {0};
+	getrusage(RUSAGE_THREAD, &usage);
+	return usage.ru_minflt + usage.ru_majflt;
+}
+
+/* Whether the thread is where it was at the last tick, with the same registers: a loop that only reads memory. One that waits
+ * for its memory, on a host that has little of it, is there too. */
 static int spins(void *context)
 {
 	const greg_t *g = ((ucontext_t *)context)->uc_mcontext.gregs;
 	const greg_t moved = g[REG_RIP] - own.sample[REG_RIP];
-	const int is_same =
-		own.has_sample && moved > -LOOP_BYTES && moved < LOOP_BYTES && memcmp(g, own.sample, sizeof(greg_t) * REG_RIP) == 0;
+	const long faults = page_faults();
+	const int is_same = own.has_sample && faults == own.faults && moved > -LOOP_BYTES && moved < LOOP_BYTES &&
+						memcmp(g, own.sample, sizeof(greg_t) * REG_RIP) == 0;
 	memcpy(own.sample, g, sizeof own.sample);
-	own.has_sample = 1;
+	own.has_sample = 1, own.faults = faults;
 	return is_same;
 }
 
@@ -100,7 +110,7 @@ static void look_at_poke(const siginfo_t *info, void *context)
 	if (own.busy || own.fd < 0 || is_in_entry(context))
 		return;
 	const char *question = info->si_code == SI_TIMER ? question_of_tick(context) : "poke 1";
-	if (question != NULL)
+	if (question != NULL && !tracehost_looks_for_leaks()) /* however long that takes, it is no computation of the program's */
 		tracehost_ask_between(place_of(context), question, context);
 }
 

@@ -3,6 +3,7 @@
 #include <fcntl.h>
 #include <limits.h>
 #include <poll.h>
+#include <stdio.h>
 #include <string.h>
 #include <sys/select.h>
 #include <sys/socket.h>
@@ -14,18 +15,34 @@
 #include "freebsd.h"
 #include "runtime.h"
 
-/* The files that standard input, output and error were at the start are outside: a read there waits for the world. */
+/* The files that standard input, output and error were at the server's start are outside: a read there waits for the world. */
 static struct {
-	dev_t device;
-	ino_t inode;
+	unsigned long device, inode;
 } outside[3];
 
-__attribute__((constructor(102))) static void note_outside(void)
+void tracehost_note_outside(void)
 {
 	struct stat st;
 	for (int fd = 0; fd < 3; fd++)
 		if (fstat(fd, &st) == 0)
 			outside[fd].device = st.st_dev, outside[fd].inode = st.st_ino;
+}
+
+/* For the next image: DEVICE:INODE of each. */
+void tracehost_write_outside(char *text, size_t room)
+{
+	snprintf(text, room, "%lx:%lx %lx:%lx %lx:%lx", outside[0].device, outside[0].inode, outside[1].device, outside[1].inode,
+		outside[2].device, outside[2].inode);
+}
+
+/* What comes behind them; NULL for another text. */
+const char *tracehost_read_outside(const char *text)
+{
+	int length;
+	return sscanf(text, " %lx:%lx %lx:%lx %lx:%lx%n", &outside[0].device, &outside[0].inode, &outside[1].device, &outside[1].inode,
+			   &outside[2].device, &outside[2].inode, &length) == 6
+			   ? text + length
+			   : NULL;
 }
 
 int tracehost_is_standard(const struct stat *of)

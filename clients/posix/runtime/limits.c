@@ -22,6 +22,26 @@ static struct kept {
 static int lifted; /* how many calls of the runtime need more */
 static char changing; /* a thread that begins needs memory while the one that has made it goes on */
 
+/* The host's number of a limit; -1 if it has none. */
+static int host_limit(int number)
+{
+	static const struct {
+		int number, host;
+	} limits[] = {{BSD_RLIMIT_CPU, RLIMIT_CPU}, {BSD_RLIMIT_FSIZE, RLIMIT_FSIZE}, {BSD_RLIMIT_DATA, RLIMIT_DATA},
+		{BSD_RLIMIT_STACK, RLIMIT_STACK}, {BSD_RLIMIT_CORE, RLIMIT_CORE}, {BSD_RLIMIT_RSS, RLIMIT_RSS},
+		{BSD_RLIMIT_MEMLOCK, RLIMIT_MEMLOCK}, {BSD_RLIMIT_NPROC, RLIMIT_NPROC}, {BSD_RLIMIT_NOFILE, RLIMIT_NOFILE},
+		{BSD_RLIMIT_AS, RLIMIT_AS}};
+	for (size_t i = 0; i < sizeof limits / sizeof limits[0]; i++)
+		if (limits[i].number == number)
+			return limits[i].host;
+	if (number >= 0 && number < BSD_RLIMITS)
+		tracehost_say("getrlimit, setrlimit: the host hasn't FreeBSD's limit %d (EINVAL)", number);
+	return -1;
+}
+
+static rlim_t to_host(rlim_t limit) { return limit >= BSD_RLIM_INFINITY ? RLIM_INFINITY : limit; }
+static rlim_t to_program(rlim_t limit) { return limit >= BSD_RLIM_INFINITY ? BSD_RLIM_INFINITY : limit; }
+
 static struct kept *kept_of(int resource)
 {
 	for (int i = 0; i < KEPT; i++)
@@ -81,24 +101,29 @@ void tracehost_limits_of_child(void)
 
 /* ---- the program's calls */
 
-int tracehost_getrlimit(__rlimit_resource_t resource, struct rlimit *to)
+int tracehost_getrlimit(__rlimit_resource_t number, struct rlimit *to)
 {
-	const struct kept *own_limit = kept_of((int)resource);
+	const int resource = host_limit((int)number);
+	const struct kept *own_limit = kept_of(resource);
+	struct rlimit limit;
 	ask("call %d", SYSCALL_GETRLIMIT);
-	if (own_limit == NULL || !own_limit->is_set)
-		return getrlimit(resource, to);
-	*to = own_limit->limit;
+	if (own_limit != NULL && own_limit->is_set)
+		limit = own_limit->limit;
+	else if (getrlimit(resource, &limit) != 0)
+		return -1;
+	*to = (struct rlimit){to_program(limit.rlim_cur), to_program(limit.rlim_max)};
 	return 0;
 }
 
-int tracehost_setrlimit(__rlimit_resource_t resource, const struct rlimit *to)
+int tracehost_setrlimit(__rlimit_resource_t number, const struct rlimit *to)
 {
-	struct kept *own_limit = kept_of((int)resource);
+	const int resource = host_limit((int)number);
+	struct kept *own_limit = kept_of(resource);
 	struct rlimit before;
-	const struct rlimit wanted = *to;
+	const struct rlimit wanted = {to_host(to->rlim_cur), to_host(to->rlim_max)};
 	ask("call %d", SYSCALL_SETRLIMIT);
 	if (own_limit == NULL)
-		return setrlimit(resource, to);
+		return setrlimit(resource, &wanted);
 	if (own_limit->is_set)
 		before = own_limit->limit;
 	else if (getrlimit(resource, &before) != 0)

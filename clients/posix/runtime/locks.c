@@ -53,7 +53,7 @@ static int lock_until(const void *where, pthread_mutex_t *mutex, clockid_t clock
 
 int tracehost_pthread_mutex_clocklock(pthread_mutex_t *mutex, clockid_t clock, const struct timespec *until)
 {
-	return lock_until(HERE, mutex, clock, until);
+	return lock_until(HERE, mutex, tracehost_host_clock(clock), until);
 }
 
 int tracehost_pthread_mutex_timedlock(pthread_mutex_t *mutex, const struct timespec *until)
@@ -136,6 +136,19 @@ static int wait_condition(const void *where, pthread_cond_t *given, pthread_mute
 	return error != 0 ? error : late;
 }
 
+int tracehost_pthread_condattr_setclock(pthread_condattr_t *attributes, clockid_t clock)
+{
+	return pthread_condattr_setclock(attributes, tracehost_host_clock(clock));
+}
+
+int tracehost_pthread_condattr_getclock(const pthread_condattr_t *attributes, clockid_t *clock)
+{
+	const int error = pthread_condattr_getclock(attributes, clock);
+	if (error == 0)
+		*clock = *clock == CLOCK_MONOTONIC ? BSD_CLOCK_MONOTONIC : BSD_CLOCK_REALTIME;
+	return error;
+}
+
 int tracehost_pthread_cond_init(pthread_cond_t *given, const pthread_condattr_t *attributes)
 {
 	clockid_t clock = CLOCK_REALTIME;
@@ -161,7 +174,9 @@ int tracehost_pthread_cond_wait(pthread_cond_t *condition, pthread_mutex_t *mute
 int tracehost_pthread_cond_clockwait(
 	pthread_cond_t *condition, pthread_mutex_t *mutex, clockid_t clock, const struct timespec *until)
 {
-	return tracehost_no_time(until) ? EINVAL : wait_condition(HERE, condition, mutex, tracehost_moment(clock, until));
+	if (tracehost_no_time(until))
+		return EINVAL;
+	return wait_condition(HERE, condition, mutex, tracehost_moment(tracehost_host_clock(clock), until));
 }
 
 int tracehost_pthread_cond_timedwait(pthread_cond_t *condition, pthread_mutex_t *mutex, const struct timespec *until)
@@ -263,7 +278,7 @@ static int take_until(const void *where, sem_t *semaphore, clockid_t clock, cons
 
 int tracehost_sem_clockwait(sem_t *semaphore, clockid_t clock, const struct timespec *until)
 {
-	return take_until(HERE, semaphore, clock, until);
+	return take_until(HERE, semaphore, tracehost_host_clock(clock), until);
 }
 
 int tracehost_sem_timedwait(sem_t *semaphore, const struct timespec *until)
@@ -283,7 +298,7 @@ int tracehost_sem_clockwait_np(sem_t *semaphore, clockid_t clock, int flags, con
 	}
 	if (left != NULL)
 		*left = (struct timespec){0, 0};
-	return take_until(HERE, semaphore, clock, tracehost_no_time(time) ? time : &until);
+	return take_until(HERE, semaphore, tracehost_host_clock(clock), tracehost_no_time(time) ? time : &until);
 }
 
 int tracehost_sem_post(sem_t *semaphore)

@@ -347,7 +347,7 @@ int tracehost_procctl(idtype_t kind, id_t id, int command, void *data)
 	int *to = data;
 	if (ask("call %d", SYSCALL_PROCCTL) != 0)
 		return -1;
-	if (kind != P_PID || (command != PROC_ASLR_CTL && command != PROC_ASLR_STATUS)) {
+	if ((int)kind != BSD_P_PID || (command != PROC_ASLR_CTL && command != PROC_ASLR_STATUS)) {
 		tracehost_say("procctl: only PROC_ASLR_CTL and PROC_ASLR_STATUS of P_PID are here (EINVAL)");
 		return fail(EINVAL);
 	}

@@ -46,6 +46,8 @@ int tracehost_is_of_the_system(const char *file) { return strncmp(file, "/lib", 
 /* With clang a sanitizer is a part of the program; it makes such calls when it looks for leaks. */
 extern void __sanitizer_set_death_callback(void (*)(void)) __attribute__((weak));
 
+int tracehost_is_sanitized(void) { return &__sanitizer_set_death_callback != NULL; }
+
 int tracehost_is_sanitizer(const struct dl_phdr_info *info)
 {
 	const void *sanitizer = (const void *)(size_t)&__sanitizer_set_death_callback;

@@ -217,7 +217,7 @@ static pid_t fork_foreign(void)
  * so the broker knows whose a process is. */
 static void run_foreign(const char *path, char *const argv[], char *const envp[])
 {
-	tracehost_ask(NULL, "foreign");
+	tracehost_ask(NULL, "foreign %ld %d", (long)tracehost_held, tracehost_reader);
 	signal(SIGCHLD, SIG_DFL);
 	prctl(PR_SET_CHILD_SUBREAPER, 1);
 	pid_t child = fork_foreign();
@@ -237,8 +237,8 @@ static void run_foreign(const char *path, char *const argv[], char *const envp[]
 
 static int replace_lifted(const void *where, const char *path, char *const argv[], char *const envp[])
 {
-	static char socket_of[400];
-	char **environment, limits[256];
+	static char socket_of[600];
+	char **environment, limits[256], outside[128];
 	size_t count = 0;
 	int error = why_not(path, argv, envp);
 	if (error != 0) {
@@ -259,8 +259,9 @@ static int replace_lifted(const void *where, const char *path, char *const argv[
 	for (size_t i = 0; i < count; i++)
 		environment[i + 1] = envp[i];
 	tracehost_write_limits(limits, sizeof limits);
-	snprintf(socket_of, sizeof socket_of, "TRACEHOST_LWP=%d %d %d %lx %d%s", own.fd, own_pid, own.tid, tracehost_held,
-		tracehost_reader, limits);
+	tracehost_write_outside(outside, sizeof outside);
+	snprintf(socket_of, sizeof socket_of, "TRACEHOST_LWP=%d %d %d %lx %d %s%s", own.fd, own_pid, own.tid, tracehost_held,
+		tracehost_reader, outside, limits);
 	environment[0] = socket_of; /* the program may have given one of that name */
 	own.busy = 1; /* no poke comes between */
 	fcntl(own.fd, F_SETFD, 0);
@@ -402,42 +403,33 @@ pid_t tracehost_waitpid(pid_t which, int *status, int options) { return wait_for
 pid_t tracehost_wait(int *status) { return wait_for(HERE, -1, status, 0, NULL); }
 
 /* wait6(2) as far as wait4(2) carries it: ends and trace stops are always reported, and a report is always taken. */
-static pid_t wait_six(const void *where, idtype_t kind, id_t id, int *status, int options, siginfo_t *info)
+static pid_t wait_six(const void *where, idtype_t kind, id_t id, int *status, int options, struct __siginfo *info)
 {
 	int word = 0;
 	pid_t pid;
-	if ((kind != P_PID && kind != P_ALL) || !(options & BSD_WEXITED)) {
+	if (((int)kind != BSD_P_PID && (int)kind != BSD_P_ALL) || !(options & BSD_WEXITED)) {
 		tracehost_say("wait6, waitid: the model has only P_PID and P_ALL, with WEXITED (EINVAL)");
 		errno = EINVAL;
 		return -1;
 	}
-	pid = wait_for(where, kind == P_ALL ? -1 : (pid_t)id, &word, options, NULL);
+	pid = wait_for(where, (int)kind == BSD_P_ALL ? -1 : (pid_t)id, &word, options, NULL);
 	if (pid < 0)
 		return -1;
-	if (info != NULL) {
-		memset(info, 0, sizeof *info);
-		if (pid != 0) {
-			int stopped = (word & 0xff) == 0x7f;
-			info->si_signo = BSD_SIGCHLD, info->si_pid = pid;
-			info->si_code = word == BSD_SIGCONT ? CLD_CONTINUED : stopped ? CLD_STOPPED : word & 0x7f ? CLD_KILLED : CLD_EXITED;
-			info->si_status = word == BSD_SIGCONT ? BSD_SIGCONT : stopped || !(word & 0x7f) ? word >> 8 & 0xff : word & 0x7f;
-			if (stopped && options & BSD_WTRAPPED)
-				info->si_code = CLD_TRAPPED;
-		}
-	}
+	if (info != NULL)
+		tracehost_describe_child(info, pid, word, options);
 	if (status != NULL)
 		*status = word;
 	return pid;
 }
 
-pid_t tracehost_wait6(idtype_t kind, id_t id, int *status, int options, void *usage, siginfo_t *info)
+pid_t tracehost_wait6(idtype_t kind, id_t id, int *status, int options, void *usage, struct __siginfo *info)
 {
 	if (usage != NULL)
 		memset(usage, 0, 2 * sizeof(struct rusage));
 	return wait_six(HERE, kind, id, status, options, info);
 }
 
-int tracehost_waitid(idtype_t kind, id_t id, siginfo_t *info, int options)
+int tracehost_waitid(idtype_t kind, id_t id, struct __siginfo *info, int options)
 {
 	return wait_six(HERE, kind, id, NULL, options, info) < 0 ? -1 : 0;
 }

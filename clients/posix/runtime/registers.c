@@ -249,20 +249,6 @@ int tracehost_trap(siginfo_t *info, void *context)
 
 /* ---- handlers of the program */
 
-void tracehost_describe(siginfo_t *info)
-{
-	info->si_code = (int)tracehost_number();
-	const int sender = (int)tracehost_number(), status = (int)tracehost_number();
-	const unsigned long address = (unsigned long)tracehost_number();
-	if (sender == 0)
-		info->si_addr = (void *)address;
-	else {
-		info->si_pid = sender, info->si_uid = getuid();
-		if (info->si_signo == BSD_SIGCHLD)
-			info->si_status = status;
-	}
-}
-
 /* A context for a handler in a call, and what it has changed there. */
 static void make_context(ucontext_t *context)
 {
@@ -287,7 +273,7 @@ void tracehost_handle(int number)
 {
 	const struct sigaction action = tracehost_actions[number];
 	const int saved = errno;
-	siginfo_t info = {.si_signo = number};
+	struct __siginfo info = {.si_signo = number};
 	ucontext_t made, *context = own.now.context;
 	gregset_t before;
 	tracehost_describe(&info);

@@ -13,6 +13,7 @@
 #include <time.h>
 #include <ucontext.h>
 #include "../include/machine/reg.h"
+#include "../include/tracehost/siginfo.h"
 
 enum {
 	FIRST_FD = 1000, /* the runtime's descriptors have this number or a greater one */
@@ -86,6 +87,7 @@ struct own {
 	unsigned questions, seen; /* asked, and asked at the last tick */
 	long since; /* the processor time then, in ms */
 	gregset_t sample; /* registers at the last tick */
+	long faults; /* of pages, then */
 	int has_sample;
 	int passed; /* a descriptor that came with the answer, or -1 */
 	char *at; /* the rest of the answer */
@@ -174,7 +176,8 @@ int tracehost_goes_back(void *context, const void *behind);
 void tracehost_fill_frame(struct frame *frame, void *context);
 int tracehost_trap(siginfo_t *info, void *context);
 void tracehost_handle(int number);
-void tracehost_describe(siginfo_t *info); /* by the next four numbers of the answer */
+void tracehost_describe_child(struct __siginfo *info, pid_t pid, int status, int options); /* by its status */
+void tracehost_describe(struct __siginfo *info); /* by the next four numbers of the answer */
 void tracehost_say_hello(void *context);
 
 /* Calls under PT_SYSCALL (reports.c): in place of the call's function; and the arguments of its system call. */
@@ -212,7 +215,9 @@ void tracehost_cancel_point(void);
 /* The host's children (children.c): a fork, those that have ended, those of the image before, and the end of one: its status. */
 pid_t tracehost_host_fork(void);
 void tracehost_collect(void);
+void tracehost_list_children(char *list, size_t size);
 void tracehost_find_children(void);
+int tracehost_looks_for_leaks(void);
 int tracehost_await_child(pid_t child);
 
 /* A child, by the question `fork` or `vfork`; and an exec, which returns -1 if it fails. */
@@ -250,6 +255,9 @@ void tracehost_limits_of_child(void);
 unsigned long tracehost_most_processes(void);
 size_t tracehost_room_in(int fd, size_t count);
 int tracehost_is_standard(const struct stat *of);
+void tracehost_note_outside(void);
+void tracehost_write_outside(char *text, size_t room);
+const char *tracehost_read_outside(const char *text);
 int tracehost_open(const char *path, int flags);
 int tracehost_look(struct pollfd *ready);
 void tracehost_write_limits(char *text, size_t room);
@@ -297,6 +305,7 @@ const void *tracehost_libc(void);
 const void *tracehost_base_of(const void *address);
 int tracehost_is_of_the_system(const char *file);
 int tracehost_is_sanitizer(const struct dl_phdr_info *info);
+int tracehost_is_sanitized(void);
 int tracehost_host_sigaction(int number, const struct sigaction *new, struct sigaction *old);
 void tracehost_host_signal(int number, void (*handler)(int));
 pid_t tracehost_host_waitpid(pid_t which, int *status, int options);
@@ -329,9 +338,10 @@ void tracehost_described_end(int pid);
 void tracehost_close_described(int fd);
 void tracehost_no_descriptors(void);
 
-/* Time: whether this is none, and a clock's time on the clock of the broker, which begins at 0. */
+/* Time: whether this is none; the host's clock of FreeBSD's number; and its time on the clock of the broker, which begins at 0. */
 int tracehost_no_time(const struct timespec *time);
-int tracehost_clock_gettime(clockid_t clock, struct timespec *to);
+clockid_t tracehost_host_clock(clockid_t number);
+int tracehost_clock_gettime(clockid_t number, struct timespec *to);
 long long tracehost_moment(clockid_t clock, const struct timespec *time);
 
 /* The program's dispositions, by FreeBSD's numbers. */

@@ -180,7 +180,7 @@ void tracehost_longjmp(jmp_buf at, int value)
 	_longjmp(at, value);
 }
 
-static int await_signal(const void *where, const sigset_t *set, const struct timespec *limit, siginfo_t *info)
+static int await_signal(const void *where, const sigset_t *set, const struct timespec *limit, struct __siginfo *info)
 {
 	long long ns = limit == NULL ? -1 : limit->tv_sec * 1000000000LL + limit->tv_nsec;
 	if (tracehost_ask(where, "sigwait %u %lld", tracehost_bits(set), ns) != 0)
@@ -200,9 +200,9 @@ int tracehost_sigwait(const sigset_t *set, int *number)
 	return got < 0 ? errno : (*number = got, 0);
 }
 
-int tracehost_sigwaitinfo(const sigset_t *set, siginfo_t *info) { return await_signal(HERE, set, NULL, info); }
+int tracehost_sigwaitinfo(const sigset_t *set, struct __siginfo *info) { return await_signal(HERE, set, NULL, info); }
 
-int tracehost_sigtimedwait(const sigset_t *set, siginfo_t *info, const struct timespec *limit)
+int tracehost_sigtimedwait(const sigset_t *set, struct __siginfo *info, const struct timespec *limit)
 {
 	return await_signal(HERE, set, limit, info);
 }
@@ -245,4 +245,4 @@ void tracehost_psignal(int number, const char *before)
 	fprintf(stderr, "%s%s%s\n", has ? before : "", has ? ": " : "", tracehost_strsignal(number));
 }
 
-void tracehost_psiginfo(const siginfo_t *info, const char *before) { tracehost_psignal(info->si_signo, before); }
+void tracehost_psiginfo(const struct __siginfo *info, const char *before) { tracehost_psignal(info->si_signo, before); }

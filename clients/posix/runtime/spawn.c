@@ -104,9 +104,9 @@ static int do_attributes(const posix_spawnattr_t *attributes)
 		return errno;
 	if (flags & POSIX_SPAWN_SETPGROUP && posix_spawnattr_getpgroup(attributes, &group) == 0 && tracehost_setpgid(0, group) != 0)
 		return errno;
-	if (flags & POSIX_SPAWN_SETSIGMASK && posix_spawnattr_getsigmask(attributes, &set) == 0)
+	if (flags & BSD_SPAWN_SETSIGMASK && posix_spawnattr_getsigmask(attributes, &set) == 0)
 		tracehost_sigprocmask(BSD_SIG_SETMASK, &set, NULL);
-	if (flags & POSIX_SPAWN_SETSIGDEF && posix_spawnattr_getsigdefault(attributes, &set) == 0)
+	if (flags & BSD_SPAWN_SETSIGDEF && posix_spawnattr_getsigdefault(attributes, &set) == 0)
 		for (int number = 1; number <= BSD_SIGNALS; number++)
 			if (sigismember(&set, number) == 1)
 				tracehost_signal(number, SIG_DFL);

@@ -13,6 +13,7 @@
 #include <sys/socket.h>
 #include <sys/syscall.h>
 #include <sys/wait.h>
+#include <sys/personality.h>
 #include <unistd.h>
 #include "freebsd.h"
 #include "held.h"
@@ -24,7 +25,22 @@ extern const char __stop_tracehost_units[] __attribute__((weak));
 
 static unsigned long load_address;
 
+static const char forked_word[] = " forked"; /* behind the other words of TRACEHOST_LWP */
+
 /* ---- a thread begins, a process ends */
+
+/* A program without the runtime has forked this process, and exec'd this image in it: the model hears of the two only now. */
+static int is_forked;
+
+static void say_hello(int lands)
+{
+	tracehost_ask(NULL, "hello %d %d %lx %d", (int)syscall(SYS_getpid), (int)syscall(SYS_gettid), load_address, lands);
+	own_pid = tracehost_number(), own.tid = tracehost_number();
+	unsigned long ignored = tracehost_number();
+	for (int n = 1; n <= BSD_SIGNALS; n++)
+		if (ignored >> n & 1)
+			tracehost_actions[n].sa_handler = SIG_IGN;
+}
 
 void tracehost_begin(int fd, int pid, int tid)
 {
@@ -42,12 +58,7 @@ void tracehost_begin(int fd, int pid, int tid)
 		prctl(PR_SET_PDEATHSIG, PARENT_ENDS);
 	own.busy = 1;
 	tracehost_start_ticks();
-	tracehost_ask(NULL, "hello %d %d %lx %d", (int)syscall(SYS_getpid), (int)syscall(SYS_gettid), load_address, own.now.inside);
-	own_pid = tracehost_number(), own.tid = tracehost_number();
-	unsigned long ignored = tracehost_number();
-	for (int n = 1; n <= BSD_SIGNALS; n++)
-		if (ignored >> n & 1)
-			tracehost_actions[n].sa_handler = SIG_IGN;
+	say_hello(own.now.inside && !is_forked);
 }
 
 void tracehost_let_go(void)
@@ -84,12 +95,21 @@ __attribute__((destructor(0))) static void ask_exit(void)
 }
 
 void tracehost_end_process(void) { tracehost_ask(own.where, "exit %d", exit_status & 255); }
-void tracehost_begin_image(int fd, int pid, int tid) { tracehost_begin(fd, pid, tid); }
 
 /* Of the host's numbers: a debugger of the run, and one of --gdb, are descendants of tracehost-run. Others are no business of
  * ours. A fork's child has none. */
 int tracehost_reader;
 void tracehost_let_read(void) { prctl(PR_SET_PTRACER, tracehost_reader, 0, 0, 0); }
+
+void tracehost_begin_image(int fd, int pid, int tid)
+{
+	tracehost_begin(fd, pid, tid);
+	if (!is_forked)
+		return;
+	is_forked = 0;
+	tracehost_ask(NULL, "exec");
+	say_hello(own.now.inside);
+}
 
 static void become_process(int fd, int pid, int tid)
 {
@@ -124,13 +144,9 @@ static int is_full(const struct swept *swept) { return swept->length + 2 * ROOM_
 
 static void end_children(void)
 {
-	char path[64], list[65536];
+	char list[65536];
 	pid_t child;
-	snprintf(path, sizeof path, "/proc/self/task/%d/children", (int)syscall(SYS_gettid));
-	int fd = open(path, O_RDONLY | O_CLOEXEC);
-	ssize_t got = fd < 0 ? 0 : read(fd, list, sizeof list - 1);
-	close(fd);
-	list[got > 0 ? got : 0] = 0;
+	tracehost_list_children(list, sizeof list);
 	for (char *at = list, *next; (child = strtol(at, &next, 10)) > 0; at = next)
 		tracehost_host_kill(child, SIGKILL);
 }
@@ -246,22 +262,69 @@ static void refuse_to_start(const char *why)
 	_exit(EXIT_REFUSED);
 }
 
-/* In a run a program without the runtime, such as a shell, has started it: the broker hears of that by a call that does
- * nothing, and ends the run. */
-static void refuse_alone(void)
+/* The process that a program without the runtime has forked, and waits for, is a proxy. It ends as the process of the model
+ * has, by a signal if need be, which the broker sends. */
+static void __attribute__((noreturn)) be_proxy(pid_t child)
 {
-	tracehost_say("%s: this program is run by tracehost-run, or by an exec in a program that is", program_invocation_name);
-	syscall(SYS_pidfd_send_signal, -1, 0, NULL, BEHIND_ANOTHER);
+	const unsigned long none = 0;
+	int status = 0;
+	syscall(SYS_close_range, 0, ~0U, 0);
+	setrlimit(RLIMIT_CORE, &(struct rlimit){0, 0});
+	for (int n = 1; n < SIGRTMIN; n++)
+		signal(n, SIG_DFL);
+	tracehost_host_call(SYS_rt_sigprocmask, (long[6]){SIG_SETMASK, (long)&none, 0, sizeof none});
+	while (waitpid(child, &status, 0) < 0 && errno == EINTR)
+		;
+	const long said = syscall(SYS_pidfd_send_signal, -1, child, status, BEHIND_ENDS);
+	_exit(WEXITSTATUS(said));
+}
+
+/* As after an exec of the runtime's: with its addresses, and by its environment. */
+static void __attribute__((noreturn)) take_up(int given, char *argv[])
+{
+	static const char exec[] = "0 exec";
+	char line[256] = "", text[300], path[4096] = "";
+	int pid, tid, reader, forked, outside = 0;
+	long held;
+	set_descriptors();
+	const int fd = fcntl(given, F_DUPFD, FIRST_FD);
+	close(given);
+	if (recv(fd, line, sizeof line - 1, 0) <= 0 ||
+		sscanf(line, "%d %d %ld %d %d%n", &pid, &tid, &held, &reader, &forked, &outside) != 5)
+		_exit(EXIT_REFUSED);
+	const pid_t child = forked ? fork() : 0;
+	if (child != 0)
+		be_proxy(child);
+	snprintf(text, sizeof text, "%d %d %d %lx %d%s%s", fd, pid, tid, held, reader, line + outside, forked ? forked_word : "");
+	setenv("TRACEHOST_LWP", text, 1);
+	if (!forked && (send(fd, exec, strlen(exec), MSG_NOSIGNAL) < 0 || recv(fd, line, sizeof line, 0) <= 0))
+		_exit(EXIT_REFUSED);
+	personality(ADDR_NO_RANDOMIZE);
+	if (readlink("/proc/self/exe", path, sizeof path - 1) > 0)
+		execve(path, argv, environ);
 	_exit(EXIT_REFUSED);
 }
 
-__attribute__((constructor(101))) void tracehost_start(void)
+/* In a run a program without the runtime, such as a shell, has started it, which the broker hears of by a call that does
+ * nothing. It answers by a descriptor; or it ends the run, if the model has no process for it. */
+static void refuse_alone(char *argv[])
 {
+	prctl(PR_SET_PDEATHSIG, 0);
+	const int fd = (int)syscall(SYS_pidfd_send_signal, -1, 0, NULL, BEHIND_ANOTHER);
+	if (fd > 0)
+		take_up(fd, argv);
+	tracehost_say("%s: this program is run by tracehost-run, or by an exec in a program that is", program_invocation_name);
+	_exit(EXIT_REFUSED);
+}
+
+__attribute__((constructor(101))) void tracehost_start(int argc, char *argv[])
+{
+	(void)argc;
 	int fd, pid, tid, length = 0;
 	unsigned long held;
 	const char *lwp = getenv("TRACEHOST_LWP"), *control = getenv("TRACEHOST_CONTROL");
 	if (lwp == NULL && control == NULL)
-		refuse_alone();
+		refuse_alone(argv);
 	if (&__start_tracehost_units[0] == &__stop_tracehost_units[0])
 		refuse_to_start("it was compiled without <tracehost/posix.h>: compile its files with tracehost-cc too");
 	set_descriptors();
@@ -270,10 +333,14 @@ __attribute__((constructor(101))) void tracehost_start(void)
 	tracehost_make_stacks();
 	tracehost_host_signals();
 	if (lwp != NULL) { /* this image comes of an exec */
-		if (sscanf(lwp, "%d %d %d %lx %d%n", &fd, &pid, &tid, &held, &tracehost_reader, &length) != 5)
+		const char *rest = NULL;
+		if (sscanf(lwp, "%d %d %d %lx %d%n", &fd, &pid, &tid, &held, &tracehost_reader, &length) == 5)
+			rest = tracehost_read_outside(lwp + length);
+		if (rest == NULL)
 			refuse_to_start("its environment has another TRACEHOST_LWP than the runtime sets");
+		is_forked = strcmp(rest, forked_word) == 0;
 		tracehost_lift_limits();
-		tracehost_read_limits(lwp + length);
+		tracehost_read_limits(rest);
 		char text[4096] = "";
 		tracehost_report_libraries(text, sizeof text);
 		tracehost_hold_calls(held);
@@ -290,6 +357,7 @@ __attribute__((constructor(101))) void tracehost_start(void)
 	if (sscanf(control, "%d %d", &fd, &tracehost_reader) != 2)
 		refuse_to_start("its environment has another TRACEHOST_CONTROL than tracehost-run sets");
 	unsetenv("TRACEHOST_CONTROL");
+	tracehost_note_outside();
 	if (send_ready(fd) < 0)
 		refuse_to_start("this program is run by tracehost-run");
 	become_process(serve(fd), 0, 0);

@@ -274,7 +274,9 @@ int tracehost_pthread_timedjoin_np(pthread_t thread, void **value, const struct 
 
 int tracehost_pthread_clockjoin_np(pthread_t thread, void **value, clockid_t clock, const struct timespec *until)
 {
-	return tracehost_no_time(until) ? EINVAL : join(HERE, thread, value, tracehost_moment(clock, until));
+	if (tracehost_no_time(until))
+		return EINVAL;
+	return join(HERE, thread, value, tracehost_moment(tracehost_host_clock(clock), until));
 }
 
 /* Whether the thread has ended: 0, EBUSY, or another errno. */

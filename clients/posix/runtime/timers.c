@@ -59,8 +59,9 @@ static int number_of(timer_t timer)
 	return 0;
 }
 
-int tracehost_timer_create(clockid_t clock, struct sigevent *event, timer_t *made)
+int tracehost_timer_create(clockid_t clock_number, struct sigevent *event, timer_t *made)
 {
+	const clockid_t clock = tracehost_host_clock(clock_number);
 	int number = 1, signal = event == NULL ? BSD_SIGALRM : event->sigev_notify == SIGEV_NONE ? 0 : event->sigev_signo;
 	ask("call %d", SYSCALL_TIMER_CREATE);
 	while (number <= TIMERS && timers[number].used)

@@ -1,9 +1,11 @@
 /* What programs call besides: handlers, threads' locks, pipes, time, memory. */
 #include <sys/mman.h>
+#include <sys/resource.h>
 #include <sys/select.h>
 #include <sys/time.h>
 #include <assert.h>
 #include <poll.h>
+#include <pthread.h>
 #include <semaphore.h>
 #include <stdint.h>
 #include <time.h>
@@ -128,6 +130,52 @@ ATF_TC_BODY(sleeps, tc)
 		ATF_REQUIRE_EQ(count, 1); /* it rang before */
 	else
 		ATF_REQUIRE(errno == EINTR && left.tv_sec >= 3500 && left.tv_sec <= 3600);
+}
+
+/* The numbers are those of clock_gettime(2). */
+ATF_TC_WITHOUT_HEAD(clocks);
+ATF_TC_BODY(clocks, tc)
+{
+	static const int numbers[] = { 0, 2, 4, 5, 7, 8, 9, 10, 11, 12, 14, 15 };
+	struct timespec now, step;
+	pthread_condattr_t attributes;
+	clockid_t clock;
+
+	for (size_t i = 0; i < nitems(numbers); i++) {
+		ATF_REQUIRE_EQ(clock_gettime(numbers[i], &now), 0);
+		ATF_REQUIRE_EQ(clock_getres(numbers[i], &step), 0);
+		ATF_REQUIRE(step.tv_sec == 0 && step.tv_nsec > 0);
+	}
+	ATF_REQUIRE_ERRNO(EINVAL, clock_gettime(1000, &now) == -1);
+	ATF_REQUIRE_ERRNO(EINVAL, clock_getres(1000, &step) == -1);
+	ATF_REQUIRE_EQ(pthread_condattr_init(&attributes), 0);
+	ATF_REQUIRE_EQ(pthread_condattr_getclock(&attributes, &clock), 0);
+	ATF_REQUIRE_EQ(clock, CLOCK_REALTIME);
+	ATF_REQUIRE_EQ(pthread_condattr_setclock(&attributes, CLOCK_MONOTONIC), 0);
+	ATF_REQUIRE_EQ(pthread_condattr_getclock(&attributes, &clock), 0);
+	ATF_REQUIRE_EQ(clock, CLOCK_MONOTONIC);
+	ATF_REQUIRE_EQ(pthread_condattr_setclock(&attributes, 1000), EINVAL);
+}
+
+/* The numbers are those of getrlimit(2). */
+ATF_TC_WITHOUT_HEAD(limits);
+ATF_TC_BODY(limits, tc)
+{
+	struct rlimit limit = { 20, 20 }, got;
+	int fd;
+
+	ATF_REQUIRE_EQ(setrlimit(RLIMIT_NOFILE, &limit), 0);
+	ATF_REQUIRE_EQ(getrlimit(RLIMIT_NOFILE, &got), 0);
+	ATF_REQUIRE(got.rlim_cur == 20 && got.rlim_max == 20);
+	while ((fd = dup(0)) != -1)
+		ATF_REQUIRE(fd < 20);
+	ATF_REQUIRE_EQ(errno, EMFILE);
+	ATF_REQUIRE_EQ(getrlimit(RLIMIT_FSIZE, &got), 0);
+	ATF_REQUIRE(got.rlim_cur <= RLIM_INFINITY && got.rlim_max <= RLIM_INFINITY);
+	ATF_REQUIRE_EQ(setrlimit(RLIMIT_FSIZE, &got), 0);
+	ATF_REQUIRE_EQ(getrlimit(RLIMIT_FSIZE, &limit), 0);
+	ATF_REQUIRE(limit.rlim_cur == got.rlim_cur && limit.rlim_max == got.rlim_max);
+	ATF_REQUIRE_ERRNO(EINVAL, getrlimit(RLIM_NLIMITS + 100, &got) == -1);
 }
 
 static pthread_mutex_t mutex = PTHREAD_MUTEX_INITIALIZER;
@@ -463,6 +511,8 @@ ATF_TP_ADD_TCS(tp)
 	ATF_TP_ADD_TC(tp, sigwait_takes_one);
 	ATF_TP_ADD_TC(tp, alarms);
 	ATF_TP_ADD_TC(tp, sleeps);
+	ATF_TP_ADD_TC(tp, clocks);
+	ATF_TP_ADD_TC(tp, limits);
 	ATF_TP_ADD_TC(tp, mutex_and_condition);
 	ATF_TP_ADD_TC(tp, barriers_and_semaphores);
 	ATF_TP_ADD_TC(tp, signals_to_threads);

@@ -90,6 +90,9 @@ main(int argc, char **argv)
 	} else if (strcmp(what, "deadlock") == 0) {
 		start_children(3);
 		pause();
+	} else if (strcmp(what, "shell") == 0) { /* which forks two more of these */
+		setenv("odd", argv[0], 1);
+		execl("/bin/sh", "sh", "-c", "$odd deadlock & $odd spins & wait", (char *)NULL);
 	} else if (strcmp(what, "system") == 0)
 		return (system("true"));
 	else if (strcmp(what, "registers") == 0)

@@ -7,11 +7,12 @@ import resource
 import sys
 import time
 from collections.abc import Callable, Iterator, Sequence
-from typing import TYPE_CHECKING
+from typing import TYPE_CHECKING, Any
 
 from . import record, report, rooms
 from .broker import Broker, find
 from .describe import Met
+from .kept import Kept
 from .many import Search
 from .options import USAGE, model_of, one_of, parser, recordable, replayed
 from .outcome import Outcome, Result
@@ -29,11 +30,16 @@ if TYPE_CHECKING:
     import argparse
 
 
+def _reason(failed: OSError) -> str:
+    return f"{failed.filename}: {failed.strerror}" if failed.filename else str(failed.strerror)
+
+
 class Command:
     """What was asked for."""
 
-    def __init__(self, given: argparse.Namespace, setting: Setting) -> None:
+    def __init__(self, given: argparse.Namespace, setting: Setting, kept: Kept) -> None:
         self.given, self.setting = given, setting
+        self._kept = kept
         self._began = time.monotonic()
         self._sums = Sums()
         """Of all runs of this process."""
@@ -190,30 +196,48 @@ class Command:
         _tell("--compare", path, trouble)
 
     def record(self, outcome: Outcome) -> None:
-        """--record and --compare."""
+        """--record and --compare. A run that fails is recorded without being asked."""
+        path, why = self.given.record, outcome.result.why
         if self.given.compare is not None:
             self._compare(self.given.compare, outcome)
-        path = self.given.record
-        if path is None:
-            return
+        if path is not None:
+            try:
+                trouble = self._write(path, outcome)
+            except OSError as failed:
+                raise OSError(f"--record: {path}: {failed.strerror}") from failed
+            _tell("--record", f"{path}.html", trouble)
+            self._left = None if why is None else path
+        elif why is not None and not self.given.no_record:
+            try:
+                self._left = self._kept.keep(lambda path: self._write_quietly(path, outcome))
+            except OSError as failed:
+                say(f"no record is left: {_reason(failed)}")
+
+    def _write_quietly(self, path: str, outcome: Outcome) -> None:
+        """The files of a record. Without the viewer it has no page, and nobody has asked for one."""
+        trouble = self._write(path, outcome)
+        if trouble not in (None, report.NO_VIEWER):
+            say(f"there is no page of the record: {trouble}")
+
+    def _write(self, path: str, outcome: Outcome) -> str | None:
+        """The files of a record; a text if there is no page of it."""
         setting, why = self.setting, outcome.result.why
-        options = {"calls": setting.options.calls, "strict": setting.options.strict, "limit": setting.options.limit, "failed": why}
+        settings: dict[str, Any] = {
+            "calls": setting.options.calls, "strict": setting.options.strict, "limit": setting.options.limit, "failed": why,
+            "kill_on_debugger_exit": setting.kill_on_debugger_exit,
+        }  # fmt: skip
         steps = ", ".join(str(place.step) for place in outcome.places)
         words = " ".join([os.path.basename(setting.command[0]), *setting.command[1:]])
         title = f"{words}: {why or 'passed'}" + (f" (switches before step {steps})" if steps else "")
+        record.write(path, outcome, setting.command, setting.kill_on_debugger_exit, settings)
+        return report.page(setting.model, path, title, self._failure(outcome, words))
+
+    def passed(self) -> None:
+        """What this command left when it failed goes."""
         try:
-            record.write(
-                path,
-                outcome,
-                setting.command,
-                setting.kill_on_debugger_exit,
-                {**options, "kill_on_debugger_exit": setting.kill_on_debugger_exit},
-            )
-            trouble = report.page(setting.model, path, title, self._failure(outcome, words))
+            self._kept.drop()
         except OSError as failed:
-            raise OSError(f"--record: {path}: {failed.strerror}") from failed
-        _tell("--record", f"{path}.html", trouble)
-        self._left = None if why is None else path
+            say(f"an earlier record stays: {_reason(failed)}")
 
     def tell_story(self) -> None:
         """What the record of a failure comes to."""
@@ -294,8 +318,10 @@ def _command(words: Sequence[str] | None) -> int:
             raise Broken(f"only {hard} open files are allowed (ulimit -n), and {DESCRIPTORS} are needed")
         resource.setrlimit(resource.RLIMIT_NOFILE, (max(soft, min(hard, 4096)), hard))  # a socket for each thread
         rooms.sweep()
-        command = Command(given, _setting(given, model))
+        command = Command(given, _setting(given, model), Kept(given.program, _words(given, words)))
         status = _run(command)
+        if status == 0:
+            command.passed()
         command.tell_story()
         return status
     except NotRunnable as why:
@@ -313,6 +339,14 @@ def _command(words: Sequence[str] | None) -> int:
         return BROKEN
     except KeyboardInterrupt:
         return 130
+
+
+def _words(given: argparse.Namespace, words: Sequence[str] | None) -> list[str]:
+    """The command's words without the program."""
+    known = [*(sys.argv[1:] if words is None else words)]
+    if given.program in known:
+        known.remove(given.program)
+    return known
 
 
 def _setting(given: argparse.Namespace, model: str) -> Setting:

@@ -55,6 +55,7 @@ _NAMES = {
     "timer": "setitimer",
     "sleep": "nanosleep",
     "exit": "exit",
+    "foreign": "a program without the runtime",
     "masked": "ppoll",
     "restore": "a call's return",
     "cancel": "pthread_cancel",
@@ -242,6 +243,8 @@ def waiting(lwp: Waiting) -> str:
         return f"{name} waits in wait4 for {'any child' if words[1] == '-1' else words[1]}"
     if words[0] == "join":
         return f"{name} waits for the end of LWP {words[1]}"
+    if words[0] == "poke":
+        return f"{name} is a program without the runtime, and waits for those that it has started"
     if words[0] == "again" and words[1] == "mutex":
         return f"{name} waits for a mutex that {f'{lwp.pid}/{lwp.holder}' if lwp.holder else 'nobody'} holds"
     if words[0] == "again":

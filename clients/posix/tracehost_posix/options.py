@@ -14,7 +14,7 @@ from .report import say, writing
 
 USAGE = 2
 # tools/format version
-VERSION = "0.22.0"
+VERSION = "0.24.0"
 # end
 
 
@@ -134,6 +134,9 @@ def parser() -> Parser:
     add("--workers", metavar="URL", help="runs them on the workers of a scheduler of Dask distributed: tcp://.. or tls://..")
     add("--json", action="store_true", help="prints what a search comes to as a JSON object")
     add("--record", metavar="FILE", help="the run, or the one that fails: FILE (scenario), FILE.lines, FILE.schedule, FILE.html")
+    add(
+        "--no-record", action="store_true", help="a run that fails leaves none; else it is in $TRACEHOST_ARTIFACTS, or a new folder"
+    )
     add("--compare", metavar="PAGE", help="a page of the plain schedule beside the run, or the one that fails")
     add("--gdb", action="store_true", help="starts gdb on the process that fails, before it ends")
     add("--with", dest="tool", metavar="COMMAND", help="starts COMMAND with that process's number")

@@ -109,9 +109,9 @@ def unheard_of(name: str, words: list[str]) -> str:
     return f"calls {words[0]} past the runtime, in {' '.join(words[1:])}, which tracehost-cc hasn't compiled, or by an instruction of its own"
 
 
-def behind(pid: str, file: str) -> str:
-    """A program with the runtime that one without it has started."""
-    return f"{pid}: a program without the runtime, such as a shell, has started {file}, for which the model has no process: exec it without the shell"
+def behind(file: str) -> str:
+    """A program with the runtime that one without it has started too late."""
+    return f"a program without the runtime, such as a shell, has left a process that has started {file}, but its own process in the model has ended, or is another program by now: so there is none for {file}"
 
 
 def endless(limit: int) -> str:
@@ -168,7 +168,7 @@ def failure(text: str, all_waiting: Sequence[Waiting], options: Options) -> str:
     """The sentence of the broker's words for a failure."""
     name, *words = text.split(" ")
     if name == "behind":
-        return behind(words[0], " ".join(words[1:]))
+        return behind(" ".join(words))
     numbers = [int(word) for word in words] if name not in ("refused", "outside", "denied") else [int(word) for word in words[:2]]
     if name == "endless":
         return endless(options.limit)
@@ -215,6 +215,8 @@ def fault(text: str) -> str:
         return f"{first}/{tid} doesn't answer {line!r}"
     if name == "both":
         return f"{first} is a number of the model's, and of a process that {last} has started"
+    if name == "room":
+        return f"the model has no room for a process of {last}, which a program without the runtime has started in {first}"
     if name == "control":
         return CONTROL_WRITTEN
     if name == "server":

@@ -13,7 +13,12 @@ HOME = os.path.dirname(os.path.abspath(__file__))
 
 def cc() -> NoReturn:
     """tracehost-cc."""
-    os.execv(os.path.join(HOME, "tracehost-cc"), ["tracehost-cc", *sys.argv[1:]])
+    _become("tracehost-cc")
+
+
+def ld() -> NoReturn:
+    """tracehost-ld."""
+    _become("tracehost-ld")
 
 
 def run() -> int:
@@ -24,6 +29,10 @@ def run() -> int:
 def corpus() -> int:
     """tracehost-corpus."""
     return _main("corpus")
+
+
+def _become(command: str) -> NoReturn:
+    os.execv(os.path.join(HOME, command), [command, *sys.argv[1:]])
 
 
 def _main(module: str) -> int:

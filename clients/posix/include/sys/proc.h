@@ -16,4 +16,6 @@
 #define P_STOPPED_SIG 0x20000
 #define P_STOPPED_TRACE 0x40000
 
+#define TDP_RFPPWAIT 0x02000000 /* PT_FOLLOW_FORK is there */
+
 #endif

@@ -6,6 +6,7 @@
 #include <stdint.h>
 #include <sys/types.h>
 #include "../machine/reg.h"
+#include "../tracehost/siginfo.h"
 #include "../vm/vm.h"
 
 #define PT_TRACE_ME 0
@@ -83,7 +84,7 @@ struct ptrace_lwpinfo {
 	int pl_flags;
 	sigset_t pl_sigmask;
 	sigset_t pl_siglist;
-	siginfo_t pl_siginfo; /* the runtime's, as the next one */
+	struct __siginfo pl_siginfo; /* the runtime's, as the next one */
 	char pl_tdname[20];
 	pid_t pl_child_pid;
 	unsigned pl_syscall_code;

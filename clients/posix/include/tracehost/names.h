@@ -118,6 +118,8 @@
 #pragma redefine_extname pthread_yield_np tracehost_sched_yield
 #pragma redefine_extname pthread_mutex_timedlock tracehost_pthread_mutex_timedlock
 #pragma redefine_extname pthread_mutex_clocklock tracehost_pthread_mutex_clocklock
+#pragma redefine_extname pthread_condattr_getclock tracehost_pthread_condattr_getclock
+#pragma redefine_extname pthread_condattr_setclock tracehost_pthread_condattr_setclock
 #pragma redefine_extname pthread_cond_init tracehost_pthread_cond_init
 #pragma redefine_extname pthread_cond_destroy tracehost_pthread_cond_destroy
 #pragma redefine_extname pthread_cond_clockwait tracehost_pthread_cond_clockwait
@@ -234,5 +236,6 @@
 #pragma redefine_extname cnd_wait tracehost_refused_cnd_wait
 #pragma redefine_extname cnd_timedwait tracehost_refused_cnd_timedwait
 #pragma redefine_extname setns tracehost_refused_setns
+#pragma redefine_extname wordexp tracehost_refused_wordexp
 
 #endif

@@ -1,0 +1,1 @@
+// gdbsupport/config.h has all.
