@@ -52,10 +52,13 @@ impl Sessions {
     }
 }
 
-/// A copy of a session, over a spare one if there is any.
-pub fn copied(session: &Session, spare: &mut Vec<Session>) -> Result<Session, Error> {
-    match spare.pop() {
-        Some(mut copy) => session.copy_over(&mut copy).map(|()| copy),
-        None => session.try_clone(),
+/// A copy of a session. Over a spare one, in which all others are as in the session, only what these users have is copied.
+pub fn copied(session: &Session, users: &[u32], spare: &mut Vec<Session>) -> Result<Session, Error> {
+    let Some(mut copy) = spare.pop() else {
+        return session.try_clone();
+    };
+    for user in users {
+        session.copy_user(&mut copy, *user)?;
     }
+    Ok(copy)
 }

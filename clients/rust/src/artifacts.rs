@@ -75,6 +75,8 @@ pub struct Artifacts {
     /// Their names while it runs.
     pub now: Names,
     folder: PathBuf,
+    /// `$TRACEHOST_TRACES`.
+    traces: Option<PathBuf>,
     has_own_folder: bool,
     stem: String,
     name: String,
@@ -87,6 +89,10 @@ impl Artifacts {
     pub fn open(test: &str) -> io::Result<(Artifacts, File, File)> {
         let (program, stem) = stem(test)?;
         let named_folder = env::var_os("TRACEHOST_ARTIFACTS").filter(|named| !named.is_empty());
+        let traces = env::var_os("TRACEHOST_TRACES").filter(|named| !named.is_empty());
+        let traces = traces
+            .map(|named| env::current_dir().map(|here| here.join(named)))
+            .transpose()?;
         let has_own_folder = named_folder.is_none();
         let folder = match named_folder {
             Some(named) => env::current_dir()?.join(named),
@@ -109,12 +115,48 @@ impl Artifacts {
             last: Names::new(&folder, &name, ""),
             now,
             folder,
+            traces,
             has_own_folder,
             stem,
             name,
             _locked: locked,
         };
         Ok((made, file, lines))
+    }
+
+    /// Copies the scenario to the folder `$TRACEHOST_TRACES`, if it is set. What goes wrong is told.
+    pub fn leave_trace(&self) {
+        let Some(folder) = &self.traces else { return };
+        if let Err(error) = self.copy_to(folder) {
+            let _ = writeln!(
+                io::stderr(),
+                "tracehost: no trace is left in {}: {error}",
+                folder.display()
+            );
+        }
+    }
+
+    /// As `STEM.PROCESS.json`, with a number if there is a file of this name.
+    fn copy_to(&self, folder: &Path) -> io::Result<()> {
+        fs::create_dir_all(folder)?;
+        let mut name = format!("{}.{}", self.stem, process::id());
+        for nth in 2.. {
+            let path = folder.join(format!("{name}.json"));
+            match OpenOptions::new().write(true).create_new(true).open(&path) {
+                Err(error) if error.kind() == ErrorKind::AlreadyExists => {
+                    name = format!("{}.{}-{nth}", self.stem, process::id())
+                }
+                Err(error) => return Err(error),
+                Ok(mut trace) => {
+                    let copied = File::open(&self.now.scenario).and_then(|mut from| io::copy(&mut from, &mut trace));
+                    return copied.map(|_| ()).map_err(|error| {
+                        let _ = fs::remove_file(&path);
+                        error
+                    });
+                }
+            }
+        }
+        Ok(())
     }
 
     /// The test has passed.

@@ -223,11 +223,46 @@ impl Session {
         match self.handle.copy_over(&mut to.handle) {
             sys::ANSWERED => {
                 to.settings = self.settings;
-                (to.recording, to.record_error, to.is_test, to.recorded) = (None, None, false, 0);
+                to.end_recording();
                 Ok(())
             }
             code => Err(Error::of_code(code)),
         }
+    }
+
+    /// Copies what one user has over what the user has in another session: the processes, and the number of answers. All
+    /// other users of that session keep theirs, its recording ends, and no answer is its last one. It takes the time and the
+    /// memory of only this user's processes.
+    ///
+    /// # Errors
+    ///
+    /// `Invalid` if there is no such user, or if the end of a debugger kills its tracees in one of the sessions and not in the
+    /// other, and `NoMemory`. The other session is as it was.
+    ///
+    /// ```
+    /// # fn main() -> Result<(), tracehost::Error> {
+    /// let mut session = tracehost::Session::new()?;
+    /// let mut scratch = tracehost::Session::new()?;
+    /// session.spawn(1001)?;
+    /// scratch.spawn(1002)?;
+    /// session.copy_user(&mut scratch, 1001)?;
+    /// assert_eq!(scratch.spawn(1001)?.pid, 1001);
+    /// assert_eq!(scratch.spawn(1002)?.pid, 2001);
+    /// # Ok(())
+    /// # }
+    /// ```
+    pub fn copy_user(&self, to: &mut Session, user: u32) -> Result<(), Error> {
+        match self.handle.copy_user(&mut to.handle, user) {
+            sys::ANSWERED => {
+                to.end_recording();
+                Ok(())
+            }
+            code => Err(Error::of_code(code)),
+        }
+    }
+
+    fn end_recording(&mut self) {
+        (self.recording, self.record_error, self.is_test, self.recorded) = (None, None, false, 0);
     }
 
     /// Makes a process of the user with one LWP. Its parent is process 1.

@@ -136,6 +136,7 @@ extern "C" {
     fn tracehost_close(h: *mut Raw) -> u32;
     fn tracehost_copy(from: *mut Raw, to: *mut Raw) -> u32;
     fn tracehost_copy_over(from: *mut Raw, to: *mut Raw) -> u32;
+    fn tracehost_copy_user(from: *mut Raw, to: *mut Raw, user: u32) -> u32;
     fn tracehost_line(
         h: *mut Raw,
         json: bool,
@@ -268,6 +269,12 @@ impl Handle {
     pub fn copy_over(&self, to: &mut Handle) -> u32 {
         // SAFETY: no other call is being made on either handle, and they differ, since `to` is borrowed mutably.
         unsafe { tracehost_copy_over(self.0.get(), to.0.get()) }
+    }
+
+    /// Copies what one user has over what the user has in the session of another handle. The code.
+    pub fn copy_user(&self, to: &mut Handle, user: u32) -> u32 {
+        // SAFETY: no other call is being made on either handle, and they differ, since `to` is borrowed mutably.
+        unsafe { tracehost_copy_user(self.0.get(), to.0.get(), user) }
     }
 
     /// Makes the step that the line is. The code, and the length of the answer, whose front `out` has.

@@ -4,8 +4,9 @@
 //! test's name, the panic and the state at that step. They are in the folder `$TRACEHOST_ARTIFACTS`, else in a new one below
 //! [`std::env::temp_dir`], and standard error says where. `$TRACEHOST` and `$TRACEHOST_VIEW` name the programs that make the
 //! page; else they are `tracehost` and `tracehost-view`. A further test of the name in this process gets a number. A test that
-//! passes leaves nothing, and removes what it left in an earlier run; a forked child does neither. What can't be recorded is
-//! told, and changes neither a call nor the test.
+//! passes leaves nothing, and removes what it left in an earlier run; a forked child does neither. If `$TRACEHOST_TRACES` names
+//! a folder, a test that ends leaves a copy of its scenario there, whether it passes or fails, as
+//! `PROGRAM.NAME-DIGEST.PROCESS.json`. What can't be recorded is told, and changes neither a call nor the test.
 //!
 //! A test may fail by a panic, or by returning an error:
 //!
@@ -167,6 +168,7 @@ impl TestSession {
         if self.process != std::process::id() {
             return; // a forked child, and the files are the parent's
         }
+        artifacts.leave_trace();
         match self.failure.take() {
             Some(failure) if panics && !is_told && is_of_libtest() => {
                 let ending = self.ending(artifacts, failure, true);

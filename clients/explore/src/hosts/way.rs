@@ -77,7 +77,7 @@ impl Hosts<'_> {
     }
 
     fn keep_copy(&mut self, view: Key, session: &Session) -> Result<(), Error> {
-        let copy = copied(session, &mut self.spare)?;
+        let copy = copied(session, self.users, &mut self.spare)?;
         self.calls.copies += 1;
         self.spare.extend(self.sessions.put(view, copy));
         Ok(())
@@ -86,7 +86,11 @@ impl Hosts<'_> {
     /// A copy of a session that is kept, or of that at the start.
     fn copy_of(&mut self, view: Key) -> Result<Session, Error> {
         self.calls.copies += 1;
-        copied(self.sessions.get(view).unwrap_or(&self.start), &mut self.spare)
+        copied(
+            self.sessions.get(view).unwrap_or(&self.start),
+            self.users,
+            &mut self.spare,
+        )
     }
 
     /// A session at a state, to look at.
