@@ -3,13 +3,13 @@
 from __future__ import annotations
 
 import argparse
-import json
 import re
 from collections.abc import Sequence
 from typing import NamedTuple
 
 import reading
 import renaming
+import tables
 
 # the parts of the script of their page: each comes after those that it imports from
 PARTS = (
@@ -34,43 +34,12 @@ def note(word: str) -> Note:
     return Note(int(found[1]), found[2])
 
 
-def is_trace(file: reading.Read) -> bool:
-    return bool(file.replies) and all("asked" in reply for reply in file.replies)
-
-
-class Values:
-    """Values of JSON, each once, in the order in which they come first."""
-
-    def __init__(self) -> None:
-        self.places: dict[str, int] = {}
-        self.text = json.JSONEncoder(separators=(",", ":"), sort_keys=True).encode
-
-    def place(self, value: object) -> int:
-        return self.places.setdefault(self.text(value), len(self.places))
-
-    def all(self) -> list[object]:
-        return [json.loads(text) for text in self.places]
-
-
-NUMBERS = ("user", "step", "index")
-
-
-def rows_of(file: reading.Read, values: Values) -> list[renaming.Row]:
-    """The steps of a trace in the order of the scenario: the user, the step's number, and the places of its values."""
-    rows = []
-    for line in sorted(file.replies, key=lambda line: int(line["index"])):
-        said = {name: value for name, value in line.items() if name not in (*NUMBERS, "asked", "rows")}
-        changes = values.place(line["rows"]) if "rows" in line else -1
-        rows.append([line["user"], line["step"], values.place(line["asked"]), values.place(said), changes])
-    return rows
-
-
 class Runs:
     """Files that may be two traces. One of these may be empty, as that of a run without steps is."""
 
     def __init__(self, files: list[reading.Read]) -> None:
         self.files = files
-        traces = [is_trace(file) for file in files]
+        traces = [file.is_trace for file in files]
         self.are_two = len(files) == 2 and any(traces) and all(file.is_blank or trace for file, trace in zip(files, traces))
         # what is wrong with them
         self.faults: list[str] = []
@@ -85,15 +54,14 @@ class Runs:
 
     def data(self, notes: Sequence[Note]) -> reading.Object:
         """What their page contains."""
-        values = Values()
-        left, right = (rows_of(file, values) for file in self.files)
-        shown = values.all()
-        other = renaming.Renaming(left, right, shown, values.place)
+        values = tables.Values(is_sorted=True)
+        left, right = (tables.rows_of(file, values) for file in self.files)
+        other = renaming.Renaming(left, right, values.all(), values.place)
         rows = [left, [row + other.keys(row) for row in right]]
         more = [f"and {len(self.faults) - MOST_FAULTS} more"] if len(self.faults) > MOST_FAULTS else []
         return {
             "files": [{"name": file.name, "rows": own} for file, own in zip(self.files, rows)],
-            "values": shown,
+            "values": values.all(),
             "faults": [*self.faults[:MOST_FAULTS], *more],
             "notes": [note._asdict() for note in notes],
             "names": [[user, old, new] for user, own in sorted(other.names.items()) for new, old in sorted(own.items())],

@@ -12,7 +12,7 @@ from collections.abc import Sequence
 from typing import IO, Any, Optional, TextIO, Union
 
 # tools/format version
-VERSION = "0.22.0"
+VERSION = "0.24.0"
 # end
 
 

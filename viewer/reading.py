@@ -5,7 +5,7 @@ from __future__ import annotations
 import json
 import re
 from collections.abc import Callable, Iterable, Mapping
-from typing import Any, Optional
+from typing import Any, NamedTuple, Optional
 
 Object = dict[str, Any]
 Check = Callable[[Any], bool]
@@ -186,8 +186,12 @@ def fault_of_step(step: Any) -> Optional[str]:
     return None
 
 
-def can_answer(step: Object, reply: Object) -> bool:
-    return bool(step["user"] == reply["user"] and reply["reply"] in ("error", "held", *ANSWERS[step["op"]]))
+_WORDS = {op: ("error", "held", *words) for op, words in ANSWERS.items()}
+
+
+def can_answer(step: Object, user: int, word: str) -> bool:
+    """Whether a reply to the user with this word can answer the step."""
+    return bool(step["user"] == user and word in _WORDS[step["op"]])
 
 
 def fault_of_reply(reply: Any) -> Optional[str]:
@@ -223,7 +227,7 @@ def _fault_in_trace(reply: Object) -> Optional[str]:
     fault = fault_of_step(step)
     if fault is not None:
         return f"in its step: {fault}"
-    if not can_answer(step, reply):
+    if not can_answer(step, reply["user"], reply["reply"]):
         return f'its step can\'t be answered by "{reply["reply"]}"'
     if "rows" not in reply:
         return None
@@ -240,18 +244,97 @@ def _refuse(word: str) -> None:
     raise ValueError(f"{word} is no JSON")
 
 
+_decoded = json.JSONDecoder(parse_constant=_refuse).decode
+
+
 def parsed(text: str) -> Any:
     """The value of a JSON text; NO_JSON if it is none."""
     try:
-        return json.loads(text, parse_constant=_refuse)
+        return _decoded(text)
     except (ValueError, RecursionError):
         return NO_JSON
 
 
-def has_replies(text: str) -> bool:
-    """Whether the first line that isn't blank is a reply, or what was said of a refused line."""
-    first = parsed(next((line for line in text.split("\n") if line.strip()), ""))
-    return is_object(first) and ("reply" in first or "refused" in first)
+class Part(NamedTuple):
+    """An object of a line, and its JSON text."""
+
+    value: Object
+    text: str
+
+
+class Reply(NamedTuple):
+    """A line of --json: of which step it is, what that asked and changed if the line is one of a trace, and what it says else.
+
+    A refused line is of no user.
+    """
+
+    user: int
+    step: int
+    place: int  # of the step in the scenario, from 1
+    asked: Optional[Part]
+    said: Part
+    rows: Optional[Part]
+
+
+# how tracehost begins the line of a step
+_FRONT = re.compile(r'\{"user":([0-9]{4}),"step":([1-9][0-9]{0,15}),"index":([1-9][0-9]{0,15}),"asked":')
+_APART = ("user", "step", "index", "asked", "rows")
+
+
+class _Replies:
+    """Lines that are read. Most of their parts come often: one is read and checked once, and is the same object then."""
+
+    def __init__(self) -> None:
+        self._asked: dict[str, Optional[Part]] = {}  # by their texts; None is of a wrong form
+        self._said: dict[str, Optional[Part]] = {}
+        self._rows: dict[str, Optional[Part]] = {}
+
+    def printed(self, text: str) -> Optional[Reply]:
+        """The reply in a line that is as tracehost prints it; None of another line, and of one with a fault."""
+        front = _FRONT.match(text)
+        if front is None or not FIRST_USER <= int(front[1]) <= LAST_USER or text[-1] != "}":
+            return None
+        end = text.find(',"reply":', front.end())
+        changes = text.find(',"rows":{', end)
+        asked = self._known(self._asked, text[front.end() : end], _is_asked)
+        said = self._known(self._said, "{" + text[end + 1 : changes if changes >= 0 else -1] + "}", _is_said)
+        rows = self._known(self._rows, text[changes + len(',"rows":') : -1], _is_rows) if changes >= 0 else None
+        if asked is None or said is None or (rows is None and changes >= 0):
+            return None
+        if said.value["reply"] not in _WORDS[asked.value["op"]]:
+            return None
+        return Reply(int(front[1]), int(front[2]), int(front[3]), asked, said, rows)
+
+    @staticmethod
+    def _known(parts: dict[str, Optional[Part]], text: str, check: Check) -> Optional[Part]:
+        if text not in parts:
+            value = parsed(text)
+            parts[text] = Part(value, text) if check(value) else None
+        return parts[text]
+
+
+def _is_asked(value: Any) -> bool:
+    return is_object(value) and "user" not in value and fault_of_step({"user": FIRST_USER, **value}) is None
+
+
+def _is_said(value: Any) -> bool:
+    is_apart = is_object(value) and not any(name in value for name in _APART)
+    return is_apart and fault_of_reply({"user": FIRST_USER, "step": 1, **value}) is None
+
+
+def _is_rows(value: Any) -> bool:
+    return is_object(value) and wrong_member(value, ROWS) is None
+
+
+def _reply_in(value: Object) -> Reply:
+    """The reply in a line that has no fault."""
+    asked, rows = (_part(value[name]) if name in value else None for name in ("asked", "rows"))
+    said = _part({name: one for name, one in value.items() if name not in _APART})
+    return Reply(value.get("user", 0), value.get("step", 0), value.get("index", 0), asked, said, rows)
+
+
+def _part(value: Object) -> Part:
+    return Part(value, json.dumps(value, separators=(",", ":")))
 
 
 class Read:
@@ -260,32 +343,42 @@ class Read:
     def __init__(self, name: str, text: str) -> None:
         self.name = name
         self.faults: list[str] = []
-        self.replies: list[Object] = []
+        self.replies: list[Reply] = []
         self.steps: Optional[list[Optional[Object]]] = None
         self.is_blank = not text.strip()
         whole = parsed(text)
-        lines = [(number, line, parsed(line)) for number, line in enumerate(text.split("\n"), 1) if line.strip()]
-        first = next((value for _, _, value in lines if is_object(value)), None)
+        lines = [(number, line) for number, line in enumerate(text.split("\n"), 1) if line.strip()]
+        first = next((value for value in (parsed(line) for _, line in lines) if is_object(value)), None)
         if is_object(whole) and "steps" in whole:
             self._read_steps(whole["steps"])
         elif first is not None and "op" in first:
-            self._read_steps([value for _, _, value in lines])
+            self._read_steps([parsed(line) for _, line in lines])
         elif first is not None:
             self._read_replies(lines)
         else:
             self.faults.append(f"{name}: {_strange(text)}")
 
+    @property
+    def is_trace(self) -> bool:
+        """Whether each line has its step."""
+        return bool(self.replies) and all(reply.asked is not None for reply in self.replies)
+
     def is_empty(self) -> bool:
         """Whether nothing in it can be drawn."""
         return not self.replies and not any(self.steps or ()) and bool(self.faults)
 
-    def _read_replies(self, lines: Iterable[tuple[int, str, Any]]) -> None:
-        for number, text, value in lines:
-            fault = fault_of_reply(value)
-            if fault is None:
-                self.replies.append(value)
-            else:
-                self.faults.append(f"{self.name}, line {number}: {fault}: {excerpt(text)}")
+    def _read_replies(self, lines: Iterable[tuple[int, str]]) -> None:
+        known = _Replies()
+        for number, text in lines:
+            reply = known.printed(text)
+            if reply is None:
+                value = parsed(text)
+                fault = fault_of_reply(value)
+                if fault is not None:
+                    self.faults.append(f"{self.name}, line {number}: {fault}: {excerpt(text)}")
+                    continue
+                reply = _reply_in(value)
+            self.replies.append(reply)
 
     def _read_steps(self, steps: Any) -> None:
         if type(steps) is not list:
@@ -305,7 +398,7 @@ def fault_of_pair(lines: Read, scenario: Read) -> Optional[str]:
     steps = scenario.steps or []
     answered: dict[tuple[int, ...], Optional[Object]]
     keys: list[tuple[int, ...]]
-    if any("refused" in reply for reply in lines.replies):
+    if any("refused" in reply.said.value for reply in lines.replies):
         answered = {(index,): step for index, step in enumerate(steps)}
         keys = [(index,) for index in range(len(lines.replies))]
     else:
@@ -314,11 +407,12 @@ def fault_of_pair(lines: Read, scenario: Read) -> Optional[str]:
             assert step is not None
             counts[step["user"]] += 1
             answered[step["user"], counts[step["user"]]] = step
-        keys = [(reply["user"], reply["step"]) for reply in lines.replies]
+        keys = [(reply.user, reply.step) for reply in lines.replies]
     for key, reply in zip(keys, lines.replies):
         answers = answered.get(key)
-        if "refused" not in reply and not (answers and can_answer(answers, reply)):
-            of = f'its step {reply["step"]} of user {reply["user"]} can\'t be answered by "{reply["reply"]}"'
+        said = reply.said.value
+        if "refused" not in said and not (answers and can_answer(answers, reply.user, said["reply"])):
+            of = f'its step {reply.step} of user {reply.user} can\'t be answered by "{said["reply"]}"'
             return f"{scenario.name} isn't the scenario of these lines: {of}"
     return None
 

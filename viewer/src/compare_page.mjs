@@ -45,6 +45,7 @@ export class ComparePage {
 
   /** Notes are on the row of their step; those behind the last step on that of the last one. */
   addNotes(right, notes) {
+    if (notes.length === 0) return;
     const rows = new Map(this.all.filter((row) => row.right).map((row) => [row.right, row]));
     for (const { step, text } of notes) {
       const row = rows.get(right[Math.min(step, right.length) - 1]);
@@ -87,7 +88,8 @@ export class ComparePage {
   /** Shows the rows of the chosen user, and goes to the row that the address names, or to the first difference. */
   open() {
     this.show();
-    const named = this.list.rows.find(({ number }) => number === Number(this.address().get("row")));
+    const wanted = Number(this.address().get("row"));
+    const named = this.list.rows.find(({ number }) => number === wanted);
     const row = named ?? this.differences[0] ?? this.list.rows[0];
     if (!row) return;
     this.go(row);

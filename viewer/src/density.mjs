@@ -8,7 +8,7 @@ const LEAST_HEIGHT = 3;
 const MORE_HEIGHT = 14;
 
 /** Whether a step did something (1), stopped its LWP (2), or neither (0). */
-const levelOf = ({ kind }) => (kind === "stop" ? 2 : SIGNS.get(kind).classes === "pale" ? 0 : 1);
+const LEVELS = new Map([...SIGNS].map(([kind, { classes }]) => [kind, kind === "stop" ? 2 : classes === "pale" ? 0 : 1]));
 
 /**
  * How many columns a bar covers.
@@ -27,11 +27,12 @@ export const columnsOfBar = (step) => Math.max(1, Math.ceil(BAR_WIDTH / step));
 export function countBars(marks, { step, first, last }) {
   const columns = columnsOfBar(step);
   const bars = new Map();
+  let [before, counts] = [-1, [0, 0, 0]];
   for (let place = firstFrom(marks, (mark) => mark.column, first); marks[place]?.column <= last; place++) {
     const bar = Math.floor(marks[place].column / columns);
-    if (!bars.has(bar)) bars.set(bar, [0, 0, 0]);
-    const counts = bars.get(bar);
-    for (let level = levelOf(marks[place]); level >= 0; level--) counts[level]++;
+    if (bar !== before) bars.set(bar, counts = bars.get(bar) ?? [0, 0, 0]);
+    before = bar;
+    for (let level = LEVELS.get(marks[place].kind); level >= 0; level--) counts[level]++;
   }
   return bars;
 }

@@ -129,7 +129,7 @@ export class Drawing {
     else for (const band of this.bandsIn(lane)) group.append(...this.band(band, lane));
     for (const span of lane.spans) group.append(...this.span(span, lane));
     group.append(...(plan.isInBars(lane) ? this.dense(lane) : this.marks(lane)));
-    for (const label of plan.labels(lane)) {
+    for (const label of plan.labels(lane, part.left, part.right)) {
       if (label.end >= part.left && label.x <= part.right) group.append(this.label(label, lane));
     }
     return group;
@@ -179,11 +179,11 @@ export class Drawing {
   }
 
   /** The bands of a lane that are at least partly in what is drawn. */
-  *bandsIn({ bandsOn }) {
+  *bandsIn(lane) {
     const { entries, columns } = this.plan;
     if (columns === 0) return;
     const [first, last] = [entries[this.first].index, this.last === columns - 1 ? Infinity : entries[this.last].index];
-    for (const bands of bandsOn) {
+    for (const bands of this.plan.bandsOf(lane)) {
       let place = firstFrom(bands, ({ to }) => to ?? Infinity, this.first === 0 ? 0 : first);
       for (; place < bands.length && bands[place].from <= last; place++) yield bands[place];
     }
@@ -271,9 +271,11 @@ export class Drawing {
   // ---- links between lanes
 
   links() {
+    const { links, columnOf } = this.plan;
     const shapes = [];
-    for (let column = this.first; column <= this.last; column++) {
-      for (const link of this.plan.linksAt.get(column) ?? []) shapes.push(...this.link(link, column));
+    const first = firstFrom(links, ({ at }) => columnOf[at], this.first);
+    for (let place = first; place < links.length && columnOf[links[place].at] <= this.last; place++) {
+      shapes.push(...this.link(links[place], columnOf[links[place].at]));
     }
     return shapes;
   }

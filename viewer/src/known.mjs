@@ -37,7 +37,9 @@ export class KnownSession extends Session {
   prepare({ reply, asked }) {
     const rows = this.rowsOf(reply.user);
     if (asked && (reply.reply === "error" || reply.reply === "held")) {
-      this.entry.why = whyRefused({ user: reply.user, ...asked }, reply.errno ?? "held", rows);
+      const history = this.histories.get(reply.user);
+      const made = history.steps.length;
+      this.entry.why = () => whyRefused({ user: reply.user, ...asked }, reply.errno ?? "held", history.shownAfter(made));
     }
     for (const row of reply.rows.processes ?? []) {
       if (!rows.processes.has(row.pid)) this.born(row, reply, asked?.op === "turn" ? this.lwp(asked.lwp) : null);
@@ -80,9 +82,10 @@ export class KnownSession extends Session {
   }
 
   stopped(lane, row) {
-    const lwp = this.known("lwp", row.stop_lwp) ?? null;
-    const shown = this.entry.reply.rows.lwps?.find((one) => one.lwp === row.stop_lwp)?.flags ?? [];
-    if (!lane.stop) this.openStop(lane, lwp, [row.stop_signal, ...shown.map(bare)].join(" "));
+    if (!lane.stop) {
+      const shown = this.entry.reply.rows.lwps?.find((one) => one.lwp === row.stop_lwp)?.flags ?? [];
+      this.openStop(lane, this.known("lwp", row.stop_lwp) ?? null, [row.stop_signal, ...shown.map(bare)].join(" "));
+    }
     if (row.reported) lane.stop.reported ??= this.now;
   }
 

@@ -14,13 +14,13 @@ import { firstFrom } from "./sorted.mjs";
  * @property {boolean} primary
  * @property {Entry} entry
  * @property {Entry} source
- * @property {number} [column]  by the plan, as the next two
- * @property {number} [shift]
- * @property {number} [x]
+ * @property {number} column  by the plan, as the next two
+ * @property {number} shift
+ * @property {number} x
  *
- * A reply with the step that it answers, and `why` this was refused or held, if the rows say it.
+ * A reply with the step that it answers, and what says why this was refused or held, if it was and the rows say it.
  *
- * @typedef {{index: number, reply: object, asked: object | null, why?: string}} Entry
+ * @typedef {{index: number, reply: object, asked: object | null, why?: () => string}} Entry
  *
  * A stretch of a lane between two entries: a stop, a system call, a suspension, a wait for a child of vfork.
  *
@@ -50,7 +50,7 @@ export class Lane {
     this.live = kind === "user" ? new Set() : NO_LANES;
     this.lwps = []; // of a process
     /** @type {Set<Lane>} */
-    this.tracees = kind === "process" ? new Set() : NO_LANES;
+    this.tracees = NO_LANES; // a set of its own from the first one on
     this.parent = null;
     this.tracer = null;
     this.span = null; // the span in which it is traced now
@@ -65,9 +65,10 @@ export class Lane {
     // by the plan
     /** @type {Mark[]} those on it that are shown */
     this.seen = NOTHING;
-    /** @type {Band[][]} of each kind those on it */
-    this.bandsOn = NOTHING;
+    /** @type {Band[][] | null} of each kind those on it, once they are drawn */
+    this.bandsOn = null;
     this.spans = NOTHING;
+    /** @type {Map<number, import("./labels.mjs").Placed[]> | null} */
     this.labels = null;
     /** @type {Lane} the lane that its marks are on */
     this.on = this;

@@ -1,10 +1,10 @@
 /** The list of the steps: of its rows those in the window are made, and some around them. */
 
 import { element, tag } from "./dom.mjs";
-import { whoText } from "./sentences.mjs";
+import { meaningText, whoText } from "./sentences.mjs";
 import { colourOf } from "./signs.mjs";
 import { firstFrom } from "./sorted.mjs";
-import { action, meaning, objectText, plainText } from "./words.mjs";
+import { action, objectText, plainText } from "./words.mjs";
 
 const ROW_HEIGHT = 20;
 const ROWS_AROUND = 8; // rows
@@ -67,7 +67,7 @@ export class StepList {
     const row = tag("div", { className: `row ${mark.kind}${more}` },
       cell("number", this.plan.numberOf[entry.index]), cell("user", reply.user ? `${reply.user} ${reply.step}` : ""),
       this.who(whoText(mark)), cell("asked", asked ? action(asked) + objectText(asked) : ""),
-      cell("reply", plainText(reply)), cell("meaning", entry.why || meaning(reply)));
+      cell("reply", plainText(reply)), cell("meaning", meaningText(entry)));
     row.mark = mark;
     row.style.top = `${place * ROW_HEIGHT}px`;
     row.style.setProperty("--user", colourOf(reply.user));

@@ -17,12 +17,19 @@ const DECISIONS = { continue: "PT_CONTINUE", detach: "PT_DETACH" };
 /** What isn't known of a process, and a process that isn't there. */
 const UNTOLD = { since: 0, reportedAt: 0, wentOnAt: 0, vainAt: 0, missedAt: 0, steppedAt: 0, waitsMissed: 0, missedFor: 0,
   stepping: 0, haveOthersGoneOn: false };
+/** @type {any[]} */
+const NONE = [];
 const NO_PROCESS = { state: "runs", pending: [], reported: false, tracer: undefined, stop_signal: undefined, stop_lwp: 0 };
 
+const isZombie = ({ state }) => state === "zombie";
 /** @param {ProcessRow} row */
 const isReportedStop = ({ state, reported }) => state === "trace_stop" && Boolean(reported);
 const signalNumber = (signal) => (signal ? SIGNALS.indexOf(signal) : 0);
 const factText = (name, value) => (name.endsWith("signal") ? signalName(value) : String(value));
+
+/** The process or LWP that a call names, or 0; it is negative if it names several. */
+const namedBy = ({ op, target = 0, which = 0 }) => (op === "ptrace" ? target : op === "kill" || op === "wait4" ? which : 0);
+const failureKey = (asked) => `${asked.caller} ${namedBy(asked)}`;
 
 /** The other user of the session whose number it is, or 0. */
 function ownerOf(number, user, users) {
@@ -49,22 +56,24 @@ class UserNotices {
     this.suspendedAt = new Map();
     this.failedAt = new Map(); // by caller and target
     this.withNews = new Set(); // those to whom a stop was reported since they let a process go on
+    this.missed = new Set(); // the processes that waits have missed
     this.last = 0;
   }
 
   /** @param {Entry} entry  the user's next one */
   read(entry) {
-    const { reply } = entry;
+    const { asked, reply: { reply: word, rows } } = entry;
     const at = entry.index + 1;
     this.last = at;
-    const refusal = this.refusal(entry, at);
+    const refusal = word === "error" ? this.refusal(entry, at) : null;
     if (refusal) this.ask("refusal", at, refusal);
+    if (word === "ok" && this.failedAt.size) this.failedAt.delete(failureKey(asked));
     const goneOn = this.goneOn(entry);
-    const debuggers = this.ended(reply.rows).map((pid) => ({ pid, tracee: this.firstTracee(pid) }));
-    this.noteRows(at, reply.rows);
-    change(this.rows, reply.rows);
-    for (const pid of reply.rows.removed_processes ?? []) this.told.delete(pid);
-    this.noteAnswer(entry, at);
+    const debuggers = this.ended(rows).map((pid) => ({ pid, tracee: this.firstTracee(pid) }));
+    this.noteRows(at, rows);
+    change(this.rows, rows);
+    for (const pid of rows.removed_processes ?? []) this.told.delete(pid);
+    if (asked.op === "wait4" || asked.op === "handle") this.noteAnswer(entry, at);
     if (goneOn) this.ask("go_on", at, this.letOn(entry, at, goneOn));
     for (const facts of debuggers) this.ask("debugger", at, facts);
   }
@@ -95,7 +104,9 @@ class UserNotices {
   }
 
   lwpsOf(pid) {
-    return [...this.rows.lwps.values()].filter((lwp) => lwp.pid === pid);
+    const found = [];
+    for (const lwp of this.rows.lwps.values()) if (lwp.pid === pid) found.push(lwp);
+    return found;
   }
 
   /** The facts of a process that goes on, before the step; null if none does. */
@@ -130,11 +141,10 @@ class UserNotices {
   }
 
   /** The facts of an errno that answers what names a process; null if it is none. */
-  refusal({ asked, reply }, at) {
-    const number = { ptrace: asked.target, kill: asked.which, wait4: asked.which }[asked.op] ?? 0;
-    const key = `${asked.caller} ${number}`;
-    if (reply.reply === "ok") this.failedAt.delete(key);
-    if (number <= 0 || reply.reply !== "error") return null;
+  refusal({ asked }, at) {
+    const number = namedBy(asked);
+    if (number <= 0) return null;
+    const key = failureKey(asked);
     const request = asked.request ?? asked.op;
     const pid = this.rows.lwps.get(number)?.pid ?? number;
     const row = this.process(pid);
@@ -142,7 +152,7 @@ class UserNotices {
       request, caller: asked.caller, pid: number, is_wait: request === "wait4", is_kill: request === "kill",
       is_attach: request === "PT_ATTACH", ended_at: this.endedAt.get(number) ?? 0, failed_at: this.failedAt.get(key) ?? 0,
       owner: ownerOf(number, this.user, this.users), is_tracee: row.tracer === asked.caller, state: NUMBERED_STATES.indexOf(row.state),
-      is_reported: Boolean(row.reported), stop_signal: signalNumber(row.stop_signal), went_on_at: this.toldOf(pid).wentOnAt,
+      is_reported: Boolean(row.reported), stop_signal: signalNumber(row.stop_signal), went_on_at: (this.told.get(pid) ?? UNTOLD).wentOnAt,
       has_kill: (row.pending ?? []).includes("SIGKILL"),
     };
     if (facts.is_attach && !facts.is_tracee) this.failedAt.set(key, at);
@@ -150,26 +160,32 @@ class UserNotices {
   }
 
   noteAnswer({ asked, reply }, at) {
-    if (asked.op !== "wait4" && asked.op !== "handle") return;
     const { caller, which = -1 } = asked;
     if (reply.stopped !== undefined) this.withNews.add(caller);
     else if (reply.pid !== undefined && reply.continued === undefined) this.endedAt.set(reply.pid, at);
-    for (const [pid, told] of this.told) {
-      if ((which === -1 || which === pid) && this.process(pid).tracer === caller) told.waitsMissed = 0;
+    for (const pid of this.missed) {
+      if (which !== -1 && which !== pid || this.process(pid).tracer !== caller) continue;
+      this.toldOf(pid).waitsMissed = 0;
+      this.missed.delete(pid);
     }
     if (reply.reply === "nothing") this.noteVainWait(at, caller, which);
   }
 
   noteVainWait(at, caller, which) {
-    const own = new Map([...this.rows.processes].filter(([, { tracer, parent }]) => (tracer ?? parent) === caller));
-    if (which === -1 && !this.withNews.has(caller) && [...own.values()].every(isReportedStop)) {
-      for (const told of [...own.keys()].map((pid) => this.toldOf(pid))) if (told.haveOthersGoneOn) told.vainAt ||= at;
+    /** @param {ProcessRow} row */
+    const isOwn = ({ tracer, parent }) => (tracer ?? parent) === caller;
+    if (which === -1 && !this.withNews.has(caller)) {
+      const own = [...this.rows.processes.values()].filter(isOwn);
+      if (own.every(isReportedStop)) for (const { pid } of own) if (this.toldOf(pid).haveOthersGoneOn) this.toldOf(pid).vainAt ||= at;
     }
+    if (which === -1) return;
     for (const { pid, vfork_child: child } of this.rows.lwps.values()) {
-      const row = own.get(child);
-      if (pid !== which || row?.state !== "trace_stop" || row.reported) continue;
+      if (pid !== which || child === undefined) continue;
+      const row = this.rows.processes.get(child);
+      if (row?.state !== "trace_stop" || row.reported || !isOwn(row)) continue;
       const told = this.toldOf(child);
       Object.assign(told, { waitsMissed: told.waitsMissed + 1, missedFor: which });
+      this.missed.add(child);
       if (told.waitsMissed === 2) told.missedAt ||= at;
     }
   }
@@ -177,8 +193,9 @@ class UserNotices {
   // ---- rows
 
   /** The processes that end with these changes. */
-  ended({ processes = [], removed_processes: gone = [] }) {
-    const zombies = processes.filter(({ state }) => state === "zombie").map(({ pid }) => pid);
+  ended({ processes = NONE, removed_processes: gone = NONE }) {
+    if (gone === NONE && !processes.some(isZombie)) return NONE;
+    const zombies = processes.filter(isZombie).map(({ pid }) => pid);
     return [...zombies, ...gone].filter((pid) => (this.rows.processes.get(pid)?.state ?? "zombie") !== "zombie");
   }
 
@@ -189,7 +206,7 @@ class UserNotices {
   }
 
   /** What changes is told of, before the rows change. */
-  noteRows(at, { processes = [], lwps = [] }) {
+  noteRows(at, { processes = NONE, lwps = NONE }) {
     for (const row of processes) this.noteProcess(at, row);
     for (const { lwp, suspended } of lwps) {
       if (suspended && !this.rows.lwps.get(lwp)?.suspended) this.suspendedAt.set(lwp, at);
@@ -266,10 +283,12 @@ export function nearestFirst(notices, at, user) {
     return ranks[0].map((value, place) => value - ranks[1][place]).find((difference) => difference !== 0) ?? 0;
   };
   const found = new Map();
-  for (const notice of [...notices].sort(order)) {
+  notices.forEach((notice, place) => {
     const key = `${notice.user} ${notice.kind} ${notice.text}`;
-    if (found.has(key)) found.get(key).count += 1;
-    else found.set(key, { ...notice, count: 1 });
-  }
-  return [...found.values()];
+    const known = found.get(key);
+    if (!known || order(notice, known.notice) < 0) found.set(key, { notice, place, count: (known?.count ?? 0) + 1 });
+    else known.count += 1;
+  });
+  return [...found.values()].sort((one, other) => order(one.notice, other.notice) || one.place - other.place)
+    .map(({ notice, count }) => ({ ...notice, count }));
 }

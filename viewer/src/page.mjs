@@ -398,10 +398,10 @@ export class Page {
   }
 
   showChoices({ hidden, allLwps }) {
-    const counts = new Map();
-    for (const { reply } of this.picture.plan.all) counts.set(reply.reply, (counts.get(reply.reply) ?? 0) + 1);
+    const counts = { held: 0, error: 0, nothing: 0 };
+    for (const { reply } of this.picture.plan.all) if (counts[reply.reply] !== undefined) counts[reply.reply]++;
     for (const [id, reply] of [["held", "held"], ["errors", "error"], ["nothing", "nothing"]]) {
-      element(id).textContent = `${id} ${counts.get(reply) ?? 0}`;
+      element(id).textContent = `${id} ${counts[reply]}`;
       element(id).setAttribute("aria-pressed", !hidden.has(reply));
     }
     element("others").setAttribute("aria-pressed", this.picture.hidesOthers);

@@ -2,12 +2,15 @@
 
 import { placeLabels } from "./labels.mjs";
 import { SIGNS } from "./signs.mjs";
-import { firstFrom } from "./sorted.mjs";
+import { firstFrom, merged } from "./sorted.mjs";
 
 /** Narrower steps are drawn as bars, see density.mjs. */
 export const NARROWEST_MARK = 4;
 export const RIGHT_ROOM = 20;
 const SPAN_LABEL_EVERY = 1400; // pixels
+/** Labels are placed in pieces of so many pixels, once they are drawn; those of so many around a piece come into it. */
+const PIECE = 4000;
+const AROUND_PIECE = 1000;
 const BASE = 22; // the middle of a lane's marks, from its top
 const HEIGHTS = { process: 47, lwp: 34, user: 47, input: 34 };
 const QUIET_HEIGHTS = { lwp: 18, user: 26 };
@@ -81,12 +84,7 @@ export class Plan {
     for (const lane of this.roots()) this.addTree(lane, null, 0);
     for (const lane of this.order) this.place(lane);
     this.arrange(this.order);
-    this.linksAt = new Map();
-    for (const link of session.links.filter(({ from }) => isOf(from))) {
-      const column = this.columnOf[link.at];
-      if (!this.linksAt.has(column)) this.linksAt.set(column, []);
-      this.linksAt.get(column).push(link);
-    }
+    this.links = session.links.filter(({ from }) => isOf(from)).sort((one, other) => one.at - other.at);
     for (const span of session.spans) {
       const { tracee } = span;
       if (isOf(tracee) && tracee.on === tracee) tracee.spans.push(span);
@@ -182,7 +180,7 @@ export class Plan {
     this.height = 0;
     for (const lane of this.order) lane.isShown = false;
     for (const lane of lanes) {
-      const isQuiet = lane.seen.length === 0 && lane.bandsOn.length === 0;
+      const isQuiet = lane.seen.length === 0 && this.withBands(lane).every(({ bands }) => bands.length === 0);
       lane.isShown = true;
       lane.height = (isQuiet && QUIET_HEIGHTS[lane.kind]) || (this.isDense ? DENSE_HEIGHTS : HEIGHTS)[lane.kind];
       lane.top = this.height;
@@ -208,9 +206,9 @@ export class Plan {
   /** Where the marks on a lane are. Those of one step are next to each other. */
   place(lane) {
     const own = [lane, ...lane.others].map((one) => this.visible(one.marks));
-    lane.seen = own.length === 1 ? own[0] : own.flat().sort((one, other) => one.at - other.at);
-    const merged = lane.others.filter((one) => this.isMerged(one) && one.owner === lane);
-    lane.bandsOn = [lane, ...merged].flatMap(({ bands }) => [...byKind(bands).values()]);
+    lane.seen = own.length < 3 ? own.reduce((one, other) => merged(one, other, ({ at }) => at))
+      : own.flat().sort((one, other) => one.at - other.at);
+    lane.bandsOn = null;
     let before = null;
     for (const mark of lane.seen) {
       mark.column = this.columnOf[mark.at];
@@ -218,6 +216,17 @@ export class Plan {
       mark.x = this.x(mark.column) + mark.shift;
       before = mark;
     }
+  }
+
+  /** The lanes whose bands are on a lane: itself, and an LWP without a lane of its own. */
+  withBands(lane) {
+    return [lane, ...lane.others.filter((one) => this.isMerged(one) && one.owner === lane)];
+  }
+
+  /** The bands on a lane, of each kind one after the other. */
+  bandsOf(lane) {
+    lane.bandsOn ??= this.withBands(lane).flatMap(({ bands }) => [...byKind(bands).values()]);
+    return lane.bandsOn;
   }
 
   /** The marks whose steps aren't left out; what else such a step did is shown, unless only some steps are. */
@@ -231,34 +240,50 @@ export class Plan {
     return this.isDense || lane.isFolded;
   }
 
-  /** The labels of a lane that have room. */
-  labels(lane) {
-    lane.labels ??= placeLabels(this.wanted(lane), {
-      rows: lane.kind === "lwp" || lane.kind === "input" ? 1 : 2, letter: this.letter,
-      limit: Math.max(this.width, this.room),
-    });
-    return lane.labels;
+  /** The labels of a lane that have room between two places, or a bit before. */
+  labels(lane, left = 0, right = Math.max(this.width, this.room)) {
+    lane.labels ??= new Map();
+    const ends = [-Infinity, -Infinity];
+    const found = [];
+    for (let piece = Math.max(0, Math.floor((left - AROUND_PIECE) / PIECE)); piece * PIECE <= right; piece++) {
+      if (!lane.labels.has(piece)) lane.labels.set(piece, this.labelsOfPiece(lane, piece * PIECE));
+      for (const label of lane.labels.get(piece)) {
+        if (label.x < ends[label.row]) continue;
+        ends[label.row] = label.end;
+        found.push(label);
+      }
+    }
+    return found;
   }
 
-  /** The labels that the marks and spans of a lane would have. */
-  wanted(lane) {
+  /** The labels that begin in a piece of a lane. */
+  labelsOfPiece(lane, left) {
+    const wanted = this.wanted(lane, left - AROUND_PIECE, left + PIECE + AROUND_PIECE);
+    const placed = placeLabels(wanted, { rows: lane.kind === "lwp" || lane.kind === "input" ? 1 : 2, letter: this.letter,
+      limit: Math.max(this.width, this.room) });
+    return placed.filter(({ x }) => x >= left && x < left + PIECE);
+  }
+
+  /** The labels that the marks and spans of a lane would have between two places. */
+  wanted(lane, left, right) {
     const lowest = this.isInBars(lane) ? 0 : this.step < 12 ? 1 : this.step < 20 ? 2 : 3;
-    const wanted = lowest === 0 ? [] : lane.seen.filter((mark) => mark.label).map(({ kind, x, label }) => {
+    const wanted = [];
+    for (let place = lowest ? firstFrom(lane.seen, ({ x }) => x, left) : Infinity; lane.seen[place]?.x < right; place++) {
+      const { kind, x, label } = lane.seen[place];
       const { rank, classes } = SIGNS.get(kind);
-      return { x: x + 4, text: label, rank, pale: classes === "pale" };
-    }).filter(({ rank }) => rank <= lowest);
-    if (!this.isDense) for (const span of lane.spans) wanted.push(...this.spanLabels(span));
+      if (label && rank <= lowest) wanted.push({ x: x + 4, text: label, rank, pale: classes === "pale" });
+    }
+    if (!this.isDense) for (const span of lane.spans) wanted.push(...this.spanLabels(span, left, right));
     return wanted;
   }
 
-  /** The name of who traces, at the span's begin and again along a long one. */
-  spanLabels(span) {
+  /** The name of who traces between two places, at the span's begin and again along a long one. */
+  spanLabels(span, left, right) {
     const labels = [];
-    const end = this.at(span.to);
+    const [begin, end] = [this.at(span.from) + 4, Math.min(right, this.at(span.to))];
     const text = span.tracer ? `traced by ${span.tracer.number}` : "traced by its parent";
-    for (let x = this.at(span.from) + 4; x < end; x += SPAN_LABEL_EVERY) {
-      labels.push({ x, text, rank: 0, pale: false });
-    }
+    const first = begin + SPAN_LABEL_EVERY * Math.max(0, Math.ceil((left - begin) / SPAN_LABEL_EVERY));
+    for (let x = first; x < end; x += SPAN_LABEL_EVERY) labels.push({ x, text, rank: 0, pale: false });
     return labels;
   }
 

@@ -128,13 +128,21 @@ function linesOf(text) {
 }
 
 /**
- * What a file holds, by its form: the replies of a run, or a scenario (also as a line for each step). `lines` are what
- * viewer/make has read and checked.
- *
- * @param {{name: string, text?: string, lines?: object[]}} file
+ * The replies of a trace as viewer/make puts them into a page: of each step the user, the number, and the places of what
+ * was asked, of the rest of the reply and of the rows (-1: none) among the values.
  */
-export function readFile({ name, text, lines: checked }) {
+const repliesIn = (rows, values) => rows.map(([user, step, asked, said, changes], place) => (
+  { user, step, index: place + 1, asked: values[asked], ...values[said], rows: changes < 0 ? undefined : values[changes] }));
+
+/**
+ * What a file holds, by its form: the replies of a run, or a scenario (also as a line for each step). `lines`, or `rows`
+ * with their `values`, are what viewer/make has read and checked.
+ *
+ * @param {{name: string, text?: string, lines?: object[], rows?: number[][], values?: object[]}} file
+ */
+export function readFile({ name, text, lines: checked, rows, values }) {
   if (checked) return { replies: checked, faults: [], name };
+  if (rows) return { replies: repliesIn(rows, values), faults: [], name };
   const whole = parsed(text);
   if (isObject(whole) && Object.hasOwn(whole, "steps")) return readScenario(name, whole);
   const lines = linesOf(text);
@@ -173,10 +181,18 @@ function readScenario(name, scenario) {
   return { steps, killsTracees: scenario.kill_on_debugger_exit !== 0, faults, name };
 }
 
-/** The replies of a trace with their steps, in the order of the scenario. */
+/** The replies of a trace with their steps, in the order of the scenario. Equal steps of a page's table are one object. */
 function traced(replies) {
+  const steps = new Map();
+  const step = (reply) => {
+    const known = steps.get(reply.asked);
+    if (known?.user === reply.user) return known;
+    const made = stepIn(reply);
+    steps.set(reply.asked, made);
+    return made;
+  };
   return [...replies].sort((one, other) => one.index - other.index)
-    .map((reply, index) => ({ index, reply, asked: reply.asked ? stepIn(reply) : null }));
+    .map((reply, index) => ({ index, reply, asked: reply.asked ? step(reply) : null }));
 }
 
 /**

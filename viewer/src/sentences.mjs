@@ -10,6 +10,13 @@ function signText({ kind, lane, label }) {
 }
 
 /**
+ * Why a step was refused, or what its reply means.
+ *
+ * @param {import("./lanes.mjs").Entry} entry
+ */
+export const meaningText = ({ why, reply }) => why?.() || meaning(reply);
+
+/**
  * Everything about a mark, a paragraph each.
  *
  * @param {import("./lanes.mjs").Mark} mark
@@ -25,7 +32,7 @@ export function paragraphs(mark) {
   if (mark.source !== mark.entry) lines.push({ text: `named first by step ${mark.source.reply.step}`, name: "pale" });
   if (asked) lines.push({ text: askedText(asked), name: "asked" });
   lines.push({ text: `→ ${plainText(reply)}`, name: "raw" });
-  const more = mark.entry.why || meaning(reply);
+  const more = meaningText(mark.entry);
   if (more) lines.push({ text: more, name: "pale" });
   if (asked) lines.push({ text: JSON.stringify(asked), name: "raw pale" });
   return lines;
@@ -50,8 +57,8 @@ export function whoText({ lane, entry: { reply, asked } }) {
 
 /** The words of a mark that a search looks through, in small letters. */
 export function searchText(mark) {
-  const { reply, asked, why } = mark.entry;
+  const { reply, asked } = mark.entry;
   const texts = [whoText(mark), mark.lane.name, mark.label, asked ? askedText(asked) : "", plainText(reply),
-    why || meaning(reply)];
+    meaningText(mark.entry)];
   return texts.join(" ").toLowerCase();
 }

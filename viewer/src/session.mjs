@@ -68,7 +68,8 @@ export class Session {
   // ---- marks, links, lanes
 
   mark(kind, lane, label, { at = this.now, primary = true } = {}) {
-    const mark = { kind, lane, label, at, primary, entry: this.entries[at], source: this.entry };
+    const mark = { kind, lane, label, at, primary, entry: this.entries[at], source: this.entry,
+      column: 0, shift: 0, x: 0 };
     lane.marks.push(mark);
     this.marks.push(mark);
     return mark;
@@ -164,6 +165,7 @@ export class Session {
   trace(tracer, tracee, at = this.now) {
     this.untrace(tracee, at);
     tracee.tracer = tracer;
+    if (tracer?.tracees.size === 0) tracer.tracees = new Set();
     tracer?.tracees.add(tracee);
     tracee.span = { tracer, tracee, from: at, to: null };
     this.spans.push(tracee.span);

@@ -18,3 +18,23 @@ export function firstFrom(list, key, least) {
   }
   return low;
 }
+
+/**
+ * Two sorted lists as one; of equal keys the first list's items come first.
+ *
+ * @template T
+ * @param {T[]} one
+ * @param {T[]} other
+ * @param {(item: T) => number} key
+ */
+export function merged(one, other, key) {
+  if (one.length === 0 || other.length === 0) return one.length === 0 ? other : one;
+  const all = [];
+  let place = 0;
+  for (const item of one) {
+    for (; place < other.length && key(other[place]) < key(item); place++) all.push(other[place]);
+    all.push(item);
+  }
+  for (; place < other.length; place++) all.push(other[place]);
+  return all;
+}

@@ -57,6 +57,7 @@ export class History {
     this.isBroken = false;
     this.last = noRows();
     this.checkpoints = [noRows()];
+    this.shown = { count: 0, rows: noRows() };
   }
 
   /** @param {import("./lanes.mjs").Entry} entry  the user's next step */
@@ -82,10 +83,18 @@ export class History {
    * @returns {Rows}
    */
   after(count) {
+    return copyOf(this.shownAfter(count));
+  }
+
+  /** The same rows to look at until the next call. One after the other is fast. */
+  shownAfter(count) {
     const checkpoint = Math.floor(count / CHECKPOINT_EVERY);
-    const rows = copyOf(this.checkpoints[checkpoint]);
-    for (let step = checkpoint * CHECKPOINT_EVERY; step < count; step++) change(rows, this.steps[step].reply.rows);
-    return rows;
+    if (count < this.shown.count || checkpoint * CHECKPOINT_EVERY > this.shown.count) {
+      this.shown = { count: checkpoint * CHECKPOINT_EVERY, rows: copyOf(this.checkpoints[checkpoint]) };
+    }
+    const { shown } = this;
+    for (; shown.count < count; shown.count++) change(shown.rows, this.steps[shown.count].reply.rows);
+    return shown.rows;
   }
 }
 

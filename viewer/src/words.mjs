@@ -3,7 +3,7 @@
 import { RESUMES, SIGNALS, signalName } from "./names.mjs";
 
 /** The name of an event or a flag without what all of them begin with. */
-export const bare = (name) => name.replace(/^(PTRACE_|PL_FLAG_)/, "");
+export const bare = (name) => (name.startsWith("PTRACE_") ? name.slice(7) : name.startsWith("PL_FLAG_") ? name.slice(8) : name);
 const joined = (names, mark = "+") => (names.length ? names.join(mark) : "none");
 const numbers = (signals) => joined(signals.map((name) => SIGNALS.indexOf(name)), ",");
 export const stopText = (stop) => [stop.signal, ...stop.flags.map(bare)].join(" ");
