@@ -1,17 +1,18 @@
 #!/usr/bin/env python3
-"""Times a step by the library and by a pipe, side by side in one run, and counts its instructions.
+"""Times a step by the library, side by side in one run by each way, and counts its instructions.
 
-    python3 bench/in_process.py [PROGRAM] [--library FOLDER] [--steps N] [--runs N]
+    python3 bench/in_process.py [--library FOLDER] [--baseline] [--steps N] [--runs N]
 
-PROGRAM is the built program, FOLDER that of libtracehost.a (default: the release's, or $TRACEHOST_LIB_DIR). A debugger
-attaches to a process, waits for it and detaches, again and again. Printed is for each way the best of N runs (default
-9), in nanoseconds a step; the runs of the ways take turns. Instructions are counted by valgrind's callgrind, as the
-difference of two runs; `-` if there is no valgrind, for Python, and for a pipe, whose other end is another process.
-The clients in C and Python make typed calls. Without cargo or c++ their rows are left out.
-Then come the instructions of one tracehost_view of a user, by the number of other users with 250 processes and 1,000
-LWPs each, and those of copying a session and closing the copy, of opening and closing one, and of copying one over
-another, by the number of its processes; the last one also after 8,000 processes that have ended, and beside 63 users
-with 250 processes each.
+FOLDER is that of libtracehost.a (default: the release's, or $TRACEHOST_LIB_DIR). A debugger attaches to a process, waits for
+it and detaches, again and again; in one row a process forks, and waits for its child's end. Printed is for each way the best
+of N runs (default 9), in nanoseconds a step; the runs of the ways take turns. Instructions are counted by valgrind's
+callgrind, as the difference of two runs; `-` if there is no valgrind, and for Python. The clients in C and Python make typed
+calls. Without cargo or c++ their rows are left out. Then come the instructions of one tracehost_view of a user, by the number
+of other users with 250 processes and 1,000 LWPs each, and those of copying a session and closing the copy, of opening and
+closing one, and of copying one over another, by the number of its processes; the last one also after 8,000 processes that
+have ended, and beside 63 users with 250 processes each. With --baseline columns have the instructions of the library by hand
+in bench/baseline, which cargo builds, for the calls that it has, and how many times as many the first one takes; its copies
+follow.
 """
 
 from __future__ import annotations
@@ -25,6 +26,10 @@ import re
 import shutil
 import subprocess
 import tempfile
+from collections.abc import Sequence
+from typing import NamedTuple
+
+import runs
 
 TOP = pathlib.Path(__file__).resolve().parent.parent
 COUNTED = re.compile(r"Collected : (\d+)")
@@ -33,12 +38,32 @@ PROCESSES = (1, 3, 10, 100, 250)
 SECONDS = 600  # at most, for one run in valgrind
 
 
+class Library(NamedTuple):
+    """An archive with the calls of include/tracehost.h, and how a program is linked with it."""
+
+    archive: pathlib.Path
+    flags: Sequence[str] = ()
+
+
+def by_hand() -> Library:
+    """Builds that of bench/baseline, whose code isn't for programs that may lie anywhere."""
+    return Library(pathlib.Path(runs.baseline()).with_name("libbaseline.a"), ["-no-pie"])
+
+
 def compile_c(room: pathlib.Path, library: pathlib.Path) -> pathlib.Path:
     to = room / "steps_c"
     sources = [TOP / "bench/in_process/steps.c", TOP / "clients/c/tracehost_client.c"]
     folders: list[str | pathlib.Path] = ["-I", TOP / "include", "-I", TOP / "clients/c"]
-    words = ["cc", "-O2", "-pthread", "-DTRACEHOST_IN_PROCESS", *folders, "-o", to, *sources, library]
+    words = ["cc", "-O2", "-pthread", *folders, "-o", to, *sources, library]
     subprocess.run(words, check=True)
+    return to
+
+
+def compile_without_client(room: pathlib.Path, library: Library) -> pathlib.Path:
+    to = room / "steps_by_hand"
+    source = TOP / "bench/in_process/steps.c"
+    flags = [*library.flags, "-DWITHOUT_CLIENT", "-I", str(TOP / "include")]
+    subprocess.run(["cc", "-O2", *flags, "-o", to, source, library.archive], check=True)
     return to
 
 
@@ -58,21 +83,21 @@ def compile_rust(room: pathlib.Path, library: pathlib.Path) -> pathlib.Path:
     return pathlib.Path(next(file for file in made if file))
 
 
-def ways(room: pathlib.Path, library: pathlib.Path, program: str) -> dict[str, list[str]]:
+def ways(room: pathlib.Path, library: pathlib.Path) -> dict[str, list[str]]:
     """The command of each way, which takes the number of steps after its second word."""
     c = compile_c(room, library)
     table = {"C, typed": [str(c), "typed"]}
+    table["  after 8,000 ended processes"] = [str(c), "typed", "history"]
+    table["  beside 63 full users"] = [str(c), "typed", "users"]
+    table["  fork, exit, wait4"] = [str(c), "churn"]
     if shutil.which("c++"):
         table["C++, typed"] = [str(compile_cpp(room, library)), "typed"]
     if shutil.which("cargo"):
         table["Rust, typed"] = [str(compile_rust(room, library)), "typed"]
     table["C, text in words"] = [str(c), "text"]
     table["C, text in JSON"] = [str(c), "json"]
-    table["C, client in the process"] = [str(c), "client"]
-    table["C, client by pipe"] = [str(c), "pipe", program]
-    python = str(TOP / "bench/in_process/steps.py")
-    table["Python, client in the process"] = [python, "library"]
-    table["Python, client by pipe"] = [python, "pipe", program]
+    table["C, client"] = [str(c), "client"]
+    table["Python, client"] = [str(TOP / "bench/in_process/steps.py"), "client"]
     return table
 
 
@@ -94,10 +119,10 @@ def instructions(run: list[str], *options: str) -> int:
     return int(counted[1])
 
 
-def instructions_a_step(way: list[str]) -> str:
-    if way[1] in ("pipe", "library") or not shutil.which("valgrind"):
-        return "-"
-    return f"{(instructions(command(way, 60000)) - instructions(command(way, 30000))) / 30000:,.0f}"
+def instructions_a_step(way: list[str]) -> float | None:
+    if way[0].endswith(".py") or not shutil.which("valgrind"):
+        return None
+    return (instructions(command(way, 60000)) - instructions(command(way, 30000))) / 30000
 
 
 def compile_views(room: pathlib.Path, library: pathlib.Path) -> pathlib.Path:
@@ -112,11 +137,11 @@ def instructions_of_view(views: pathlib.Path, own: int, full: int) -> int:
     return instructions([str(views), str(own), str(full)], "--toggle-collect=look")
 
 
-def compile_copies(room: pathlib.Path, library: pathlib.Path) -> pathlib.Path:
-    to = room / "copies"
+def compile_copies(room: pathlib.Path, library: Library) -> pathlib.Path:
+    to = room / f"copies_{library.archive.stem}"
     source = TOP / "bench/in_process/copies.c"
     wrapped = "-Wl,--wrap=malloc,--wrap=realloc,--wrap=free"
-    subprocess.run(["cc", "-O2", wrapped, "-I", TOP / "include", "-o", to, source, library], check=True)
+    subprocess.run(["cc", "-O2", *library.flags, wrapped, "-I", TOP / "include", "-o", to, source, library.archive], check=True)
     return to
 
 
@@ -132,25 +157,39 @@ def bytes_of_copy(copies: pathlib.Path, processes: int) -> int:
 def main() -> None:
     release = TOP / f"release/{platform.machine()}-linux"
     parser = argparse.ArgumentParser()
-    parser.add_argument("program", nargs="?", default=str(release / "tracehost"))
     parser.add_argument("--library", default=os.environ.get("TRACEHOST_LIB_DIR", str(release)))
+    parser.add_argument("--baseline", action="store_true")
     parser.add_argument("--steps", type=int, default=300000)
     parser.add_argument("--runs", type=int, default=9)
     options = parser.parse_args()
-    with tempfile.TemporaryDirectory() as room:
+    with tempfile.TemporaryDirectory() as folder:
+        room = pathlib.Path(folder)
         library = pathlib.Path(options.library).resolve() / "libtracehost.a"
-        table = ways(pathlib.Path(room), library, options.program)
         os.environ["TRACEHOST_LIBRARY"] = str(library.with_suffix(".so"))
-        best = {name: float("inf") for name in table}
-        for _ in range(options.runs):
-            for name, way in table.items():
-                best[name] = min(best[name], nanoseconds(way, options.steps))
-        print(f'{"way":30} {"ns a step":>10} {"instructions":>13}')
-        for name, way in table.items():
-            print(f"{name:30} {best[name]:10,.0f} {instructions_a_step(way):>13}")
+        other = by_hand() if options.baseline else None
+        print_steps(ways(room, library), other and compile_without_client(room, other), options)
         if shutil.which("valgrind"):
-            print_views(compile_views(pathlib.Path(room), library))
-            print_copies(compile_copies(pathlib.Path(room), library))
+            print_views(compile_views(room, library))
+            for one in (Library(library), *([other] if other else [])):
+                print_copies(one.archive.stem, compile_copies(room, one))
+
+
+def print_steps(table: dict[str, list[str]], other: pathlib.Path | None, options: argparse.Namespace) -> None:
+    """A row for each way; `other` is the program of steps with the library by hand."""
+    best = {name: float("inf") for name in table}
+    for _ in range(options.runs):
+        for name, way in table.items():
+            best[name] = min(best[name], nanoseconds(way, options.steps))
+    heads = ["instructions", *(["by hand", "times"] if other else [])]
+    print(f'{"way":30} {"ns a step":>10}' + "".join(f"{head:>14}" for head in heads))
+    for name, way in table.items():
+        counts = [instructions_a_step(way)]
+        if other and way[0] == table["C, typed"][0] and way[1] in ("typed", "churn", "text", "json"):
+            counts.append(instructions_a_step([str(other), *way[1:]]))
+        cells = ["-" if count is None else f"{count:,.0f}" for count in counts]
+        if len(counts) == 2 and counts[0] and counts[1]:
+            cells.append(f"{counts[0] / counts[1]:.2f}")
+        print(f"{name:30} {best[name]:10,.0f}" + "".join(f"{cell:>14}" for cell in cells))
 
 
 def print_views(views: pathlib.Path) -> None:
@@ -160,15 +199,16 @@ def print_views(views: pathlib.Path) -> None:
         print(f"{name:22}" + "".join(f"{count:17,}" for count in counts))
 
 
-def print_copies(copies: pathlib.Path) -> None:
-    print("\nprocesses      " + "".join(f"{processes:>10}" for processes in PROCESSES))
-    for what in ("copy_and_close", "open_and_close", "copy_over"):
+def print_copies(name: str, copies: pathlib.Path) -> None:
+    print(f"\n{name}, processes".ljust(23) + "".join(f"{processes:>10}" for processes in PROCESSES))
+    for what in ("copy_and_close", "open_and_close", "copy_over", "copy_user"):
         counts = [instructions_of_copies(copies, processes, what) for processes in PROCESSES]
-        print(f"{what:15}" + "".join(f"{count:10,}" for count in counts))
-    for more in ("history", "users"):
-        counts = [instructions_of_copies(copies, processes, "copy_over", more) for processes in PROCESSES]
-        print(f"{'  ' + more:15}" + "".join(f"{count:10,}" for count in counts))
-    print("bytes          " + "".join(f"{bytes_of_copy(copies, processes):10,}" for processes in PROCESSES))
+        print(f"{what:22}" + "".join(f"{count:10,}" for count in counts))
+    for what in ("copy_over", "copy_user"):
+        for more in ("history", "users"):
+            counts = [instructions_of_copies(copies, processes, what, more) for processes in PROCESSES]
+            print(f"{what + ' ' + more:22}" + "".join(f"{count:10,}" for count in counts))
+    print("bytes".ljust(22) + "".join(f"{bytes_of_copy(copies, processes):10,}" for processes in PROCESSES))
 
 
 if __name__ == "__main__":

@@ -62,6 +62,7 @@ PARTS = {
         r"scenario_text::streaming::(stream|read_scenario)\b.*",
         r"scenario_runs::reading::read\b.*",
         r"scenario_runs::parsing::parse\b.*",
+        r"baseline::reading::read\b.*",
     ),
     "bind": (r"scenario_runs::binding::bind\b.*", r"scenario_runs::binding::bound\b.*"),
     "steps": (
@@ -69,6 +70,7 @@ PARTS = {
         r"visibility::runs::run_list\b.*",
         # the steps and what is around them, if they are inlined: in `text_of` the text too
         r"scenario_runs::running::(text_of|replies_of)\b.*",
+        r"baseline::print\b.*",
     ),
     "text": (
         r"scenario_runs::lines::push_(shown|line|words)\b.*",

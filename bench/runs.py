@@ -15,7 +15,7 @@ BASELINE = os.path.join(HERE, "baseline/target/release/baseline")
 
 
 def baseline() -> str:
-    """Builds the program by hand, and returns its path."""
+    """Builds the program by hand, and returns its path. Its library, libbaseline.a, is beside it."""
     subprocess.run(["cargo", "build", "--quiet", "--release", "--offline"], cwd=os.path.join(HERE, "baseline"), check=True)
     return BASELINE
 

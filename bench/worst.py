@@ -69,7 +69,7 @@ def cost(program: str, case: Made) -> Cost:
 
 def costs(programs: list[str], all_made: list[Made]) -> list[list[Cost]]:
     """For each case the cost in each program."""
-    with ThreadPoolExecutor(os.cpu_count()) as pool:
+    with ThreadPoolExecutor(len(os.sched_getaffinity(0))) as pool:
         waiting = [[pool.submit(cost, program, case) for program in programs] for case in all_made]
         return [[one.result() for one in row] for row in waiting]
 

@@ -1,6 +1,6 @@
 /*
- * Copies, opens and closes sessions. bench/in_process.py counts the instructions of one `copy_and_close`, of one
- * `open_and_close` and of one `copy_over`.
+ * Copies, opens and closes sessions. bench/in_process.py counts the instructions of one `copy_and_close`, `open_and_close`,
+ * `copy_over` and `copy_user`.
  *
  *     copies PROCESSES [gaps | history | users]
  *
@@ -74,6 +74,11 @@ __attribute__((noinline)) static void copy_over(tracehost *h, tracehost *to)
     wanted(tracehost_copy_over(h, to) == TRACEHOST_ANSWERED, "tracehost_copy_over");
 }
 
+__attribute__((noinline)) static void copy_user(tracehost *h, tracehost *to)
+{
+    wanted(tracehost_copy_user(h, to, USER) == TRACEHOST_ANSWERED, "tracehost_copy_user");
+}
+
 static uint32_t spawn(tracehost *h, uint32_t user)
 {
     tracehost_reply reply;
@@ -116,10 +121,12 @@ int main(int count, char **words)
         wanted(tracehost_open(true, &other) == TRACEHOST_ANSWERED, "tracehost_open");
         tracehost_close(&other);
         wanted(tracehost_copy_over(&h, &copy) == TRACEHOST_ANSWERED, "tracehost_copy_over");
+        wanted(tracehost_copy_user(&h, &copy, USER) == TRACEHOST_ANSWERED, "tracehost_copy_user");
     }
     copy_and_close(&h);
     open_and_close();
     copy_over(&h, &copy);
+    copy_user(&h, &copy);
     tracehost_close(&copy);
     tracehost_close(&h);
     wanted(blocks == 0, "memory is left");

@@ -1,7 +1,7 @@
 #!/usr/bin/env python3
 """Makes steps by the client in Python, attach, wait4 and detach in turn, and prints how many nanoseconds a step took.
 
-    steps.py library|pipe STEPS [PROGRAM]
+    steps.py client STEPS
 
 bench/in_process.py runs it.
 """
@@ -28,9 +28,9 @@ def run(host: Host, rounds: int) -> float:
     return time.perf_counter() - began
 
 
-def main(transport: str, steps: str, program: str = "") -> None:
+def main(way: str, steps: str) -> None:
     rounds = int(steps) // 3
-    with Host(transport="library") if transport == "library" else Host(program) as host:
+    with Host() as host:
         print(f"{run(host, rounds) / (rounds * 3) * 1e9:.1f}")
 
 

@@ -40,7 +40,7 @@ impl Doomed {
 impl Table {
     /// Ends a process with this word of its status.
     pub fn end(&mut self, p: ProcessSlot, word: u16) {
-        if !self.kills_tracees {
+        if !self.front.kills_tracees {
             self.set_free(p);
         }
         let row = &self.processes[p];

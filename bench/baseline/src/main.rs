@@ -5,40 +5,35 @@
 
 #![no_main]
 
-mod ends;
-mod names;
-mod plain;
-mod reading;
-mod requests;
-mod rows;
-mod rules;
-mod scanning;
-mod skipping;
-mod steps;
-mod tables;
-mod text;
-mod turns;
+use std::io::{self, Write};
 
-use std::io;
+use baseline::bytes::Bytes;
+use baseline::reading::{self, Scenario};
+use baseline::scanning::Padded;
+use baseline::tables::Users;
+use baseline::text::Lines;
 
-use crate::reading::Scenario;
-use crate::tables::Users;
-use crate::text::Lines;
-
+/// A part of its own in profiles, as `reading::read` is.
+#[inline(never)]
 fn print(scenario: &Scenario) -> io::Result<()> {
     let mut users = Users::new(scenario.kills_tracees);
-    let mut lines = Lines::new(io::stdout().lock());
+    let mut lines = Lines(Bytes::of_a_block());
+    let mut output = io::stdout().lock();
     for (user, step) in &scenario.steps {
+        if lines.0.is_full() {
+            output.write_all(lines.0.bytes())?;
+            lines.0.clear();
+        }
         let table = users.table(*user);
-        lines.begin(&mut table.head)?;
+        lines.begin(&mut table.front.head);
         table.step(step, &scenario.rules, &mut lines);
     }
-    lines.flush()
+    output.write_all(lines.0.bytes())
 }
 
 fn run(path: &str) -> Result<(), &'static str> {
-    let bytes = std::fs::read(path).map_err(|_| "cannot read")?;
-    let scenario = reading::read(bytes).ok_or("refused")?;
+    let text = Padded::of_file(path).map_err(|_| "cannot read")?;
+    let scenario = reading::read(&text).ok_or("refused")?;
     print(&scenario).map_err(|_| "cannot write")
 }
 

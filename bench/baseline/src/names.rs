@@ -26,6 +26,7 @@ pub const ON_EXIT: u8 = 4;
 pub const ON_FORK: u8 = 8;
 pub const ON_LWP: u8 = 16;
 pub const ON_VFORK: u8 = 32;
+pub const ALL_EVENTS: u32 = 63;
 
 pub const SCE: u16 = 1;
 pub const SCX: u16 = 2;
@@ -111,6 +112,25 @@ impl Call {
         }
     }
 
+    /// The call of this number in include/tracehost.h.
+    pub fn of_number(number: u32, argument: u32) -> Option<Call> {
+        let call = [
+            Call::Fork,
+            Call::Vfork,
+            Call::Exec,
+            Call::ThrNew,
+            Call::ThrExit,
+            Call::Exit(0),
+            Call::Other(0),
+        ]
+        .get(number as usize)?;
+        if matches!(call, Call::Exit(_) | Call::Other(_)) {
+            call.with_code(argument)
+        } else {
+            Some(*call)
+        }
+    }
+
     /// The call of the same name, with this code.
     pub fn with_code(self, code: u32) -> Option<Call> {
         match self {
@@ -164,7 +184,46 @@ named!(Request, "PT_":
     "LWP_EVENTS" => Request::LwpEvents,
 );
 
+/// Requests by their numbers in ptrace(2).
+static REQUESTS: [Option<Request>; 27] = [
+    Some(Request::TraceMe),
+    None,
+    None,
+    None,
+    None,
+    None,
+    None,
+    Some(Request::Continue),
+    Some(Request::Kill),
+    Some(Request::Step),
+    Some(Request::Attach),
+    Some(Request::Detach),
+    None,
+    Some(Request::LwpInfo),
+    Some(Request::GetNumLwps),
+    Some(Request::GetLwpList),
+    None,
+    None,
+    Some(Request::Suspend),
+    Some(Request::Resume),
+    Some(Request::ToSce),
+    Some(Request::ToScx),
+    Some(Request::Syscall),
+    Some(Request::FollowFork),
+    Some(Request::LwpEvents),
+    Some(Request::GetEventMask),
+    Some(Request::SetEventMask),
+];
+
+impl Request {
+    #[inline(always)]
+    pub fn of_number(number: u32) -> Option<Request> {
+        *REQUESTS.get(number as usize)?
+    }
+}
+
 #[derive(Clone, Copy, PartialEq, Eq)]
+#[repr(u8)]
 pub enum Decision {
     Decline,
     Leave,
@@ -181,11 +240,26 @@ named!(Decision, "":
     "kill" => Decision::Kill,
 );
 
+impl Decision {
+    pub fn of_number(number: u32) -> Option<Decision> {
+        use Decision::{Continue, Decline, Detach, Kill, Leave};
+        [Decline, Leave, Continue, Detach, Kill].get(number as usize).copied()
+    }
+}
+
 #[derive(Clone, Copy, PartialEq, Eq)]
 pub enum Action {
     Default,
     Ignore,
     Catch,
+}
+
+impl Action {
+    pub fn of_number(number: u32) -> Option<Action> {
+        [Action::Default, Action::Ignore, Action::Catch]
+            .get(number as usize)
+            .copied()
+    }
 }
 
 named!(Action, "":
@@ -242,6 +316,20 @@ pub enum Error {
     Busy,
     Inval,
     Again,
+}
+
+impl Error {
+    /// Its number in errno(2).
+    pub fn number(self) -> u32 {
+        match self {
+            Error::Perm => 1,
+            Error::Srch => 3,
+            Error::Child => 10,
+            Error::Busy => 16,
+            Error::Inval => 22,
+            Error::Again => 35,
+        }
+    }
 }
 
 /// A set that an array of names spells.

@@ -5,25 +5,27 @@ use crate::rows::Rule;
 use crate::scanning::Scanner;
 use crate::steps::{Act, Step, Which, MOST_RULES};
 
-/// The place of the user, and the step. `None` if it is written in any other way.
+/// Adds the step, with the place of its user. `None` if it is written in any other way.
+///
+/// Each kind of step is added apart: if all were a value first, most of the time would go into its making.
 #[inline(always)]
-pub fn step(text: &mut Scanner<'_>, rules: &mut Vec<Rule>) -> Option<(u8, Step)> {
+pub fn step(text: &mut Scanner<'_>, rules: &mut Vec<Rule>, add: impl FnOnce(u8, Step)) -> Option<()> {
     text.take("{\"user\":10")?;
     let user = user_place(1000 + text.two_digits()?)?;
     text.take(",\"op\":\"")?;
-    let step = if text.skips("turn\",\"lwp\":") {
-        turn(text)?
-    } else if text.skips("spawn\"") {
-        Step::Spawn
+    let add = |step| add(user, step);
+    if text.skips("turn\",\"lwp\":") {
+        turn(text, add)
+    } else if text.skips("spawn\"}") {
+        add(Step::Spawn);
+        Some(())
     } else if text.skips("ptrace\",\"caller\":") {
-        ptrace(text)?
+        ptrace(text, add)
     } else if text.skips("wait4\",\"caller\":") {
-        wait(text)?
+        wait(text, add)
     } else {
-        other(text, rules)?
-    };
-    text.take("}")?;
-    Some((user, step))
+        other(text, rules, add)
+    }
 }
 
 /// The place of a user among all, if there is such a user.
@@ -34,36 +36,46 @@ pub fn user_place(user: u32) -> Option<u8> {
 }
 
 #[inline(always)]
-fn turn(text: &mut Scanner<'_>) -> Option<Step> {
+fn turn(text: &mut Scanner<'_>, add: impl FnOnce(Step)) -> Option<()> {
     let lwp = text.digits()?;
+    let add = |act| add(Step::Turn { lwp, act });
     text.take(",\"act\":\"")?;
-    let act = if text.skips("enter\",\"call\":\"") {
-        Act::Enter(call(text)?)
-    } else if text.skips("leave\"") {
-        Act::Leave
-    } else if text.skips("compute\"") {
-        Act::Compute
+    if text.skips("enter\",\"call\":\"") {
+        enter(text, |call| add(Act::Enter(call)))?;
+    } else if text.skips("leave\"}") {
+        add(Act::Leave);
+    } else if text.skips("compute\"}") {
+        add(Act::Compute);
     } else if text.skips("raise\",\"signal\":") {
-        Act::Raise(text.digits()?)
+        let signal = text.digits()?;
+        text.take("}")?;
+        add(Act::Raise(signal));
     } else {
         text.take("block\",\"set\":[")?;
-        Act::Block(signals(text)?)
-    };
-    Some(Step::Turn { lwp, act })
+        let set = signals(text)?;
+        text.take("}")?;
+        add(Act::Block(set));
+    }
+    Some(())
 }
 
 #[inline(always)]
-fn call(text: &mut Scanner<'_>) -> Option<Call> {
+fn enter(text: &mut Scanner<'_>, add: impl FnOnce(Call)) -> Option<()> {
     let call = Call::next(text)?;
     if !matches!(call, Call::Exit(_) | Call::Other(_)) {
-        return Some(call);
+        text.take("}")?;
+        add(call);
+        return Some(());
     }
     text.take(",\"code\":")?;
-    call.with_code(text.digits()?)
+    let call = call.with_code(text.digits()?)?;
+    text.take("}")?;
+    add(call);
+    Some(())
 }
 
 #[inline(always)]
-fn ptrace(text: &mut Scanner<'_>) -> Option<Step> {
+fn ptrace(text: &mut Scanner<'_>, add: impl FnOnce(Step)) -> Option<()> {
     let caller = text.digits()?;
     text.take(",\"request\":\"")?;
     let request = Request::next(text)?;
@@ -78,16 +90,18 @@ fn ptrace(text: &mut Scanner<'_>) -> Option<Step> {
             data = text.digits()?;
         }
     }
-    Some(Step::Ptrace {
+    text.take("}")?;
+    add(Step::Ptrace {
         caller,
         request,
         target,
         data,
-    })
+    });
+    Some(())
 }
 
 #[inline(always)]
-fn wait(text: &mut Scanner<'_>) -> Option<Step> {
+fn wait(text: &mut Scanner<'_>, add: impl FnOnce(Step)) -> Option<()> {
     let caller = text.digits()?;
     let which = which(text)?;
     let options = if text.skips(",\"options\":[") {
@@ -95,7 +109,9 @@ fn wait(text: &mut Scanner<'_>) -> Option<Step> {
     } else {
         0
     };
-    Some(Step::Wait { caller, which, options })
+    text.take("}")?;
+    add(Step::Wait { caller, which, options });
+    Some(())
 }
 
 #[inline(always)]
@@ -110,7 +126,7 @@ fn which(text: &mut Scanner<'_>) -> Option<Which> {
 
 /// A step of the ops that are used less.
 #[inline(always)]
-fn other(text: &mut Scanner<'_>, rules: &mut Vec<Rule>) -> Option<Step> {
+fn other(text: &mut Scanner<'_>, rules: &mut Vec<Rule>, add: impl FnOnce(Step)) -> Option<()> {
     let step = if text.skips("kill\",\"caller\":") {
         let caller = text.digits()?;
         let which = which(text)?;
@@ -135,7 +151,9 @@ fn other(text: &mut Scanner<'_>, rules: &mut Vec<Rule>) -> Option<Step> {
         let action = Action::next(text)?;
         Step::Sigaction { caller, signal, action }
     };
-    Some(step)
+    text.take("}")?;
+    add(step);
+    Some(())
 }
 
 /// The rest of an array of names, as the bits that they name.
@@ -178,6 +196,7 @@ pub fn a_signal(number: u32) -> Option<u8> {
 }
 
 /// The rest of an array of rules: where they begin and end among all.
+#[inline(always)]
 fn policy(text: &mut Scanner<'_>, rules: &mut Vec<Rule>) -> Option<(u32, u32)> {
     let first = rules.len();
     if !text.skips("]") {

@@ -8,9 +8,11 @@ use crate::steps::{Act, Step, Which, MOST_RULES};
 
 const LONGEST_TEXT: usize = 4_194_304;
 const MOST_STEPS: usize = 100_000;
-/// In so many arrays and objects is the value of a step's key, and of a rule's.
+/// The bytes of a step and a comma: no step as programs write them has fewer.
+const SHORTEST_STEP: usize = r#"{"user":1001,"op":"spawn"},"#.len();
+/// In so many arrays and objects is the value of a step's key: in a scenario, and in a line. Of a rule's key two more.
 const STEP_DEPTH: usize = 3;
-const RULE_DEPTH: usize = 5;
+const LINE_DEPTH: usize = 1;
 
 pub struct Scenario {
     pub kills_tracees: bool,
@@ -180,7 +182,7 @@ fn word(value: i64) -> Option<u32> {
 impl Members {
     /// Reads the value of a key.
     #[inline]
-    fn value(&mut self, key: Key, text: &mut Scanner<'_>, rules: Option<&mut Vec<Rule>>) -> Option<()> {
+    fn value(&mut self, key: Key, text: &mut Scanner<'_>, rules: Option<&mut Vec<Rule>>, depth: usize) -> Option<()> {
         match key {
             Key::User => self.user = text.number()?,
             Key::Op => self.op = Op::of(text.name()?.bytes())?,
@@ -196,7 +198,7 @@ impl Members {
             Key::Signal => self.signal = text.number()?,
             Key::Options => self.bits = bits::<Options>(text)?,
             Key::Action => self.action = Action::of(text.name()?.bytes())?,
-            Key::Rules => self.rules = policy(text, rules?)?,
+            Key::Rules => self.rules = policy(text, rules?, depth + 2)?,
             Key::Set => self.bits = signals(text)?,
             Key::Mask => self.bits = bits::<Events>(text)?,
             Key::Flags => self.bits = bits::<Flags>(text)?,
@@ -370,19 +372,18 @@ fn signals(text: &mut Scanner<'_>) -> Option<Signals> {
     Some(set)
 }
 
-fn policy(text: &mut Scanner<'_>, rules: &mut Vec<Rule>) -> Option<(u32, u32)> {
+fn policy(text: &mut Scanner<'_>, rules: &mut Vec<Rule>, depth: usize) -> Option<(u32, u32)> {
     let first = rules.len();
     let mut goes_on = text.opens(b'[', b']')?;
     while goes_on {
-        rules.push(members(text, None)?.rule()?);
+        rules.push(members(text, None, depth)?.rule()?);
         goes_on = text.goes_on(b']')?;
     }
     (rules.len() - first <= MOST_RULES).then_some((first as u32, rules.len() as u32))
 }
 
 /// Reads an object of a step, or of a rule, which has no rules itself.
-fn members(text: &mut Scanner<'_>, mut rules: Option<&mut Vec<Rule>>) -> Option<Members> {
-    let depth = if rules.is_some() { STEP_DEPTH } else { RULE_DEPTH };
+fn members(text: &mut Scanner<'_>, mut rules: Option<&mut Vec<Rule>>, depth: usize) -> Option<Members> {
     let mut read = NO_MEMBERS;
     let mut goes_on = text.opens(b'{', b'}')?;
     while goes_on {
@@ -391,7 +392,7 @@ fn members(text: &mut Scanner<'_>, mut rules: Option<&mut Vec<Rule>>) -> Option<
         let start = text.place();
         read.left |= 1 << key as u8;
         read.wrong &= !(1 << key as u8);
-        if read.value(key, text, rules.as_deref_mut()).is_none() {
+        if read.value(key, text, rules.as_deref_mut(), depth).is_none() {
             read.wrong |= 1 << key as u8;
             text.back_to(start);
             text.skip_value(depth)?;
@@ -403,27 +404,48 @@ fn members(text: &mut Scanner<'_>, mut rules: Option<&mut Vec<Rule>>) -> Option<
 
 /// A step that isn't written as programs write it.
 #[cold]
-fn any_step(text: &mut Scanner<'_>, rules: &mut Vec<Rule>) -> Option<(u8, Step)> {
-    members(text, Some(rules))?.step()
+fn any_step(text: &mut Scanner<'_>, rules: &mut Vec<Rule>, depth: usize) -> Option<(u8, Step)> {
+    members(text, Some(rules), depth)?.step()
 }
 
+/// Reads the array of steps. As a function of its own it keeps its place in registers.
+#[inline(never)]
 fn steps(text: &mut Scanner<'_>, scenario: &mut Scenario) -> Option<()> {
-    scenario.steps.clear();
+    let Scenario { steps, rules, .. } = scenario;
+    steps.clear();
     let mut goes_on = text.opens(b'[', b']')?;
     while goes_on {
-        let (start, rules) = (text.place(), scenario.rules.len());
-        let step = match plain::step(text, &mut scenario.rules) {
-            Some(step) => step,
+        // a scanner that isn't passed to others
+        let mut ahead = text.clone();
+        let count = rules.len();
+        match plain::step(&mut ahead, rules, |user, step| steps.push((user, step))) {
+            Some(()) => *text = ahead,
             None => {
-                text.back_to(start);
-                scenario.rules.truncate(rules);
-                any_step(text, &mut scenario.rules)?
+                rules.truncate(count);
+                steps.push(any_step(text, rules, STEP_DEPTH)?);
             }
-        };
-        scenario.steps.push(step);
+        }
         goes_on = text.goes_on(b']')?;
     }
-    (scenario.steps.len() <= MOST_STEPS).then_some(())
+    (steps.len() <= MOST_STEPS).then_some(())
+}
+
+/// The step that a line is.
+#[inline(always)]
+pub fn line_step(line: &Padded, rules: &mut Vec<Rule>) -> Option<(u8, Step)> {
+    let count = rules.len();
+    let mut text = Scanner::new(line);
+    let mut found = None;
+    if plain::step(&mut text, rules, |user, step| found = Some((user, step))).is_none() {
+        text.back_to(0);
+        rules.truncate(count);
+        found = any_step(&mut text, rules, LINE_DEPTH);
+    }
+    if found.is_none() || !text.is_at_end() {
+        rules.truncate(count);
+        return None;
+    }
+    found
 }
 
 fn setting(text: &mut Scanner<'_>, scenario: &mut Scenario) -> Option<()> {
@@ -435,17 +457,17 @@ fn setting(text: &mut Scanner<'_>, scenario: &mut Scenario) -> Option<()> {
     Some(())
 }
 
-pub fn read(bytes: Vec<u8>) -> Option<Scenario> {
-    if bytes.len() > LONGEST_TEXT {
+#[inline(never)]
+pub fn read(text: &Padded) -> Option<Scenario> {
+    if text.length() > LONGEST_TEXT {
         return None;
     }
-    let text = Padded::new(bytes);
     let mut scenario = Scenario {
         kills_tracees: true,
-        steps: Vec::with_capacity(text.length() / 64),
+        steps: Vec::with_capacity(text.length() / SHORTEST_STEP),
         rules: Vec::new(),
     };
-    let mut text = Scanner::new(&text);
+    let mut text = Scanner::new(text);
     let (mut has_steps, mut has_wrong_steps, mut has_wrong_setting) = (false, false, false);
     let mut goes_on = text.opens(b'{', b'}')?;
     while goes_on {

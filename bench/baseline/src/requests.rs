@@ -1,9 +1,9 @@
 //! Requests of ptrace(2).
 
-use crate::names::{Error, Request, KILL, LAST_SIGNAL, ON_ENTRY, ON_EXIT, ON_FORK, ON_LWP, STOP};
+use crate::names::{Error, Request, ALL_EVENTS, KILL, LAST_SIGNAL, ON_ENTRY, ON_EXIT, ON_FORK, ON_LWP, STOP};
+use crate::replies::Replies;
 use crate::rows::{LwpSlot, ProcessSlot, State, Stop, NOBODY};
 use crate::tables::Table;
-use crate::text::Lines;
 
 const LAST_PROCESS: u32 = 99_999;
 
@@ -15,7 +15,7 @@ impl Table {
         request: Request,
         target: u32,
         data: u32,
-        lines: &mut Lines<'_>,
+        lines: &mut impl Replies,
     ) -> Result<(), Error> {
         match request {
             Request::TraceMe => self.trace_me(caller)?,
@@ -118,7 +118,7 @@ impl Table {
         l: LwpSlot,
         request: Request,
         data: u32,
-        lines: &mut Lines<'_>,
+        lines: &mut impl Replies,
     ) -> Result<(), Error> {
         match request {
             Request::Continue
@@ -141,6 +141,7 @@ impl Table {
                 self.processes[p].odd = true;
             }
             Request::Resume => self.lwps[l].suspended = false,
+            Request::SetEventMask if data > ALL_EVENTS => return Err(Error::Inval),
             Request::SetEventMask => self.processes[p].mask = data as u8,
             Request::FollowFork => self.switch(p, ON_FORK, data),
             Request::LwpEvents => self.switch(p, ON_LWP, data),
@@ -157,7 +158,7 @@ impl Table {
         l: LwpSlot,
         request: Request,
         most: u32,
-        lines: &mut Lines<'_>,
+        lines: &mut impl Replies,
     ) -> Result<(), Error> {
         match request {
             Request::GetLwpList if most == 0 => return Err(Error::Inval),

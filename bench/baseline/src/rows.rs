@@ -1,8 +1,9 @@
 //! Rows of processes and LWPs in slots, and what else a user's table has.
 
+use std::mem::MaybeUninit;
 use std::ops::{Index, IndexMut};
 
-use crate::names::{Call, Decision, Signals, BORN, SCX, THR_NEW, TRAP, VFORK_DONE};
+use crate::names::{bit, Call, Decision, Signals, BORN, SCX, THR_NEW, TRAP, VFORK_DONE};
 
 /// A space, and a number of at most six digits.
 pub type Text = [u8; 8];
@@ -13,7 +14,7 @@ pub struct ProcessSlot(pub u8);
 
 impl ProcessSlot {
     pub fn slot(self) -> usize {
-        self.0 as usize
+        self.0.into()
     }
 }
 
@@ -121,6 +122,18 @@ pub struct Stop {
     pub code: u32,
 }
 
+impl Stop {
+    /// The word of its status.
+    pub fn word(&self) -> u16 {
+        stop_word(self.signal)
+    }
+}
+
+/// The word of the status of a stop by a signal.
+pub fn stop_word(signal: u8) -> u16 {
+    u16::from(signal) * 256 + 127
+}
+
 /// The stop that the next turn of an LWP makes.
 #[derive(Clone, Copy, PartialEq, Eq)]
 #[repr(u8)]
@@ -204,46 +217,90 @@ impl Rule {
     };
 }
 
+impl Rule {
+    /// The signals whose stops it may fit.
+    pub fn signals(&self) -> Signals {
+        if self.signal == 0 {
+            !0
+        } else {
+            bit(self.signal)
+        }
+    }
+
+    #[inline(always)]
+    pub fn fits(&self, stop: &Stop) -> bool {
+        (self.signal == 0 || self.signal == stop.signal) && self.flags & !stop.flags == 0
+    }
+}
+
 /// An installed policy: a part of the scenario's rules.
 #[derive(Clone, Copy)]
 pub struct Handler {
     pub debugger: ProcessSlot,
     pub first: u32,
     pub end: u32,
+    /// The signals of its rules, and the flags that are in all of them: no other stop fits one.
+    pub signals: Signals,
+    pub flags: u16,
 }
 
-pub struct Processes([Process; 256]);
+impl Handler {
+    #[inline(always)]
+    pub fn may_fit(&self, stop: &Stop) -> bool {
+        self.signals & bit(stop.signal) != 0 && self.flags & !stop.flags == 0
+    }
+}
+
+/// Rows in slots. Only slots that have been used, and the slot 0, have a row.
+pub struct Rows<Row, const COUNT: usize>(MaybeUninit<[Row; COUNT]>);
+
+pub type Processes = Rows<Process, 256>;
+pub type Lwps = Rows<Lwp, 1024>;
+
+impl<Row: Copy, const COUNT: usize> Rows<Row, COUNT> {
+    #[inline(always)]
+    fn row(&self, slot: usize) -> &Row {
+        debug_assert!(slot < COUNT);
+        // SAFETY: a slot is one of a row that has been written
+        unsafe { &*self.0.as_ptr().cast::<Row>().add(slot) }
+    }
+
+    #[inline(always)]
+    fn row_mut(&mut self, slot: usize) -> &mut Row {
+        debug_assert!(slot < COUNT);
+        // SAFETY: as above; or the row is written now, and a row's bytes may be any
+        unsafe { &mut *self.0.as_mut_ptr().cast::<Row>().add(slot) }
+    }
+}
 
 impl Index<ProcessSlot> for Processes {
     type Output = Process;
 
     #[inline(always)]
     fn index(&self, p: ProcessSlot) -> &Process {
-        &self.0[p.0 as usize]
+        self.row(p.slot())
     }
 }
 
 impl IndexMut<ProcessSlot> for Processes {
     #[inline(always)]
     fn index_mut(&mut self, p: ProcessSlot) -> &mut Process {
-        &mut self.0[p.0 as usize]
+        self.row_mut(p.slot())
     }
 }
-
-pub struct Lwps([Lwp; 1024]);
 
 impl Index<LwpSlot> for Lwps {
     type Output = Lwp;
 
     #[inline(always)]
     fn index(&self, l: LwpSlot) -> &Lwp {
-        &self.0[l.0 as usize % 1024]
+        self.row(l.0.into())
     }
 }
 
 impl IndexMut<LwpSlot> for Lwps {
     #[inline(always)]
     fn index_mut(&mut self, l: LwpSlot) -> &mut Lwp {
-        &mut self.0[l.0 as usize % 1024]
+        self.row_mut(l.0.into())
     }
 }

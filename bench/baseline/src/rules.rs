@@ -59,6 +59,7 @@ impl Table {
     }
 
     /// Posts a signal to a process, or to the LWP of it that raised the signal.
+    #[inline(always)]
     pub fn post(&mut self, p: ProcessSlot, signal: u8, lwp: Option<LwpSlot>) {
         let set = bit(signal);
         if signal == KILL {

@@ -3,6 +3,8 @@
 use std::arch::x86_64::{
     __m128i, _mm_cmpeq_epi8, _mm_loadu_si128, _mm_max_epu8, _mm_movemask_epi8, _mm_or_si128, _mm_set1_epi8,
 };
+use std::fs::File;
+use std::io::{self, Read};
 
 /// The bytes of 0 that follow each text, and the most bytes that are read at a time.
 const PADDING: usize = 32;
@@ -12,12 +14,26 @@ const LONGEST_NAME: usize = 24;
 const WIDTH: usize = 16;
 
 /// A text that `PADDING` bytes of 0 follow.
+#[derive(Default)]
 pub struct Padded(Vec<u8>);
 
 impl Padded {
-    pub fn new(mut text: Vec<u8>) -> Padded {
+    /// The text of a file, which is read to where it stays.
+    pub fn of_file(path: &str) -> io::Result<Padded> {
+        let mut file = File::open(path)?;
+        let mut text = Vec::with_capacity(file.metadata()?.len() as usize + PADDING);
+        file.read_to_end(&mut text)?;
         text.resize(text.len() + PADDING, 0);
-        Padded(text)
+        Ok(Padded(text))
+    }
+
+    /// Becomes another text.
+    #[inline]
+    pub fn set(&mut self, text: &[u8]) {
+        self.0.clear();
+        self.0.reserve(text.len() + PADDING);
+        self.0.extend_from_slice(text);
+        self.0.extend_from_slice(&[0; PADDING]);
     }
 
     pub fn length(&self) -> usize {
@@ -61,21 +77,23 @@ fn first_special(bytes: &[u8; WIDTH]) -> usize {
 }
 
 /// A place in a text. It never passes a byte of 0, so `PADDING` bytes can always be read from it.
+#[derive(Clone)]
 pub struct Scanner<'a> {
-    text: &'a Padded,
+    /// With the bytes that follow the text.
+    text: &'a [u8],
     at: usize,
 }
 
 impl<'a> Scanner<'a> {
     pub fn new(text: &'a Padded) -> Scanner<'a> {
-        Scanner { text, at: 0 }
+        Scanner { text: &text.0, at: 0 }
     }
 
     #[inline(always)]
     fn next<const COUNT: usize>(&self) -> [u8; COUNT] {
         const { assert!(COUNT <= PADDING) };
         // SAFETY: no byte of 0 has been passed, and PADDING of them are at the end
-        unsafe { self.text.0.as_ptr().add(self.at).cast::<[u8; COUNT]>().read() }
+        unsafe { self.text.as_ptr().add(self.at).cast::<[u8; COUNT]>().read() }
     }
 
     #[inline(always)]
@@ -91,7 +109,7 @@ impl<'a> Scanner<'a> {
     fn has(&self, bytes: &'static str) -> bool {
         debug_assert!(bytes.len() <= PADDING && !bytes.as_bytes().contains(&0));
         // SAFETY: as in `next`
-        let next = unsafe { std::slice::from_raw_parts(self.text.0.as_ptr().add(self.at), bytes.len()) };
+        let next = unsafe { std::slice::from_raw_parts(self.text.as_ptr().add(self.at), bytes.len()) };
         next == bytes.as_bytes()
     }
 
@@ -170,7 +188,7 @@ impl<'a> Scanner<'a> {
 
     /// The bytes from a place that the scanner has passed.
     pub fn passed_since(&self, place: usize) -> &[u8] {
-        &self.text.0[place..self.at]
+        &self.text[place..self.at]
     }
 
     /// Takes the next byte if it isn't 0 and is one of these.
@@ -228,7 +246,7 @@ impl<'a> Scanner<'a> {
     }
 
     pub fn is_at_end(&mut self) -> bool {
-        self.peek() == 0 && self.at == self.text.length()
+        self.peek() == 0 && self.at == self.text.len() - PADDING
     }
 
     /// A string that may be a name.

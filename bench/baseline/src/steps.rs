@@ -3,12 +3,12 @@
 use crate::names::{
     bit, Action, Call, Decision, Error, Request, Signals, KILL, LAST_SIGNAL, UNBLOCKABLE, WCONTINUED, WUNTRACED,
 };
-use crate::rows::{Due, Handler, LwpSlot, ProcessSlot, Rule, State, Stop, Text, NOBODY};
+use crate::replies::Replies;
+use crate::rows::{stop_word, Due, LwpSlot, ProcessSlot, Rule, State, Stop, NOBODY};
 use crate::tables::Table;
-use crate::text::Lines;
 
 pub const MOST_RULES: usize = 16;
-const CONTINUED_WORD: u16 = 19;
+pub const CONTINUED_WORD: u16 = 19;
 
 /// A process, -1 for any or all, or a number that isn't allowed.
 pub type Which = i32;
@@ -64,17 +64,17 @@ pub enum Step {
     },
 }
 
-/// What a wait has collected: the process with this number, and the LWP if it reports a trace stop.
+/// What a wait has collected: the process, which may be removed now, and the LWP if it reports a trace stop.
 struct Collected {
-    pid: Text,
+    process: ProcessSlot,
     word: u16,
-    stopped: Option<(ProcessSlot, LwpSlot)>,
+    stopped: Option<LwpSlot>,
 }
 
 impl Table {
     /// Makes the step, and writes its reply.
     #[inline(always)]
-    pub fn step(&mut self, step: &Step, rules: &[Rule], lines: &mut Lines<'_>) {
+    pub fn step(&mut self, step: &Step, rules: &[Rule], lines: &mut impl Replies) {
         let done = match *step {
             Step::Turn { lwp, act } => self.turn(lwp, act, lines),
             Step::Spawn => self.spawn(lines),
@@ -91,18 +91,18 @@ impl Table {
         }
     }
 
-    fn spawn(&mut self, lines: &mut Lines<'_>) -> Result<(), Error> {
+    fn spawn(&mut self, lines: &mut impl Replies) -> Result<(), Error> {
         if !self.has_room(true) {
             return Err(Error::Again);
         }
         let p = self.add_process(NOBODY);
         let l = self.add_lwp(p, 0, Due::Nothing);
-        lines.made(&self.texts, self.processes[p].text, self.lwps[l].text);
+        lines.made(self, l);
         Ok(())
     }
 
     #[inline(always)]
-    fn call(&mut self, number: u32, step: &Step, rules: &[Rule], lines: &mut Lines<'_>) -> Result<(), Error> {
+    fn call(&mut self, number: u32, step: &Step, rules: &[Rule], lines: &mut impl Replies) -> Result<(), Error> {
         let caller = self.find(number).ok_or(Error::Srch)?;
         match self.processes[caller].state {
             State::Run => {}
@@ -125,8 +125,7 @@ impl Table {
             Step::Kill { which, signal, .. } => self.kill(caller, which, signal)?,
             Step::Sigaction { signal, action, .. } => self.sigaction(caller, signal, action)?,
             Step::Install { first, end, .. } => {
-                let debugger = caller;
-                self.add_handler(Handler { debugger, first, end }).ok_or(Error::Again)?;
+                self.add_handler(caller, first, end, rules).ok_or(Error::Again)?;
             }
         }
         lines.ok();
@@ -171,6 +170,7 @@ impl Table {
         Ok(())
     }
 
+    #[inline(always)]
     fn kill_one(&mut self, p: ProcessSlot, signal: u8) {
         if signal != 0 && !matches!(self.processes[p].state, State::Zombie { .. }) {
             self.post(p, signal, None);
@@ -178,21 +178,33 @@ impl Table {
     }
 
     fn kill_others(&mut self, caller: ProcessSlot, signal: u8) {
+        if signal == KILL {
+            return self.end_others(caller);
+        }
+        self.change_each_process(|table, p| {
+            if p != caller {
+                table.kill_one(p, signal);
+            }
+        });
+    }
+
+    /// Each end may end others too.
+    fn end_others(&mut self, caller: ProcessSlot) {
         let mut from = 0;
         while let Some(p) = self.next_process(from) {
             from = self.processes[p].place + 1;
             if p != caller {
-                self.kill_one(p, signal);
+                self.kill_one(p, KILL);
             }
         }
     }
 
-    fn wait(&mut self, caller: ProcessSlot, which: Which, options: u8, lines: &mut Lines<'_>) -> Result<(), Error> {
+    fn wait(&mut self, caller: ProcessSlot, which: Which, options: u8, lines: &mut impl Replies) -> Result<(), Error> {
         if which == 0 || which < -1 {
             return Err(Error::Inval);
         }
         match self.collect(caller, which, options)? {
-            Some(Collected { pid, word, .. }) => lines.status(&self.texts, pid, word),
+            Some(Collected { process, word, .. }) => lines.status(self, process, word),
             None => lines.nothing(),
         }
         Ok(())
@@ -231,10 +243,10 @@ impl Table {
             }
             self.reportable(p, caller, options).map(|word| (p, word))
         };
-        Ok(found.map(|(p, word)| Collected {
-            pid: self.processes[p].text,
+        Ok(found.map(|(process, word)| Collected {
+            process,
             word,
-            stopped: self.take_news(p, caller).map(|l| (p, l)),
+            stopped: self.take_news(process, caller),
         }))
     }
 
@@ -277,13 +289,18 @@ impl Table {
     }
 
     /// A debugger collects a stop, and its handlers decide what it does then.
-    fn handle(&mut self, caller: ProcessSlot, rules: &[Rule], lines: &mut Lines<'_>) -> Result<(), Error> {
-        let Some(Collected { pid, word, stopped }) = self.collect(caller, -1, 0)? else {
+    fn handle(&mut self, caller: ProcessSlot, rules: &[Rule], lines: &mut impl Replies) -> Result<(), Error> {
+        let Some(Collected {
+            process: p,
+            word,
+            stopped,
+        }) = self.collect(caller, -1, 0)?
+        else {
             lines.nothing();
             return Ok(());
         };
-        let Some((p, l)) = stopped else {
-            lines.status(&self.texts, pid, word);
+        let Some(l) = stopped else {
+            lines.status(self, p, word);
             return Ok(());
         };
         let row = &self.lwps[l];
@@ -293,7 +310,7 @@ impl Table {
             child: row.child,
             code: row.code,
         };
-        lines.handled(&self.texts, pid, row.text, &stop);
+        lines.handled(self, p, l, &stop);
         let (index, rule) = self.decided(caller, &stop, rules);
         lines.decided(index, rule.decision, rule.pass);
         match rule.decision {
@@ -306,21 +323,16 @@ impl Table {
     }
 
     /// The first rule of the debugger's handlers that fits and doesn't decline, and the index of its handler.
+    #[inline(always)]
     fn decided(&self, debugger: ProcessSlot, stop: &Stop, rules: &[Rule]) -> (Option<usize>, Rule) {
-        let fits = |rule: &&Rule| (rule.signal == 0 || rule.signal == stop.signal) && rule.flags & !stop.flags == 0;
-        let own = self.handlers().iter().filter(|handler| handler.debugger == debugger);
-        for (index, handler) in own.enumerate() {
+        let own = self.handlers.iter().filter(|handler| handler.debugger == debugger);
+        for (index, handler) in own.enumerate().filter(|(_, handler)| handler.may_fit(stop)) {
             let policy = &rules[handler.first as usize..handler.end as usize];
-            match policy.iter().find(fits) {
+            match policy.iter().find(|rule| rule.fits(stop)) {
                 Some(rule) if rule.decision != Decision::Decline => return (Some(index), *rule),
                 _ => {}
             }
         }
         (None, Rule::NONE)
     }
-}
-
-/// The word of the status of a stop by a signal.
-fn stop_word(signal: u8) -> u16 {
-    u16::from(signal) * 256 + 127
 }

@@ -1,13 +1,12 @@
 //! A user's rows: found by number through arrays, and in order through bits and links.
 
-use std::alloc::{alloc_zeroed, handle_alloc_error, Layout};
-
+use crate::bytes::{lwp_text, Head, Texts};
 use crate::names::Signals;
 use crate::rows::{
-    Due, Handler, Lwp, LwpSlot, Lwps, Mode, Process, ProcessSlot, Processes, State, NEW_LWP, NEW_PROCESS, NOBODY,
+    Due, Handler, Lwp, LwpSlot, Lwps, Mode, Process, ProcessSlot, Processes, Rule, State, NEW_LWP, NEW_PROCESS, NOBODY,
     NO_LWP, UNLINKED,
 };
-use crate::text::{lwp_text, Head, Texts};
+use crate::slots::Slots;
 
 const PIDS: usize = 1000;
 const TIDS: usize = 4000;
@@ -16,7 +15,8 @@ const MOST_LWPS: u16 = 1000;
 const MOST_HANDLERS: usize = 64;
 
 /// A set of places of processes.
-struct Places {
+#[derive(Clone, Copy)]
+pub struct Places {
     words: [u64; 16],
     /// The words that aren't 0.
     filled: u16,
@@ -40,6 +40,21 @@ impl Places {
         }
     }
 
+    /// Each one, by rising place.
+    #[inline(always)]
+    fn each(&self, mut each: impl FnMut(u16)) {
+        let mut filled = self.filled;
+        while filled != 0 {
+            let index = filled.trailing_zeros() as u16 % 16;
+            filled &= filled - 1;
+            let mut left = self.words[index as usize];
+            while left != 0 {
+                each(index * 64 + left.trailing_zeros() as u16);
+                left &= left - 1;
+            }
+        }
+    }
+
     /// The first one at or after this place.
     #[inline(always)]
     fn next(&self, from: u16) -> Option<u16> {
@@ -57,8 +72,9 @@ impl Places {
     }
 }
 
-/// A user's rows. All is 0 until the user's first step.
-pub struct Table {
+/// What a table has beside rows and their slots.
+#[derive(Clone, Copy)]
+pub struct Front {
     pub head: Head,
     pub texts: Texts,
     pub kills_tracees: bool,
@@ -71,87 +87,127 @@ pub struct Table {
     /// Slots up to these have been used; those that are free again are joined by links.
     used_processes: u8,
     used_lwps: u16,
-    free_process: ProcessSlot,
-    free_lwp: LwpSlot,
+    pub free_process: ProcessSlot,
+    pub free_lwp: LwpSlot,
     pids: Places,
     /// Processes that a wait may report.
     news: Places,
-    pid_slots: [ProcessSlot; PIDS],
-    tid_slots: [LwpSlot; TIDS],
+}
+
+/// A user's rows.
+pub struct Table {
+    pub front: Front,
+    pub pid_slots: Slots<ProcessSlot, PIDS>,
+    pub tid_slots: Slots<LwpSlot, TIDS>,
+    pub handlers: Vec<Handler>,
     pub processes: Processes,
     pub lwps: Lwps,
-    handlers: [Handler; MOST_HANDLERS],
-    handler_count: usize,
-}
-
-/// The first place from the cursor on that has no slot, around the block. There is one.
-#[inline(always)]
-fn next_free<S: PartialEq>(slots: &[S], cursor: u16, nothing: S) -> u16 {
-    let mut place = cursor;
-    while slots[place as usize] != nothing {
-        place = after(place, slots.len());
-    }
-    place
-}
-
-#[inline(always)]
-fn after(place: u16, size: usize) -> u16 {
-    if usize::from(place) + 1 < size {
-        place + 1
-    } else {
-        0
-    }
 }
 
 impl Table {
-    /// Prepares the table of the user at this place among all, which is all 0.
+    /// A table without a user. Only what is used of its arrays is ever written.
+    pub fn unused() -> Box<Table> {
+        let mut table = Box::<Table>::new_uninit();
+        let room = table.as_mut_ptr();
+        // SAFETY: all fields are written, unless their bytes may be any; bytes of 0 are a front
+        unsafe {
+            (&raw mut (*room).front).write_bytes(0, 1);
+            (&raw mut (*room).pid_slots.used).write(0);
+            (&raw mut (*room).tid_slots.used).write(0);
+            (&raw mut (*room).handlers).write(Vec::new());
+            let mut table = table.assume_init();
+            table.processes[NOBODY] = NEW_PROCESS;
+            table.lwps[NO_LWP] = NEW_LWP;
+            table
+        }
+    }
+
+    /// The table of the user at this place among all.
     #[cold]
-    fn begin(&mut self, user: u8, kills_tracees: bool) {
+    fn of_user(user: u8, kills_tracees: bool) -> Box<Table> {
         let user = u32::from(user);
-        self.first_pid = 1000 * (1 + user);
-        self.first_tid = 100_000 + TIDS as u32 * user;
-        self.head = Head::of_user(1001 + user);
-        self.texts = Texts::of_user(self.first_pid);
-        self.kills_tracees = kills_tracees;
+        let mut table = Table::unused();
+        let front = &mut table.front;
+        front.first_pid = 1000 * (1 + user);
+        front.first_tid = 100_000 + TIDS as u32 * user;
+        front.head = Head::of_user(1001 + user);
+        front.texts = Texts::of_user(front.first_pid);
+        front.kills_tracees = kills_tracees;
+        table
     }
 
     pub fn process_count(&self) -> u16 {
-        self.process_count
+        self.front.process_count
     }
 
     #[inline]
     pub fn has_room(&self, for_process: bool) -> bool {
-        !(for_process && self.process_count >= MOST_PROCESSES) && self.lwp_count < MOST_LWPS
+        !(for_process && self.front.process_count >= MOST_PROCESSES) && self.front.lwp_count < MOST_LWPS
     }
 
     #[inline(always)]
     pub fn find(&self, number: u32) -> Option<ProcessSlot> {
-        let place = number.wrapping_sub(self.first_pid);
-        let slot = *self.pid_slots.get(place as usize)?;
+        let place = number.wrapping_sub(self.front.first_pid);
+        let slot = self.pid_slots.get(place, NOBODY);
         (slot != NOBODY).then_some(slot)
     }
 
     #[inline(always)]
     pub fn find_lwp(&self, number: u32) -> Option<LwpSlot> {
-        let place = number.wrapping_sub(self.first_tid);
-        let slot = *self.tid_slots.get(place as usize)?;
+        let place = number.wrapping_sub(self.front.first_tid);
+        let slot = self.tid_slots.get(place, NO_LWP);
         (slot != NO_LWP).then_some(slot)
     }
 
     /// The first process from this place on.
     #[inline(always)]
     pub fn next_process(&self, from: u16) -> Option<ProcessSlot> {
-        Some(self.pid_slots[self.pids.next(from)? as usize])
+        Some(self.pid_slots.of_used(self.front.pids.next(from)?))
     }
 
     /// The first process from this place on that a wait may report.
     #[inline(always)]
     pub fn next_news(&self, from: u16) -> Option<ProcessSlot> {
-        Some(self.pid_slots[self.news.next(from)? as usize])
+        Some(self.pid_slots.of_used(self.front.news.next(from)?))
     }
 
     pub fn pid(&self, p: ProcessSlot) -> u32 {
-        self.first_pid + u32::from(self.processes[p].place)
+        self.front.first_pid + u32::from(self.processes[p].place)
+    }
+
+    pub fn tid(&self, l: LwpSlot) -> u32 {
+        self.front.first_tid + u32::from(self.lwps[l].place)
+    }
+
+    /// Each process, by rising number.
+    #[inline(always)]
+    pub fn each_process(&self, mut each: impl FnMut(ProcessSlot)) {
+        self.front.pids.each(|place| each(self.pid_slots.of_used(place)));
+    }
+
+    /// The same, while the table changes, but not which processes there are.
+    #[inline(always)]
+    pub fn change_each_process(&mut self, mut each: impl FnMut(&mut Table, ProcessSlot)) {
+        let pids = self.front.pids;
+        pids.each(|place| each(self, self.pid_slots.of_used(place)));
+    }
+
+    /// The first LWPs of a process, in order of birth.
+    #[inline]
+    pub fn each_lwp(&self, p: ProcessSlot, most: u32, mut each: impl FnMut(LwpSlot)) {
+        let mut l = self.processes[p].first;
+        let mut left = most;
+        while l != NO_LWP && left > 0 {
+            each(l);
+            l = self.lwps[l].next;
+            left -= 1;
+        }
+    }
+
+    /// Whether its process is in a stop that this LWP reports.
+    pub fn reports(&self, l: LwpSlot) -> bool {
+        let process = self.lwps[l].process;
+        matches!(self.processes[process].state, State::Trace { lwp: stopped, .. } if stopped == l)
     }
 
     /// Notes whether a wait may have something to report of a process.
@@ -170,29 +226,28 @@ impl Table {
     pub fn set_news(&mut self, p: ProcessSlot, has_news: bool) {
         let place = self.processes[p].place;
         if has_news {
-            self.news.add(place);
+            self.front.news.add(place);
         } else {
-            self.news.remove(place);
+            self.front.news.remove(place);
         }
     }
 
     /// A new process without LWPs, if there is room for it.
     pub fn add_process(&mut self, parent: ProcessSlot) -> ProcessSlot {
-        let place = next_free(&self.pid_slots, self.next_pid, NOBODY);
-        self.next_pid = after(place, self.pid_slots.len());
-        let mut p = self.free_process;
+        let mut p = self.front.free_process;
         if p == NOBODY {
-            self.used_processes += 1;
-            p = ProcessSlot(self.used_processes);
+            self.front.used_processes += 1;
+            p = ProcessSlot(self.front.used_processes);
         } else {
-            self.free_process = self.processes[p].child_links.after;
+            self.front.free_process = self.processes[p].child_links.after;
         }
-        self.process_count += 1;
-        self.pids.add(place);
-        self.pid_slots[place as usize] = p;
+        let place = self.pid_slots.add(self.front.next_pid, p, NOBODY);
+        self.front.next_pid = Slots::<ProcessSlot, PIDS>::after(place);
+        self.front.process_count += 1;
+        self.front.pids.add(place);
         self.processes[p] = Process {
             place,
-            text: self.texts.of_process(place),
+            text: self.front.texts.of_process(place),
             ..NEW_PROCESS
         };
         self.set_parent(p, parent);
@@ -201,21 +256,20 @@ impl Table {
 
     /// A new LWP of a process, if there is room for it.
     pub fn add_lwp(&mut self, p: ProcessSlot, blocked: Signals, due: Due) -> LwpSlot {
-        let place = next_free(&self.tid_slots, self.next_tid, NO_LWP);
-        self.next_tid = after(place, self.tid_slots.len());
-        let mut l = self.free_lwp;
+        let mut l = self.front.free_lwp;
         if l == NO_LWP {
-            self.used_lwps += 1;
-            l = LwpSlot(self.used_lwps);
+            self.front.used_lwps += 1;
+            l = LwpSlot(self.front.used_lwps);
         } else {
-            self.free_lwp = self.lwps[l].next;
+            self.front.free_lwp = self.lwps[l].next;
         }
-        self.lwp_count += 1;
-        self.tid_slots[place as usize] = l;
+        let place = self.tid_slots.add(self.front.next_tid, l, NO_LWP);
+        self.front.next_tid = Slots::<LwpSlot, TIDS>::after(place);
+        self.front.lwp_count += 1;
         let process = &mut self.processes[p];
         self.lwps[l] = Lwp {
             place,
-            text: lwp_text(self.first_tid + u32::from(place)),
+            text: lwp_text(self.front.first_tid + u32::from(place)),
             process: p,
             due,
             blocked,
@@ -256,12 +310,12 @@ impl Table {
         } else {
             self.lwps[next].prev = prev;
         }
-        self.tid_slots[place as usize] = NO_LWP;
+        self.tid_slots.replace(place, NO_LWP);
         let lwp = &mut self.lwps[l];
         lwp.mode = Mode::User;
-        lwp.next = self.free_lwp;
-        self.free_lwp = l;
-        self.lwp_count -= 1;
+        lwp.next = self.front.free_lwp;
+        self.front.free_lwp = l;
+        self.front.lwp_count -= 1;
     }
 
     /// Removes a process that has no LWP.
@@ -269,12 +323,12 @@ impl Table {
         self.set_tracer(p, NOBODY);
         self.set_parent(p, NOBODY);
         let place = self.processes[p].place;
-        self.pids.remove(place);
-        self.news.remove(place);
-        self.pid_slots[place as usize] = NOBODY;
-        self.processes[p].child_links.after = self.free_process;
-        self.free_process = p;
-        self.process_count -= 1;
+        self.front.pids.remove(place);
+        self.front.news.remove(place);
+        self.pid_slots.replace(place, NOBODY);
+        self.processes[p].child_links.after = self.front.free_process;
+        self.front.free_process = p;
+        self.front.process_count -= 1;
     }
 
     pub fn set_parent(&mut self, p: ProcessSlot, parent: ProcessSlot) {
@@ -330,57 +384,54 @@ impl Table {
         self.processes[p].tracee_links.after
     }
 
-    pub fn handlers(&self) -> &[Handler] {
-        &self.handlers[..self.handler_count]
-    }
-
-    /// Adds a handler, if there is room for it.
-    pub fn add_handler(&mut self, handler: Handler) -> Option<()> {
-        *self.handlers.get_mut(self.handler_count)? = handler;
-        self.handler_count += 1;
-        self.processes[handler.debugger].handlers += 1;
+    /// Adds a handler of a policy, the rules from `first` to before `end`, if there is room for it.
+    pub fn add_handler(&mut self, debugger: ProcessSlot, first: u32, end: u32, rules: &[Rule]) -> Option<()> {
+        if self.handlers.len() == MOST_HANDLERS {
+            return None;
+        }
+        let policy = &rules[first as usize..end as usize];
+        self.handlers.push(Handler {
+            debugger,
+            first,
+            end,
+            signals: policy.iter().fold(0, |set, rule| set | rule.signals()),
+            flags: policy.iter().fold(!0, |flags, rule| flags & rule.flags),
+        });
+        self.processes[debugger].handlers += 1;
         Some(())
     }
 
     pub fn remove_handlers(&mut self, debugger: ProcessSlot) {
-        let mut left = 0;
-        for index in 0..self.handler_count {
-            let handler = self.handlers[index];
-            self.handlers[left] = handler;
-            left += usize::from(handler.debugger != debugger);
-        }
-        self.handler_count = left;
+        self.handlers.retain(|handler| handler.debugger != debugger);
         self.processes[debugger].handlers = 0;
     }
 }
 
 /// The tables of all users.
 pub struct Users {
-    kills_tracees: bool,
-    tables: Box<[Table; 64]>,
+    pub kills_tracees: bool,
+    /// Each from the user's first step on.
+    pub tables: [Option<Box<Table>>; 64],
+    /// Which ones there are.
+    pub begun: u64,
 }
 
 impl Users {
     pub fn new(kills_tracees: bool) -> Users {
-        let layout = Layout::new::<[Table; 64]>();
-        // SAFETY: tables have bytes, and bytes of 0 are a value of each field: enums are `repr(u8)`, and begin at 0
-        let tables = unsafe {
-            let room = alloc_zeroed(layout).cast::<[Table; 64]>();
-            if room.is_null() {
-                handle_alloc_error(layout);
-            }
-            Box::from_raw(room)
-        };
-        Users { kills_tracees, tables }
+        Users {
+            kills_tracees,
+            tables: [const { None }; 64],
+            begun: 0,
+        }
     }
 
     /// The table of the user at this place among all.
     #[inline(always)]
     pub fn table(&mut self, user: u8) -> &mut Table {
         let table = &mut self.tables[user as usize % 64];
-        if table.first_pid == 0 {
-            table.begin(user, self.kills_tracees);
+        if table.is_none() {
+            self.begun |= 1 << user;
         }
-        table
+        table.get_or_insert_with(|| Table::of_user(user, self.kills_tracees))
     }
 }

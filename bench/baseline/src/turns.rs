@@ -4,11 +4,11 @@ use crate::names::{
     bit, Call, Error, Signals, CHILD, EXEC, EXITED, FORKED, KILL, LAST_SIGNAL, ON_ENTRY, ON_EXEC, ON_EXIT, ON_FORK,
     ON_LWP, SCE, SCX, STOP, TRAP, UNBLOCKABLE, VFORKED,
 };
+use crate::replies::Replies;
 use crate::rows::{Due, LwpSlot, Mode, ProcessSlot, State, Stop, NOBODY, NO_LWP};
 use crate::rules::{effect, Effect};
 use crate::steps::Act;
 use crate::tables::Table;
-use crate::text::Lines;
 
 type Done = Result<(), Error>;
 
@@ -17,7 +17,7 @@ type Made = Option<LwpSlot>;
 
 impl Table {
     #[inline(always)]
-    pub fn turn(&mut self, number: u32, act: Act, lines: &mut Lines<'_>) -> Done {
+    pub fn turn(&mut self, number: u32, act: Act, lines: &mut impl Replies) -> Done {
         let l = self.find_lwp(number).ok_or(Error::Srch)?;
         let lwp = &self.lwps[l];
         let p = lwp.process;
@@ -51,20 +51,19 @@ impl Table {
         Ok(())
     }
 
-    fn stops(&mut self, l: LwpSlot, stop: Stop, lines: &mut Lines<'_>) {
+    fn stops(&mut self, l: LwpSlot, stop: Stop, lines: &mut impl Replies) {
         self.trace_stop(l, stop);
-        lines.stopped(self.lwps[l].text, stop.signal, stop.flags);
+        lines.stopped(self, l, stop.signal, stop.flags);
     }
 
-    fn stop_that_is_due(&mut self, l: LwpSlot, lines: &mut Lines<'_>) {
+    fn stop_that_is_due(&mut self, l: LwpSlot, lines: &mut impl Replies) {
         let due = std::mem::replace(&mut self.lwps[l].due, Due::Nothing);
         self.stops(l, due.stop(), lines);
     }
 
     /// The LWP meets a pending signal, its own before one of its process.
-    fn meet(&mut self, p: ProcessSlot, l: LwpSlot, signal: u8, lines: &mut Lines<'_>) {
+    fn meet(&mut self, p: ProcessSlot, l: LwpSlot, signal: u8, lines: &mut impl Replies) {
         let lwp = &mut self.lwps[l];
-        let text = lwp.text;
         let process = &mut self.processes[p];
         if lwp.pending & bit(signal) != 0 {
             lwp.pending &= !bit(signal);
@@ -78,7 +77,7 @@ impl Table {
             Effect::Catch => lines.caught(signal),
             Effect::Stop => {
                 self.job_stop(p, signal);
-                lines.stopped(text, signal, 0);
+                lines.stopped(self, l, signal, 0);
             }
             Effect::Nothing | Effect::End => {
                 self.end(p, signal.into());
@@ -88,7 +87,7 @@ impl Table {
     }
 
     #[inline]
-    fn enter(&mut self, p: ProcessSlot, l: LwpSlot, call: Call, lines: &mut Lines<'_>) {
+    fn enter(&mut self, p: ProcessSlot, l: LwpSlot, call: Call, lines: &mut impl Replies) {
         let lwp = &mut self.lwps[l];
         lwp.mode = Mode::InCall;
         lwp.call = call;
@@ -99,7 +98,7 @@ impl Table {
         }
     }
 
-    fn compute(&mut self, p: ProcessSlot, l: LwpSlot, lines: &mut Lines<'_>) {
+    fn compute(&mut self, p: ProcessSlot, l: LwpSlot, lines: &mut impl Replies) {
         let process = &mut self.processes[p];
         if process.stepping != l {
             return lines.ok();
@@ -108,7 +107,7 @@ impl Table {
         self.stops(l, plain(TRAP, 0, 0), lines);
     }
 
-    fn raise(&mut self, p: ProcessSlot, l: LwpSlot, signal: u32, lines: &mut Lines<'_>) -> Done {
+    fn raise(&mut self, p: ProcessSlot, l: LwpSlot, signal: u32, lines: &mut impl Replies) -> Done {
         if signal == 0 || signal > LAST_SIGNAL {
             return Err(Error::Inval);
         }
@@ -121,14 +120,14 @@ impl Table {
         Ok(())
     }
 
-    fn block(&mut self, l: LwpSlot, set: Signals, lines: &mut Lines<'_>) {
+    fn block(&mut self, l: LwpSlot, set: Signals, lines: &mut impl Replies) {
         self.lwps[l].blocked = set & !UNBLOCKABLE;
         lines.ok();
     }
 
     /// Does the work of a call, and then stops at its exit if the tracer wants that.
     #[inline(always)]
-    fn leave(&mut self, p: ProcessSlot, l: LwpSlot, call: Call, lines: &mut Lines<'_>) -> Done {
+    fn leave(&mut self, p: ProcessSlot, l: LwpSlot, call: Call, lines: &mut impl Replies) -> Done {
         match call {
             Call::Fork | Call::Vfork => return self.leave_fork(p, l, call, lines),
             Call::ThrNew => return self.leave_thr_new(p, l, lines),
@@ -159,7 +158,7 @@ impl Table {
         call: Call,
         event: (u8, u16),
         made: Made,
-        lines: &mut Lines<'_>,
+        lines: &mut impl Replies,
     ) {
         let mask = self.processes[p].mask;
         let (event, flags) = event;
@@ -169,10 +168,7 @@ impl Table {
             (SCX, 0)
         } else {
             return match made {
-                Some(new) => {
-                    let lwp = &self.lwps[new];
-                    lines.made(&self.texts, self.processes[lwp.process].text, lwp.text);
-                }
+                Some(new) => lines.made(self, new),
                 None => lines.ok(),
             };
         };
@@ -183,7 +179,7 @@ impl Table {
         self.stops(l, stop, lines);
     }
 
-    fn leave_thr_exit(&mut self, p: ProcessSlot, l: LwpSlot, lines: &mut Lines<'_>) {
+    fn leave_thr_exit(&mut self, p: ProcessSlot, l: LwpSlot, lines: &mut impl Replies) {
         let process = &self.processes[p];
         if process.lwps == 1 {
             self.end(p, 0);
@@ -196,7 +192,7 @@ impl Table {
         }
     }
 
-    fn leave_thr_new(&mut self, p: ProcessSlot, l: LwpSlot, lines: &mut Lines<'_>) -> Done {
+    fn leave_thr_new(&mut self, p: ProcessSlot, l: LwpSlot, lines: &mut impl Replies) -> Done {
         if !self.has_room(false) {
             return Err(Error::Again);
         }
@@ -215,7 +211,7 @@ impl Table {
     }
 
     /// Makes a child, which the tracer follows under PTRACE_FORK.
-    fn leave_fork(&mut self, p: ProcessSlot, l: LwpSlot, call: Call, lines: &mut Lines<'_>) -> Done {
+    fn leave_fork(&mut self, p: ProcessSlot, l: LwpSlot, call: Call, lines: &mut impl Replies) -> Done {
         if !self.has_room(true) {
             return Err(Error::Again);
         }
