@@ -135,9 +135,7 @@ class Model:
 
     def __init__(self, kills: bool = True) -> None:
         """`kills` is the setting kern.kill_on_debugger_exit. Raises OSError if there is no library."""
-        library = find(needed=True)
-        assert library is not None
-        self.session = Session(library, kills)
+        self.session = Session(find(), kills)
         self._texts: dict[int, tuple[str, Rows]] = {}
 
     def become(self, other: Model) -> None:

@@ -68,6 +68,9 @@ static void over_itself(void)
     CHECK(tracehost_open(true, &h) == TRACEHOST_ANSWERED && tracehost_spawn(&h, FIRST_USER, &first) == TRACEHOST_ANSWERED);
     CHECK(tracehost_copy_over(&h, &h) == TRACEHOST_NOT_OPEN);
     CHECK(tracehost_copy_over(&h, &closed) == TRACEHOST_NOT_OPEN && tracehost_copy_over(&closed, &h) == TRACEHOST_NOT_OPEN);
+    CHECK(tracehost_copy_user(&h, &h, FIRST_USER) == TRACEHOST_NOT_OPEN);
+    CHECK(tracehost_copy_user(&h, &closed, FIRST_USER) == TRACEHOST_NOT_OPEN);
+    CHECK(tracehost_copy_user(&closed, &h, FIRST_USER) == TRACEHOST_NOT_OPEN);
     CHECK(tracehost_spawn(&h, FIRST_USER, &second) == TRACEHOST_ANSWERED && second.pid == first.pid + 1);
     CHECK(tracehost_close(&h) == TRACEHOST_ANSWERED);
 }

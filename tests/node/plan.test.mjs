@@ -107,6 +107,20 @@ test("labels of a lane don't overlap, and none is beyond the end", () => {
   assert.ok(label.end < 95 && label.x > 0);
 });
 
+test("a part of a lane has the labels that the whole lane has there", () => {
+  for (const step of [12, 26, 110]) {
+    const plan = new Plan(random(5000).session, { step });
+    for (const lane of plan.order.filter(({ seen }) => seen.length > 20)) {
+      const labels = plan.labels(lane);
+      for (let left = 0; left < plan.width; left += 1777) {
+        lane.labels = null; // as before anything was drawn
+        const isIn = ({ x, end }) => end >= left && x <= left + 1300;
+        assert.deepEqual(plan.labels(lane, left, left + 1300).filter(isIn), labels.filter(isIn), `${lane.name} at ${left}`);
+      }
+    }
+  }
+});
+
 test("bars count each mark of a lane once", () => {
   for (const step of [0.01, 0.25, 1, 3.9]) {
     assert.ok(step < NARROWEST_MARK);

@@ -12,6 +12,6 @@ for (const path of process.argv.slice(2)) {
   const told = ({ at, user, kind, text }) => [at + 1, user, kind, text];
   const ordered = nearestFirst(notices, last.index, last.reply.user).map((one) => [told(one), one.count]);
   sessionOf(entries, true);
-  const whys = entries.filter(({ why }) => why !== undefined).map(({ index, why }) => [index + 1, why]);
+  const whys = entries.filter(({ why }) => why !== undefined).map(({ index, why }) => [index + 1, why()]);
   console.log(JSON.stringify([notices.map(told), ordered, whys]));
 }

@@ -1,4 +1,4 @@
-"""Programs of the client in C, compiled over a pipe and for sessions in the process, for the compiler's searches and valgrind."""
+"""Programs of the client in C, compiled for the compiler's searches and valgrind."""
 
 from __future__ import annotations
 
@@ -14,9 +14,7 @@ from row_files import Located, plain_files
 
 CLIENT = TOP / "clients/c"
 SOURCE = CLIENT / "tracehost_client.c"
-FAKE = CLIENT / "tests/fake.sh"
-IN_PROCESS = ["-DTRACEHOST_IN_PROCESS", *HEADERS]
-FLAGS = ["-std=c11", *WARNINGS, "-g", "-pthread"]
+FLAGS = ["-std=c11", *WARNINGS, "-g", "-pthread", *HEADERS]
 
 
 class Way(NamedTuple):
@@ -25,29 +23,25 @@ class Way(NamedTuple):
     flags: list[str]
     before: list[str]
     words: dict[str, list[str]]
-    in_process: bool = False
 
 
 WAYS = {
-    "pipe": Way([*FLAGS, *sanitized()], [], {"test": ["1"], "threads": ["100"], "explain": []}),
-    "races": Way(["-std=c11", "-g", "-pthread", *RACES], [], {"test": ["10"], "threads": ["10"], "explain": []}),
-    "valgrind": Way(
-        ["-std=c11", "-g", "-pthread", "-O1"], VALGRIND, {"test": ["100", "emulated"], "threads": ["10"], "explain": []}
-    ),
-    "in process": Way([*FLAGS, *sanitized(), *IN_PROCESS], [], {"test": ["1"], "threads": ["100"], "explain": []}, in_process=True),
+    "plain": Way([*FLAGS, *sanitized()], [], {"test": ["1"], "threads": ["100"], "explain": []}),
+    "races": Way([*FLAGS, *RACES], [], {"test": ["10"], "threads": ["10"], "explain": []}),
+    "valgrind": Way([*FLAGS, "-O1"], VALGRIND, {"test": ["100"], "threads": ["10"], "explain": []}),
 }
 FILES = plain_files()
 # the examples of the client; others use the library
 EXAMPLES = sorted(path.stem for path in (CLIENT / "examples").glob("*.c") if "tracehost_client.h" in path.read_text())
 # each program of each way
 PROGRAMS = [(way, name) for way, how in WAYS.items() for name in how.words]
-PROGRAMS += [("pipe", "replay"), ("in process", "replay"), *(("pipe", name) for name in EXAMPLES)]
+PROGRAMS += [("plain", name) for name in ("replay", *EXAMPLES)]
 
 
 class Programs:
     """Programs of the client, each compiled once."""
 
-    def __init__(self, room: Path, archive: Path | None) -> None:
+    def __init__(self, room: Path, archive: Path) -> None:
         self._room, self._archive, self._made = room, archive, dict[tuple[str, str], Path]()
 
     def __getitem__(self, which: tuple[str, str]) -> Path:
@@ -61,12 +55,9 @@ class Programs:
         return self._made[which]
 
     def _compiled(self, way: Way, name: str) -> Path:
-        if way.in_process and self._archive is None:
-            pytest.skip("there is no library")
         folder = CLIENT / ("examples" if name in EXAMPLES else "tests")
-        archive = [self._archive] if way.in_process and self._archive else []
         made = self._room / f"{name}{len(self._made)}"
-        return compiled(made, *way.flags, "-I", CLIENT, folder / f"{name}.c", SOURCE, *archive)
+        return compiled(made, *way.flags, "-I", CLIENT, folder / f"{name}.c", SOURCE, self._archive)
 
 
 @pytest.fixture(scope="session")

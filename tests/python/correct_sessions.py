@@ -130,7 +130,7 @@ class Debugger:
 def correct_session(seed: int, steps: int, scenario: Path) -> None:
     """Writes the scenario of about so many steps, of one to three users."""
     chance = random.Random(seed)
-    with Host(record=scenario, transport="library") as host:
+    with Host(record=scenario) as host:
         debuggers = [Debugger(host.user(1001 + place), chance) for place in range(chance.choice((1, 1, 2, 3)))]
         for debugger in debuggers:
             if chance.random() < 0.5:

@@ -27,7 +27,7 @@ from test_posix_programs import variants  # noqa: E402
 BOUNDS = {"python": 95.0, "c": 95.0, "viewer": 90.0, "runtime": 85.0}
 NEEDED = {"python": (), "c": ("gcovr", "cc"), "viewer": ("node", "chromium"), "runtime": ("gcovr", "cc", "c++", "make")}
 SCHEDULES = 2  # of each case, beside the plain one
-UNITTESTS = ("tracehost", "programs", "recording", "blocking", "debug", "library")
+UNITTESTS = ("tracehost", "recording", "blocking", "debug", "library")
 SUITES = ("arguments", "checkouts", "handlers", "lifetimes", "recording_faults", "refusals", "pytest_plugin", "artifacts")
 
 
@@ -62,9 +62,8 @@ def of_python(room: pathlib.Path, program: str, library: str) -> tuple[float, in
     (begin / "usercustomize.py").write_text("import coverage\ncoverage.process_startup()\n")
     base |= {"TRACEHOST": program, "PYTHONPATH": str(TOP / "clients/python")}
     for name in UNITTESTS:
-        for named in (library, "") if name != "library" else (library,):
-            run(python, TOP / f"clients/python/tests/test_{name}.py", **base, TRACEHOST_LIBRARY=named)
-    run(python, "-m", "pytest", "-q", "tests/python/test_terminal.py", **base, TRACEHOST_LIBRARY="")
+        run(python, TOP / f"clients/python/tests/test_{name}.py", **base, TRACEHOST_LIBRARY=library)
+    run(python, "-m", "pytest", "-q", "tests/python/test_terminal.py", **base)
     suites = [TOP / f"clients/python/tests/test_{name}.py" for name in SUITES]
     # if no file may grow, coverage.py can't write its own either, and says so in the middle of what the test reads
     left_out = "--deselect=clients/python/tests/test_artifacts.py::test_a_page_that_cannot_be_written"
@@ -79,45 +78,31 @@ def of_python(room: pathlib.Path, program: str, library: str) -> tuple[float, in
 
 
 def of_c(room: pathlib.Path, program: str, library: str) -> tuple[float, int]:
-    """By gcov, of the tests of clients/c over a pipe and in the process."""
+    """By gcov, of the tests of clients/c."""
     client, archive = TOP / "clients/c", pathlib.Path(library).parent / "libtracehost.a"
-    flags = ["-std=c11", "--coverage", "-O0", "-g", "-pthread"]
-    fake = client / "tests/fake.sh"
+    flags = ["-std=c11", "--coverage", "-O0", "-g", "-pthread", f"-I{TOP / 'include'}"]
     names = [str(file) for file in map(locator(room), plain_files())]
     run(sys.executable, client / "tests/words.py", room, *names)
-    for inside in (False, True):
-        folder = room / ("inside" if inside else "pipe")
-        folder.mkdir()
-        more = ["-DTRACEHOST_IN_PROCESS", f"-I{TOP / 'include'}"] if inside else []
-        defines: dict[str, list[str]] = {
-            "test": [], "threads": [], "replay": [],
-            "faults/faults": ["-DCOUNTED", "-Dpwrite=pwrite_of_a_small_disk"],
-        }  # fmt: skip
-        for name, define in defines.items():
-            made = folder / pathlib.Path(name).name
-            sources = [client / f"tests/{name}.c", client / "tracehost_client.c", *([archive] if inside else [])]
-            run("cc", *flags, *more, *define, "-o", made, *sources)
-        run(folder / "test", program, fake, folder, 1)
-        run(folder / "threads", program, fake, folder, 20)
-        for scenario in names:
-            words = room / scenario.removesuffix(".json").replace("/", "-")
-            setting = words.with_suffix(".setting").read_text().strip()
-            for way in (".text", ".calls"):
-                with words.with_suffix(way).open("rb") as steps:
-                    subprocess.run([folder / "replay", program, setting], stdin=steps, stdout=subprocess.DEVNULL, check=True)
-        run(folder / "faults", "fork", program)
-        for size in range(0, 150, 7):
-            run(folder / "faults", "disk", program, folder / "s.json", folder / "s.out", size)
-            run(folder / "faults", "limit", program, folder / "s.json", folder / "s.out", 45 + size)
-    faults = client / "tests/faults"
-    run("cc", "-o", room / "false", faults / "false_program.c")
-    run("cc", *flags, f"-I{client}", "-o", room / "answers", faults / "false_answers.c", client / "tracehost_client.c")
-    subprocess.run([str(room / "answers"), str(room / "false"), "0", "300", str(room)], check=True,
-                   stdout=subprocess.DEVNULL, stderr=subprocess.DEVNULL)  # fmt: skip
-    made_codes = room / "codes"
-    run("cc", *flags, "-DTRACEHOST_IN_PROCESS", f"-I{TOP / 'include'}", "-o", made_codes,
-        client / "tests/in_process/codes.c", client / "tracehost_client.c")  # fmt: skip
-    run(made_codes)
+    defines: dict[str, list[str]] = {
+        "test": [], "threads": [], "replay": [], "faults/faults": ["-DCOUNTED", "-Dpwrite=pwrite_of_a_small_disk"],
+    }  # fmt: skip
+    for name, define in defines.items():
+        sources = [client / f"tests/{name}.c", client / "tracehost_client.c", archive]
+        run("cc", *flags, *define, "-o", room / pathlib.Path(name).name, *sources)
+    run(room / "test", program, room, 1)
+    run(room / "threads", room, 20)
+    for scenario in names:
+        words = room / scenario.removesuffix(".json").replace("/", "-")
+        setting = words.with_suffix(".setting").read_text().strip()
+        for way in (".text", ".calls"):
+            with words.with_suffix(way).open("rb") as steps:
+                subprocess.run([room / "replay", setting], stdin=steps, stdout=subprocess.DEVNULL, check=True)
+    run(room / "faults", "fork")
+    for size in range(0, 150, 7):
+        run(room / "faults", "disk", room / "s.json", room / "s.out", size)
+        run(room / "faults", "limit", room / "s.json", room / "s.out", 45 + size)
+    run("cc", *flags, "-o", room / "codes", client / "tests/in_process/codes.c", client / "tracehost_client.c")
+    run(room / "codes")
     report = room / "report.json"
     run("gcovr", "--root", client, "--exclude", ".*tests/.*", "--json-summary", report, room)
     counted = json.loads(report.read_text())

@@ -6,6 +6,7 @@ import json
 import os
 import re
 import resource
+import shutil
 import subprocess
 from collections.abc import Callable, Mapping
 from pathlib import Path
@@ -14,13 +15,31 @@ from typing import NamedTuple
 import pytest
 from c_programs import HEADERS, NONE, STRICT, WARNINGS, compiled, output, sanitized
 from checking import TOP, Word
-from client_programs import CLIENT, IN_PROCESS, SOURCE
+from client_programs import CLIENT, SOURCE
 
 CPP = TOP / "clients/cpp/tests"
 SECONDS = 300
 WITH_COMMANDS = {"PATH": f"{TOP / 'bin'}:{os.environ['PATH']}"}  # for tracehost-debug, which tells a story
 STORY = "step 8 of user 1001: wait4 1000 -> 1001 stopped SIGSEGV"
 """The first line of that of a test that is called `fails`."""
+STEPS = 8
+"""Of a test that is called `fails`."""
+IN_PYTHON = """
+import os
+from tracehost import Compute, Host, Raise, Request, Signal
+
+
+def debug(tracehost: Host, wanted: Signal) -> None:
+    user = tracehost.user(1001)
+    debugger, target = user.process(user.spawn()), user.spawn()
+    debugger.ptrace(Request.PT_ATTACH, target.pid)
+    debugger.wait4()
+    debugger.ptrace(Request.PT_STEP, target.pid)
+    user.turn(target.tid, Raise(Signal.SIGSEGV))
+    user.turn(target.tid, Compute())
+    assert os.WSTOPSIG(debugger.wait4().status) == wanted
+"""
+"""The session of all these programs: a debugger that takes a SIGSEGV for the end of a PT_STEP, if SIGTRAP is wanted."""
 EMBEDDED = re.compile(r'<script type="application/json" id="embedded">(.*?)</script>', re.DOTALL)
 
 
@@ -71,11 +90,10 @@ class Failing:
         return Ran(ran.returncode, ran.stdout.decode(errors="replace"), left)
 
 
-def in_c(room: Path, library: Path, program: Path, way: str, *more_flags: str) -> Failing:
-    flags: list[Word] = ["-std=c11", *WARNINGS, "-Wconversion", "-g", "-pthread", *sanitized(), "-I", CLIENT, *more_flags]
-    more: list[Word] = [*IN_PROCESS, SOURCE, library / "libtracehost.a"] if way == "in process" else [SOURCE]
-    made = compiled(room / f"c-{way.replace(' ', '-')}", *flags, CLIENT / "tests/failing.c", *more)
-    return Failing(f"c {way}", made, lambda case, named: [str(made), str(program), case, *([named] if named else [])])
+def in_c(room: Path, library: Path, *more_flags: str) -> Failing:
+    flags: list[Word] = ["-std=c11", *WARNINGS, "-Wconversion", "-g", "-pthread", *sanitized(), *HEADERS, *more_flags]
+    made = compiled(room / "c", *flags, CLIENT / "tests/failing.c", SOURCE, library / "libtracehost.a")
+    return Failing("c", made, lambda case, named: [str(made), case, *([named] if named else [])])
 
 
 def in_cpp(room: Path, library: Path, *more_flags: str) -> Failing:
@@ -111,6 +129,55 @@ def in_rust(room: Path, library: Path) -> Failing:
     made = next(path for path in found if path)
     program = Path(re.sub(r"-[0-9a-f]{16}$", "", made))
     return Failing("rust", program, lambda case, named: [made, "--ignored", "--exact", case])
+
+
+Make = Callable[[Path, Path], Failing]  # of a folder and the library
+MADE: dict[str, Make] = {
+    "c": in_c,
+    "cpp": in_cpp,
+    "gtest": in_gtest,
+    "catch2": in_catch2,
+    "rust": in_rust,
+}
+
+
+def passes(failing: Failing) -> str:
+    """Its case that passes."""
+    return "debugger.passes" if failing.name == "gtest" else "passes"
+
+
+def fails(failing: Failing) -> str:
+    """Its case that fails."""
+    return "debugger.fails" if failing.name == "gtest" else "fails"
+
+
+class Programs:
+    """The test programs, each compiled once it is needed. They find the program that is to be tested."""
+
+    def __init__(
+        self, room: Path, library: Path, program: Path, environment: Mapping[str, str], made: Mapping[str, Make] = MADE
+    ) -> None:
+        self._room, self._library, self._program, self._made = room, library, program, made
+        self._environment = {"TRACEHOST": str(program), **environment}
+        self._programs: dict[str, Failing] = {}
+
+    def __getitem__(self, language: str) -> Failing:
+        if language == "rust" and shutil.which("cargo") is None:
+            pytest.skip("not installed: cargo")
+        if language not in self._programs:
+            self._programs[language] = self._made[language](self._room, self._library)
+            self._programs[language].environment = self._environment
+        return self._programs[language]
+
+
+@pytest.fixture
+def failing(request: pytest.FixtureRequest, programs: Programs) -> Failing:
+    """The test program in a language, of the module's programs."""
+    return programs[request.param]
+
+
+def languages(*names: str) -> pytest.MarkDecorator:
+    return pytest.mark.parametrize("failing", names, indirect=True)
 
 
 def page_of(path: Path) -> dict[str, object]:

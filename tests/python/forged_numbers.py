@@ -64,7 +64,7 @@ FIELDS: dict[str, tuple[Kind, ...]] = {
     "thr_new": (),
     "thr_exit": (),
     "exec": (),
-    "foreign": (),
+    "foreign": (Kind(-(2**63), 2**63 - 1, 0), Kind(-(2**63), 2**63 - 1, 0)),
     "exit": (Kind(0, 255, 0, refused=True),),
     "user": (),
     "poke": (Kind(0, 2, 0, refused=True),),

@@ -58,7 +58,7 @@ _LAST: list[Edge | str] = [*REFUSED, *HELLOS, *filter(is_last, edges())]
 """The last of a script of ends."""
 ENDS_THAT_GO_ON = [edge for edge in edges() if not is_last(edge)]
 random.Random(65).shuffle(ENDS_THAT_GO_ON)
-OF_A_SCRIPT = 12
+OF_A_SCRIPT = 13
 """Ends that go on; some 50 scripts have all."""
 TEXTS = ("remark", "refused", "outside", "broken", "ended", "filter")
 ANSWERS = ("handled", "at 1", "done", "anew 0", "anew 1", "at 140737488347136")
@@ -284,7 +284,7 @@ def main() -> None:
         sys.exit("it isn't alone in a namespace of processes")
     with tempfile.TemporaryDirectory() as room:
         for number, (words, text) in enumerate(json.load(sys.stdin)):
-            command = [sys.executable, run, *LIMITS, *words, program]
+            command = [sys.executable, run, "--no-record", *LIMITS, *words, program]
             print(json.dumps(ended(command, number, text, Path(room))), flush=True)
 
 

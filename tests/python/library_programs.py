@@ -18,7 +18,7 @@ from checking import TOP, run
 SOURCES = TOP / "tests/in_process"
 RELEASE = TOP / "release" / f"{platform.machine()}-linux"
 OWN = [*HEADERS, "-I", str(SOURCES)]
-TESTS = ["agree", "by_hand", "codes", "copies", "handles", "lines", "refusals", "rooms", "sessions", "threads", "views"]
+TESTS = ["agree", "by_hand", "codes", "copies", "handles", "lines", "refusals", "replies", "rooms", "sessions", "threads", "views"]
 WRAPPED = {"refusals": "-Wl,--wrap=malloc,--wrap=realloc,--wrap=free", "unwind": "-Wl,--wrap=malloc,--wrap=realloc"}
 NEEDS_PRESENT = ("handles", "unwind")  # of a library that isn't older than its header
 

@@ -23,6 +23,8 @@ SCALE = int(os.environ.get("TRACEHOST_TEST_SCALE", "1"))
 JOBS = max(1, len(os.sched_getaffinity(0)) // int(os.environ.get("PYTEST_XDIST_WORKER_COUNT", "1")))
 """So many runs at a time give this worker of pytest its part of the processors."""
 RACES = sorted(path.stem for path in POSIX.glob("races/*.c"))
+BY_TWO_SWITCHES = ("newborn_lwp", "tracer_dies")
+"""One is enough for the others."""
 
 _STRICT = ("-g", "-Wall", "-Wextra", "-Werror")
 _LOOSE = ("-g", "-w", "-pthread")  # for the small programs, which do odd things on purpose
@@ -88,7 +90,8 @@ class Posix:
         made = self._folder / kind / path.stem
 
         def make() -> None:
-            done = self.execute("env", f"CC={compiler}", CC, *words, "-o", made, path)
+            # the first one builds the runtime, too
+            done = self.execute("env", f"CC={compiler}", CC, *words, "-o", made, path, seconds=1200)
             assert done.returncode == 0, done.stderr
 
         return once(made, make)
@@ -102,8 +105,8 @@ class Posix:
         return self.compiled(f"races/{name}.c", "-DRIGHT")
 
     def run(self, *words: object, seconds: float = 1200) -> Done:
-        """tracehost-run with these words."""
-        return self.execute(sys.executable, RUN, *words, seconds=seconds)
+        """tracehost-run with these words. It leaves no record unless it is asked for one."""
+        return self.execute(sys.executable, RUN, "--no-record", *words, seconds=seconds)
 
     @staticmethod
     def execute(*words: object, seconds: float = 300) -> Done:

@@ -71,8 +71,8 @@ __attribute__((constructor)) static void begin(void) {
   }
 }
 
-/* The program ends by this, so no destructor would run. */
-_Noreturn void _exit(int status) {
+/* At the end of a program that returns from main. */
+__attribute__((destructor)) static void report(void) {
   const char *name = getenv("SHIM_REPORT");
   int file = name ? open(name, O_WRONLY | O_CREAT | O_TRUNC, 0644) : -1;
   if (file >= 0) {
@@ -81,6 +81,11 @@ _Noreturn void _exit(int status) {
                           calls[WRITE].made, calls[THREAD].made, failures, before_threads);
     syscall(SYS_write, file, text, (size_t)length);
   }
+}
+
+/* A program with threads ends by this, so no destructor runs. */
+_Noreturn void _exit(int status) {
+  report();
   syscall(SYS_exit_group, status);
   __builtin_unreachable();
 }

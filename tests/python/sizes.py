@@ -207,7 +207,8 @@ REFUSED_SESSIONS: dict[str, Callable[[], Sized]] = {
     f"PT_GETLWPLIST around each power of two up to {LWPS - 1} LWPs": lambda: lwp_lists(around_powers(LWPS - 1), refuses=True),
     f"tables of 1 to {LWPS} LWPs": lambda: Sized(traced(LWPS - 1), least=1024),
     f"tables of 1 to {PROCESSES * len(USERS)} processes": lambda: Sized(in_tables(), least=16384),
-    f"tables of {PROCESSES * len(USERS)} to {LWPS * len(USERS)} LWPs": lambda: Sized(with_all_lwps(), least=1 << 20),
+    # each user has tables of their own
+    f"tables of {PROCESSES} to {LWPS} LWPs of {len(USERS)} users": lambda: Sized(with_all_lwps(), least=1 << 17),
 }
 # sessions in which nothing is refused
 WHOLE_SESSIONS: dict[str, Callable[[], Sized]] = {

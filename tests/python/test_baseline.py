@@ -1,4 +1,6 @@
-"""The benchmarks' yardstick, bench/baseline, prints what the program prints: row files, examples, cases and random scenarios."""
+"""The benchmarks' yardstick, bench/baseline, prints what the program prints: row files, examples, cases and random scenarios.
+Its library answers as the program's does, in lines and typed calls, also on copies of sessions.
+"""
 
 from __future__ import annotations
 
@@ -6,18 +8,24 @@ import itertools
 import json
 import os
 import random
+import re
 import shutil
 import subprocess
 from pathlib import Path
+from typing import Any
 
 import cases
 import instructions
 import pytest
 import scenarios
 
+from c_programs import WARNINGS, compiled
 from checking import TOP, Checks
-from fuzz import Fuzz, text_of
+from fuzz import Fuzz, lines_of, text_of
+from library_programs import OWN, SOURCES, Programs, programs
 from row_files import Located, scenario_files
+
+__all__ = ["programs"]  # a fixture
 
 SCALE = int(os.environ.get("TRACEHOST_TEST_SCALE", "1"))
 # a step with a value that is none of its key's, whose key comes again; and whether the text is JSON
@@ -40,6 +48,7 @@ REPLACED = {
 
 @pytest.fixture(scope="module")
 def baseline(tmp_path_factory: pytest.TempPathFactory) -> Path:
+    """The program. Its library is beside it."""
     cargo = shutil.which("cargo")
     if cargo is None:
         pytest.skip("needs cargo")
@@ -112,11 +121,16 @@ def test_a_wrong_value(program: Path, baseline: Path, tmp_path: Path, value: str
     assert agrees(program, baseline, file)
 
 
+def random_steps(program: Path, folder: Path, seed: int, checks: Checks) -> tuple[list[dict[str, Any]], int]:
+    """Steps of all users, and the setting."""
+    chance = random.Random(f"baseline {seed}")
+    kills = chance.randrange(2)
+    return Fuzz(program, folder, str(seed), checks).worlds(chance, kills)[0], kills
+
+
 def test_random_scenarios(program: Path, baseline: Path, checks: Checks, tmp_path: Path) -> None:
     for seed in range(6 * SCALE):
-        chance = random.Random(f"baseline {seed}")
-        kills = chance.randrange(2)
-        steps, _ = Fuzz(program, tmp_path, str(seed), checks).worlds(chance, kills)
+        steps, kills = random_steps(program, tmp_path, seed, checks)
         file = tmp_path / "scenario.json"
         file.write_bytes(text_of(steps, kills))
         checks.check(agrees(program, baseline, file), f"seed {seed}")
@@ -133,3 +147,34 @@ def test_a_full_device(baseline: Path) -> None:
     with open("/dev/full", "wb") as full:
         ended = subprocess.run([baseline, TOP / "examples/first.json"], stdout=full, stderr=subprocess.PIPE, text=True)
     assert (ended.returncode, ended.stderr) == (3, "baseline: cannot write\n")
+
+
+def with_library(baseline: Path, made: Path, name: str) -> Path:
+    """A program of tests/in_process with the yardstick's library, whose code isn't for programs that may lie anywhere."""
+    words = ["-std=c11", *WARNINGS, "-O2", "-no-pie", *OWN]
+    return compiled(made, *words, SOURCES / f"{name}.c", baseline.with_name("libbaseline.a"))
+
+
+def test_typed_calls_and_copies(programs: Programs, baseline: Path, checks: Checks, tmp_path: Path) -> None:
+    ours, theirs = programs("replies", "-O2"), with_library(baseline, tmp_path / "replies", "replies")
+    for seed in range(SCALE):
+        words = ["100000", str(seed)]
+        wanted = subprocess.run([ours, *words], check=True, capture_output=True).stdout
+        got = subprocess.run([theirs, *words], check=True, capture_output=True).stdout
+        kinds = {line.split()[1] for line in wanted.splitlines() if line.startswith(b"0: ")}
+        checks.check(len(kinds) == 15 and b"3: " in wanted and got == wanted, f"seed {seed}")
+
+
+@pytest.mark.parametrize("style", [[], ["--json"]], ids=["words", "objects"])
+def test_lines(program: Path, baseline: Path, checks: Checks, tmp_path: Path, style: list[str]) -> None:
+    """Of a line that is no step the yardstick only says so."""
+    ours = with_library(baseline, tmp_path / "lines", "lines")
+    for seed in range(2 * SCALE):
+        steps, kills = random_steps(program, tmp_path, seed, checks)
+        lines = lines_of(steps) + b'{"user":1001,"op":"spawn"\n\n[]\n{"op":"spawn", "user" : 1001 }\r\n'
+        wanted = subprocess.run(
+            [program, "--lines", *style, "--kill-on-debugger-exit", str(kills)], input=lines, check=True, capture_output=True
+        ).stdout
+        got = subprocess.run([ours, *style, str(kills)], input=lines, check=True, capture_output=True).stdout
+        refused = re.compile(rb'^(refused \w+|\{"refused":"\w+"\})$', re.MULTILINE)
+        checks.check(got.count(b"refused\n") == 3 and got == refused.sub(b"refused", wanted), f"seed {seed}")

@@ -84,11 +84,12 @@ def surroundings(room: Path, program: Path, monkeypatch: pytest.MonkeyPatch) -> 
     monkeypatch.setenv("TRACEHOST", str(program))
 
 
-def by_python(mistake: Mistake, transport: str) -> str:
+def by_python(mistake: Mistake) -> str:
     """The message of what is raised; "" for nothing."""
-    with tracehost.Host(transport=transport) as host:  # type: ignore[arg-type]  # a name of the table's test
+    with tracehost.Host() as host:
         user = host.user(1001)
-        names = {**vars(tracehost), "signal": signal, "pathlib": pathlib, "host": host, "user": user}
+        names = {name: getattr(tracehost, name) for name in tracehost.__all__}
+        names |= {"signal": signal, "pathlib": pathlib, "host": host, "user": user}
         names |= {"debugger": user.process(user.spawn()), "target": user.spawn()}
         try:
             exec(mistake.what, names)
@@ -99,11 +100,9 @@ def by_python(mistake: Mistake, transport: str) -> str:
 
 @told_by("python")
 def test_in_python(mistake: Mistake, library: Path, monkeypatch: pytest.MonkeyPatch) -> None:
-    """Over the library, and in the same words over a pipe."""
     monkeypatch.setenv("TRACEHOST_LIBRARY", str(library / "libtracehost.so"))
-    said = by_python(mistake, "library")
+    said = by_python(mistake)
     assert all(words in said for words in mistake.wanted), said
-    assert by_python(mistake, "pipe") == said
 
 
 @told_by("prompt")

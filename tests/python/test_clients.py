@@ -1,18 +1,16 @@
-"""The clients in C and C++, and that in Python over a pipe.
+"""The clients in C and C++.
 
-Their tests are compiled over a pipe and for sessions in the process, with the compiler's sanitizers, for its search for
-races, and for valgrind. clients/python/tests and clients/c/tests have the modules of pytest.
+Their tests are compiled with the compiler's sanitizers, for its search for races, and for valgrind. clients/python/tests and clients/c/tests have the modules of pytest.
 """
 
 from __future__ import annotations
 
-import sys
 from pathlib import Path
 
 import pytest
 from c_programs import HEADERS, STRICT, WARNINGS, compiled, output, reads, sanitized
 from checking import TOP, needs
-from client_programs import CLIENT, FAKE, FLAGS, IN_PROCESS, PROGRAMS, SOURCE, WAYS, Programs, programs
+from client_programs import CLIENT, FLAGS, PROGRAMS, SOURCE, WAYS, Programs, programs
 
 __all__ = ["programs"]  # a fixture
 CPP = ["11", "14", "17", "20"]
@@ -31,8 +29,7 @@ def test_it_compiles_without_a_warning(programs: Programs, way: str, name: str) 
 @pytest.mark.parametrize("source", sorted(path.stem for path in CLIENT.glob("*.c")))
 def test_each_source_in_c99(source: str, tmp_path: Path) -> None:
     """Without a warning of conversions, too."""
-    inside = IN_PROCESS if source in ("in_process", "rows") else []
-    compiled(tmp_path / "c99.o", "-std=c99", *STRICT, *inside, "-c", CLIENT / f"{source}.c")
+    compiled(tmp_path / "c99.o", "-std=c99", *STRICT, *HEADERS, "-c", CLIENT / f"{source}.c")
 
 
 def test_the_sanitizers_are_there() -> None:
@@ -44,22 +41,23 @@ def test_the_sanitizers_are_there() -> None:
 @pytest.mark.parametrize("way", WAYS)
 def test_the_client_in_c(programs: Programs, program: Path, tmp_path: Path, way: str, name: str) -> None:
     how = WAYS[way]
-    output(*how.before, programs[way, name], program, FAKE, tmp_path, *how.words[name])
+    words: dict[str, list[Path]] = {"test": [program, tmp_path], "threads": [tmp_path], "explain": []}
+    output(*how.before, programs[way, name], *words[name], *how.words[name])
 
 
-def test_both_ways_are_the_same(library: Path, program: Path, tmp_path: Path) -> None:
-    """By 45,000 calls with odd numbers among them, over a pipe and in the process."""
-    source, archive = CLIENT / "tests/both_ways.c", library / "libtracehost.a"
-    made = compiled(tmp_path / "both_ways", *FLAGS, *sanitized(), *IN_PROCESS, source, SOURCE, archive)
-    assert int(output(made, program, tmp_path, "0", "300")) > 10000
-    records = sorted(tmp_path.glob("0.*"))
+def test_the_program_has_the_lines_of_random_calls(library: Path, program: Path, tmp_path: Path) -> None:
+    """45,000 calls with odd numbers among them."""
+    source, archive = CLIENT / "tests/random_calls.c", library / "libtracehost.a"
+    made = compiled(tmp_path / "random_calls", *FLAGS, *sanitized(), source, SOURCE, archive)
+    assert int(output(made, tmp_path, "0", "300")) > 10000
+    records = sorted(tmp_path.glob("*.json"))
     assert len(records) == 300
     for record in records:
-        assert record.read_bytes() == (tmp_path / f"1{record.name[1:]}").read_bytes()
+        assert output(program, record) == record.with_suffix(".out").read_text()
 
 
 def test_a_library_that_runs_out_of_memory(tmp_path: Path) -> None:
-    made = compiled(tmp_path / "codes", *FLAGS, *sanitized(), *IN_PROCESS, CLIENT / "tests/in_process/codes.c", SOURCE)
+    made = compiled(tmp_path / "codes", *FLAGS, *sanitized(), CLIENT / "tests/in_process/codes.c", SOURCE)
     output(made)
 
 
@@ -97,13 +95,3 @@ def test_cpp(library: Path, tmp_path: Path, standard: str) -> None:
 def test_cpp_by_clang(standard: str) -> None:
     """It warns of signs too."""
     reads(f"-std=c++{standard}", *STRICT, *HEADERS, TOP / "clients/cpp/tests/session.cpp", compiler="clang++")
-
-
-# ---- Python
-
-
-@pytest.mark.parametrize("part", ["tracehost", "programs", "recording", "blocking", "debug"])
-def test_python_over_a_pipe(part: str, program: Path) -> None:
-    """The tests of clients/python/tests that are the same over a pipe and over the library."""
-    environment = {"TRACEHOST": str(program), "TRACEHOST_LIBRARY": ""}
-    output(sys.executable, "-W", "error", TOP / f"clients/python/tests/test_{part}.py", environment=environment)

@@ -14,27 +14,24 @@ from client_programs import CLIENT, FLAGS, SOURCE, Programs, programs
 
 __all__ = ["programs"]  # a fixture
 PAGE = (TOP / "docs/CLIENTS.md").read_text(encoding="utf-8")
-TRANSPORTS = ["pipe", "library"]
 STOPPED = "1001 stopped: word 4479\n"
 
 
-def environment(transport: str, program: Path, library: Path) -> dict[str, str]:
-    named = str(library / "libtracehost.so") if transport == "library" else ""
-    return {"TRACEHOST": str(program), "TRACEHOST_LIBRARY": named, "PYTHONPATH": str(TOP / "clients/python")}
+def environment(library: Path) -> dict[str, str]:
+    return {"TRACEHOST_LIBRARY": str(library / "libtracehost.so"), "PYTHONPATH": str(TOP / "clients/python")}
 
 
-@pytest.mark.parametrize("transport", TRANSPORTS)
 @pytest.mark.parametrize("example", ["debugger", "crash_collector"])
-def test_an_example_in_python(program: Path, library: Path, example: str, transport: str) -> None:
+def test_an_example_in_python(library: Path, example: str) -> None:
     script = TOP / f"clients/python/examples/{example}.py"
-    printed = output(sys.executable, script, environment=environment(transport, program, library))
+    printed = output(sys.executable, script, environment=environment(library))
     assert printed == (TOP / f"clients/{example}.out").read_text()
 
 
 @needs("cc")
 @pytest.mark.parametrize("example", ["debugger", "crash_collector"])
-def test_an_example_in_c(programs: Programs, program: Path, example: str) -> None:
-    assert output(programs["pipe", example], program) == (TOP / f"clients/{example}.out").read_text()
+def test_an_example_in_c(programs: Programs, example: str) -> None:
+    assert output(programs["plain", example]) == (TOP / f"clients/{example}.out").read_text()
 
 
 # ---- a test suite in C
@@ -43,7 +40,8 @@ def test_an_example_in_c(programs: Programs, program: Path, example: str) -> Non
 @needs("cc")
 def test_a_suite_that_passes(programs: Programs, program: Path, tmp_path: Path) -> None:
     """It has ten tests, and leaves nothing."""
-    printed = output(programs["pipe", "test_suite"], program, tmp_path, environment={"TRACEHOST_VIEW": "viewer/make"})
+    environment = {"TRACEHOST": str(program), "TRACEHOST_VIEW": "viewer/make"}
+    printed = output(programs["plain", "test_suite"], tmp_path, environment=environment)
     assert len(re.findall("^ok ", printed, re.MULTILINE)) == 10
     assert [*tmp_path.iterdir()] == []
 
@@ -51,8 +49,8 @@ def test_a_suite_that_passes(programs: Programs, program: Path, tmp_path: Path) 
 @needs("cc")
 def test_a_suite_with_a_fault(programs: Programs, program: Path, tmp_path: Path) -> None:
     """A fault of the debugger fails one test, which leaves its session to replay and to see."""
-    planted = {"TRACEHOST_VIEW": "viewer/make", "PLANT": "coalesce"}
-    printed = output(programs["pipe", "test_suite"], program, tmp_path, environment=planted, status=1)
+    planted = {"TRACEHOST": str(program), "TRACEHOST_VIEW": "viewer/make", "PLANT": "coalesce"}
+    printed = output(programs["plain", "test_suite"], tmp_path, environment=planted, status=1)
     assert re.findall("^FAILED.*$", printed, re.MULTILINE) == ["FAILED signal_twice"]
     (left,) = tmp_path.glob("*.signal_twice-*.json")
     assert run(program, left, "--expect", left.with_suffix(".out")).status == 0
@@ -62,18 +60,18 @@ def test_a_suite_with_a_fault(programs: Programs, program: Path, tmp_path: Path)
 # ---- the code of docs/CLIENTS.md
 
 
-@pytest.mark.parametrize("transport", TRANSPORTS)
-def test_the_page_in_python(program: Path, library: Path, tmp_path: Path, transport: str) -> None:
+def test_the_page_in_python(library: Path, tmp_path: Path) -> None:
     (tmp_path / "page.py").write_text(block("CLIENTS.md", "python"))
-    printed = output(sys.executable, tmp_path / "page.py", environment=environment(transport, program, library))
+    printed = output(sys.executable, tmp_path / "page.py", environment=environment(library))
     wanted = re.findall(r"^    (Waited\(.*|None .*|SIGSEGV)\n", PAGE, re.MULTILINE)
     assert wanted and printed.splitlines() == wanted
 
 
 @needs("cc")
-def test_the_page_in_c(program: Path, tmp_path: Path) -> None:
+def test_the_page_in_c(library: Path, tmp_path: Path) -> None:
     (tmp_path / "page.c").write_text(block("CLIENTS.md", "c"))
-    ran = run(compiled(tmp_path / "page", *FLAGS, *sanitized(), "-I", CLIENT, tmp_path / "page.c", SOURCE), program)
+    sources = [tmp_path / "page.c", SOURCE, library / "libtracehost.a"]
+    ran = run(compiled(tmp_path / "page", *FLAGS, *sanitized(), "-I", CLIENT, *sources))
     assert (ran.status, {*(ran.out + ran.err).splitlines()}) == (0, {"1001 stopped: SIGSTOP", "99: No such process"})
     assert len((ran.out + ran.err).splitlines()) == 2
 

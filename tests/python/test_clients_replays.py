@@ -6,7 +6,7 @@ import json
 import sys
 from collections.abc import Callable
 from pathlib import Path
-from typing import Any, Literal
+from typing import Any
 
 import pytest
 from c_programs import output
@@ -32,26 +32,20 @@ def test_each_scenario_has_its_words(words: Path) -> None:
 
 @needs("cc")
 @pytest.mark.parametrize("way", ["text", "calls"])
-@pytest.mark.parametrize("where", ["pipe", "in process"])
 @for_each_scenario(FILES)
-def test_c(programs: Programs, program: Path, words: Path, file: Path, where: str, way: str) -> None:
+def test_c(programs: Programs, words: Path, file: Path, way: str) -> None:
     steps = words / str(file.with_suffix(f".{way}")).replace("/", "-")
     setting = steps.with_suffix(".setting").read_text()
-    printed = output(programs[where, "replay"], program, setting, given=steps.read_bytes())
+    printed = output(programs["plain", "replay"], setting, given=steps.read_bytes())
     assert printed == (TOP / file).with_suffix(".out").read_text()
 
 
 @pytest.mark.parametrize("way", CALLERS)
-@pytest.mark.parametrize("transport", ["pipe", "library"])
 @for_each_scenario(FILES)
-def test_python(
-    program: Path, library: Path, monkeypatch: pytest.MonkeyPatch, file: Path, transport: Literal["pipe", "library"], way: str
-) -> None:
-    monkeypatch.setenv("TRACEHOST", str(program))
+def test_python(library: Path, monkeypatch: pytest.MonkeyPatch, file: Path, way: str) -> None:
     monkeypatch.setenv("TRACEHOST_LIBRARY", str(library / "libtracehost.so"))
     scenario = json.loads((TOP / file).read_text())
     setting = scenario.get("kill_on_debugger_exit")
-    with Host(transport=transport, kill_on_debugger_exit=None if setting is None else bool(setting)) as host:
+    with Host(kill_on_debugger_exit=None if setting is None else bool(setting)) as host:
         lines = replayed(host, scenario["steps"], CALLERS[way])
-        assert host.close() == 0
     assert lines == (TOP / file).with_suffix(".out").read_text().splitlines()

@@ -15,13 +15,14 @@ import pytest
 TOP = pathlib.Path(__file__).resolve().parents[2]
 sys.path.insert(0, str(TOP / "bench"))
 
-from in_process import bytes_of_copy, compile_copies, instructions_of_copies  # noqa: E402
+from in_process import Library, bytes_of_copy, compile_copies, instructions_of_copies  # noqa: E402
 
 MOST_BYTES_OF_TWO_ROWS = 8_192
 MOST_OF_COPY_AND_CLOSE = 8_400  # of three processes
 MOST_OF_OPEN_AND_CLOSE = 10_000
 MOST_OF_COPY_OVER = 3_000  # of three processes
 MOST_WITH_GAPS = 3_500  # of three that are left of more
+MOST_OF_COPY_USER = 2_200  # of three
 
 pytestmark = pytest.mark.skipif(not shutil.which("cc"), reason="needs cc")
 needs_valgrind = pytest.mark.skipif(not shutil.which("valgrind"), reason="needs valgrind")
@@ -29,7 +30,7 @@ needs_valgrind = pytest.mark.skipif(not shutil.which("valgrind"), reason="needs 
 
 @pytest.fixture(scope="module")
 def copies(library: pathlib.Path, tmp_path_factory: pytest.TempPathFactory) -> pathlib.Path:
-    return compile_copies(tmp_path_factory.mktemp("copies"), library / "libtracehost.a")
+    return compile_copies(tmp_path_factory.mktemp("copies"), Library(library / "libtracehost.a"))
 
 
 def test_a_session_of_two_rows_is_small(copies: pathlib.Path) -> None:
@@ -55,3 +56,10 @@ def test_a_copy_over_a_session_takes_its_memory(copies: pathlib.Path, rows: list
     three, many = (instructions_of_copies(copies, processes, "copy_over", *rows) for processes in (3, 100))
     assert 0 < three < many
     assert three <= most
+
+
+@needs_valgrind
+def test_a_copy_of_a_user_takes_nothing_for_others(copies: pathlib.Path) -> None:
+    few, beside = instructions_of_copies(copies, 3, "copy_user"), instructions_of_copies(copies, 3, "copy_user", "users")
+    assert 0 < few <= MOST_OF_COPY_USER
+    assert beside == few

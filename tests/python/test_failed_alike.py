@@ -12,34 +12,26 @@ from typing import Any
 
 import pytest
 from checking import TOP, needs, run
-from failing_programs import in_c, in_catch2, in_cpp, in_gtest, in_rust, page_of
+from failing_programs import IN_PYTHON, MADE, STEPS, Programs, fails, page_of
 from test_viewer_state import SHOWN
 from viewer_browser import Tab
 from viewer_pages import browser, needs_browser, viewed
 
 __all__ = ["viewed"]  # a fixture
 pytestmark = [needs("cc"), needs("c++"), needs("cargo")]
-STEPS = 8
-PYTHON = """
-import os
-from tracehost import Compute, Host, Raise, Request, Signal
-
+TEST_IN_PYTHON = (
+    IN_PYTHON
+    + """
 
 def test_fails(tracehost: Host) -> None:
-    user = tracehost.user(1001)
-    debugger, target = user.process(user.spawn()), user.spawn()
-    debugger.ptrace(Request.PT_ATTACH, target.pid)
-    debugger.wait4()
-    debugger.ptrace(Request.PT_STEP, target.pid)
-    user.turn(target.tid, Raise(Signal.SIGSEGV))
-    user.turn(target.tid, Compute())
-    assert os.WSTOPSIG(debugger.wait4().status) == Signal.SIGTRAP
+    debug(tracehost, Signal.SIGTRAP)
 """
+)
 
 
 def by_pytest(room: Path, program: Path) -> Path:
     """Where the failing test in Python has left its session."""
-    (room / "test_debugger.py").write_text(PYTHON)
+    (room / "test_debugger.py").write_text(TEST_IN_PYTHON)
     words = ["-q", "-p", "tracehost.pytest_plugin", "-p", "no:cacheprovider", f"--basetemp={room / 'base'}"]
     environment = {
         **os.environ,
@@ -62,16 +54,10 @@ def records(library: Path, program: Path, tmp_path_factory: pytest.TempPathFacto
     (room / "python").mkdir()
     (room / "left").mkdir()
     left = {"python": by_pytest(room / "python", program)}
-    made = {
-        "c": (in_c(room, library, program, "in process"), "fails"),
-        "c over a pipe": (in_c(room, library, program, "pipe"), "fails"),
-        "c++": (in_cpp(room, library), "fails"),
-        "googletest": (in_gtest(room, library), "debugger.fails"),
-        "catch2": (in_catch2(room, library), "fails"),
-        "rust": (in_rust(room, library), "fails"),
-    }
-    for name, (failing, case) in made.items():
-        failing.environment = {"TRACEHOST": str(program), "TRACEHOST_VIEW": str(TOP / "viewer/make")}
+    programs = Programs(room, library, program, {"TRACEHOST_VIEW": str(TOP / "viewer/make")})
+    for name in MADE:
+        failing = programs[name]
+        case = fails(failing)
         ran = failing(case, room / "left" / name)
         assert ran.status not in (0, 2), (name, ran)
         left[name] = room / "left" / name / f"{failing.stem(case)}.json"

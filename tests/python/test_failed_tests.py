@@ -13,58 +13,39 @@ import signal
 import subprocess
 import termios
 import time
-from collections.abc import Callable
 from concurrent.futures import ThreadPoolExecutor
 from pathlib import Path
 
 import pytest
 from c_programs import sanitized
 from checking import TOP, needs, run
-from failing_programs import STORY, WITH_COMMANDS, Failing, in_c, in_catch2, in_cpp, in_gtest, in_rust, page_of, stem_of
+from failing_programs import (
+    MADE,
+    STEPS,
+    STORY,
+    WITH_COMMANDS,
+    Failing,
+    Programs,
+    failing,
+    fails,
+    in_c,
+    in_cpp,
+    languages,
+    page_of,
+    passes,
+    stem_of,
+)
 
+__all__ = ["failing"]  # a fixture
 pytestmark = [needs("cc"), needs("c++")]
 VIEWER = TOP / "viewer/make"
-MADE: dict[str, Callable[[Path, Path, Path], Failing]] = {
-    "c": lambda room, library, program: in_c(room, library, program, "in process"),
-    "c over a pipe": lambda room, library, program: in_c(room, library, program, "pipe"),
-    "cpp": lambda room, library, program: in_cpp(room, library),
-    "gtest": lambda room, library, program: in_gtest(room, library),
-    "catch2": lambda room, library, program: in_catch2(room, library),
-    "rust": lambda room, library, program: in_rust(room, library),
-}
-# a passing and a failing test of each
-PASSES = {"gtest": "debugger.passes"}
-FAILS = {"gtest": "debugger.fails"}
-C = ["c", "c over a pipe"]
-STEPS = 8
 TICK = 0.05  # seconds, by which a file's time may be behind
 
 
 @pytest.fixture(scope="module")
-def programs(library: Path, program: Path, tmp_path_factory: pytest.TempPathFactory) -> dict[str, Failing]:
-    return {}
-
-
-@pytest.fixture
-def failing(
-    request: pytest.FixtureRequest,
-    programs: dict[str, Failing],
-    library: Path,
-    program: Path,
-    tmp_path_factory: pytest.TempPathFactory,
-) -> Failing:
-    """The test program in a language, compiled once. It finds the program and the viewer that are to be tested."""
-    language = request.param
-    if language == "rust" and run("sh", "-c", "command -v cargo").status:
-        pytest.skip("not installed: cargo")
-    if language not in programs:
-        programs[language] = MADE[language](tmp_path_factory.mktemp("failing"), library, program)
-        programs[language].environment = {"TRACEHOST": str(program), "TRACEHOST_VIEW": str(VIEWER)}
-    return programs[language]
-
-
-def languages(*names: str) -> pytest.MarkDecorator:
-    return pytest.mark.parametrize("failing", names, indirect=True)
+def programs(library: Path, program: Path, tmp_path_factory: pytest.TempPathFactory) -> Programs:
+    """They find the viewer that is to be tested."""
+    return Programs(tmp_path_factory.mktemp("failing"), library, program, {"TRACEHOST_VIEW": str(VIEWER)})
 
 
 def key(failing: Failing) -> str:
@@ -92,7 +73,7 @@ def check_page(folder: Path, stem: str, test: str, said: str, step: int | None =
 
 @languages(*MADE)
 def test_one_that_passes_leaves_nothing(failing: Failing, tmp_path: Path) -> None:
-    ran = failing(PASSES.get(key(failing), "passes"), tmp_path / "left")
+    ran = failing(passes(failing), tmp_path / "left")
     assert (ran.status, ran.left) == (0, []), ran.said
     assert "tracehost:" not in ran.said
 
@@ -100,7 +81,7 @@ def test_one_that_passes_leaves_nothing(failing: Failing, tmp_path: Path) -> Non
 @languages(*MADE)
 def test_one_that_fails(failing: Failing, tmp_path: Path, program: Path) -> None:
     """In a folder that isn't there yet. Its files are named, the story is told, and the assertion is on the page."""
-    folder, case = tmp_path / "a b" / "left", FAILS.get(key(failing), "fails")
+    folder, case = tmp_path / "a b" / "left", fails(failing)
     ran = failing(case, folder, environment=WITH_COMMANDS)
     stem = failing.stem(case)
     assert ran.status != 0 and ran.left == files(stem), ran.said
@@ -117,20 +98,20 @@ def test_one_that_fails(failing: Failing, tmp_path: Path, program: Path) -> None
 @languages(*MADE)
 def test_without_a_folder(failing: Failing, tmp_path: Path, program: Path) -> None:
     """Each test has its own, below the one for temporary files."""
-    case = FAILS.get(key(failing), "fails")
+    case = fails(failing)
     ran = failing(case, None, environment={"TMPDIR": str(tmp_path)})
     (folder,) = tmp_path.iterdir()
     assert ran.status != 0 and folder.name.startswith(f"tracehost-{case}-")
     assert sorted(path.name for path in folder.iterdir()) == files(failing.stem(case))
     assert folder.stat().st_mode & 0o77 == 0
     check_record(folder, failing.stem(case), program)
-    assert failing(PASSES.get(key(failing), "passes"), None, environment={"TMPDIR": str(tmp_path)}).status == 0
+    assert failing(passes(failing), None, environment={"TMPDIR": str(tmp_path)}).status == 0
     assert [*tmp_path.iterdir()] == [folder]
 
 
 @languages("c", "cpp", "rust")
 def test_a_later_run_takes_the_place_of_an_earlier_one(failing: Failing, tmp_path: Path, program: Path) -> None:
-    case = FAILS.get(key(failing), "fails")
+    case = fails(failing)
     stem = failing.stem(case)
     for file in [*files(stem, f"{stem}-2"), f"{stem}.json.1", f"{stem}.out.1"]:
         (tmp_path / file).write_text("an earlier run\n" * 1000)
@@ -145,7 +126,7 @@ def test_a_later_run_takes_the_place_of_an_earlier_one(failing: Failing, tmp_pat
 @languages(*MADE)
 def test_one_that_passes_removes_what_it_has_left(failing: Failing, tmp_path: Path) -> None:
     """No other test's, no other program's of this name, and none that somebody has."""
-    test = PASSES.get(key(failing), "passes")
+    test = passes(failing)
     stem, others = failing.stem(test), ["mine.txt", f"{failing.stem('passes_too')}.json", f"{failing.program.name}.{test}.json"]
     others += files(stem_of(Path("/another") / failing.program.name, test))
     for file in [*others, *files(stem, f"{stem}-2"), f"{stem}.json.1", f"{stem}.out.1", f"{stem}.json.2"]:
@@ -206,7 +187,7 @@ def test_odd_names(failing: Failing, tmp_path: Path, program: Path) -> None:
         assert stem == failing.stem(name) and stem.startswith(f"{failing.program.name}.{wanted}")
         assert len(stem) <= 94 and ran.left == files(stem)
         check_record(folder, stem, program)
-        check_page(folder, stem, name[:255] if failing.name.startswith("c ") else name, "")
+        check_page(folder, stem, name[:255] if failing.name == "c" else name, "")
 
 
 @languages("c", "cpp")
@@ -220,10 +201,10 @@ def test_a_name_that_is_no_text(failing: Failing, tmp_path: Path) -> None:
 @pytest.mark.parametrize("room", [1, 400])
 def test_a_full_disk(failing: Failing, tmp_path: Path, program: Path, room: int) -> None:
     """It is told, and changes no outcome: what fails has the record of the steps before."""
-    passed = failing(PASSES.get(key(failing), "passes"), tmp_path, room=room)
+    passed = failing(passes(failing), tmp_path, room=room)
     assert (passed.status, passed.left) == (0, []), passed.said
     assert "not recorded" in passed.said
-    case = FAILS.get(key(failing), "fails")
+    case = fails(failing)
     failed = failing(case, tmp_path, room=room)
     assert failed.status not in (0, -25) and "not recorded" in failed.said
     stem = failing.stem(case)
@@ -238,9 +219,9 @@ def test_a_full_disk(failing: Failing, tmp_path: Path, program: Path, room: int)
 def test_a_folder_that_cannot_be_made(failing: Failing, tmp_path: Path) -> None:
     (tmp_path / "file").write_text("")
     for folder in (tmp_path / "file" / "left", tmp_path / "file"):
-        passed = failing(PASSES.get(key(failing), "passes"), folder)
+        passed = failing(passes(failing), folder)
         assert passed.status == 0 and "not recorded" in passed.said, passed.said
-        failed = failing(FAILS.get(key(failing), "fails"), folder)
+        failed = failing(fails(failing), folder)
         assert failed.status != 0 and "not recorded" in failed.said
     assert (tmp_path / "file").read_text() == ""
 
@@ -248,7 +229,7 @@ def test_a_folder_that_cannot_be_made(failing: Failing, tmp_path: Path) -> None:
 @languages("c", "cpp", "rust")
 def test_a_link_in_place_of_the_scenario(failing: Failing, tmp_path: Path, program: Path) -> None:
     """The record takes the link's name, and nothing is written to what it leads to."""
-    case = FAILS.get(key(failing), "fails")
+    case = fails(failing)
     (tmp_path / "precious").write_text("precious")
     (tmp_path / f"{failing.stem(case)}.json").symlink_to(tmp_path / "precious")
     failed = failing(case, tmp_path)
@@ -261,7 +242,7 @@ def test_a_link_in_place_of_the_scenario(failing: Failing, tmp_path: Path, progr
 @languages("c", "cpp", "rust")
 def test_a_folder_in_place_of_the_scenario(failing: Failing, tmp_path: Path) -> None:
     """The record keeps the name that it has while the test runs, and that is told."""
-    case = FAILS.get(key(failing), "fails")
+    case = fails(failing)
     (tmp_path / f"{failing.stem(case)}.json").mkdir()
     failed = failing(case, tmp_path)
     folder, scenario, lines = [name for name in failed.left if ".html." not in name]  # in Rust the page is made by then
@@ -273,7 +254,7 @@ def test_a_folder_in_place_of_the_scenario(failing: Failing, tmp_path: Path) -> 
 @languages("c", "cpp", "rust")
 @pytest.mark.parametrize("missing", ["TRACEHOST", "TRACEHOST_VIEW"])
 def test_without_the_program_or_the_viewer(failing: Failing, tmp_path: Path, program: Path, missing: str) -> None:
-    case = FAILS.get(key(failing), "fails")
+    case = fails(failing)
     ran = failing(case, tmp_path, environment={missing: "/nowhere/program", "TRACEHOST_DEBUG": ""})
     assert ran.status != 0 and ran.left == files(failing.stem(case))[1:]
     assert "there is no /nowhere/program" in ran.said and "page:     none" in ran.said
@@ -283,7 +264,7 @@ def test_without_the_program_or_the_viewer(failing: Failing, tmp_path: Path, pro
 
 @languages("c", "cpp", "rust")
 def test_a_viewer_that_fails(failing: Failing, tmp_path: Path, program: Path) -> None:
-    ran = failing(FAILS.get(key(failing), "fails"), tmp_path, environment={"TRACEHOST_VIEW": "/bin/false"})
+    ran = failing(fails(failing), tmp_path, environment={"TRACEHOST_VIEW": "/bin/false"})
     assert ran.status != 0 and len(ran.left) == 2 and "page:     none" in ran.said
 
 
@@ -293,7 +274,7 @@ def test_a_viewer_that_hangs(language: str, library: Path, program: Path, tmp_pa
     if language == "cpp":
         failing = in_cpp(tmp_path, library, "-DTRACEHOST_SECONDS_FOR_A_PAGE=1")
     else:
-        failing = in_c(tmp_path, library, program, "in process", "-DTH_SECONDS_FOR_A_PAGE=1")
+        failing = in_c(tmp_path, library, "-DTH_SECONDS_FOR_A_PAGE=1")
     viewer = tmp_path / "viewer"
     viewer.write_text(f"#!/bin/sh\necho $$ > {tmp_path}/number\nexec sleep 1000\n")
     viewer.chmod(0o700)
@@ -315,7 +296,7 @@ def test_a_forked_child_leaves_nothing(failing: Failing, tmp_path: Path) -> None
     assert "page:" not in ran.said
 
 
-@languages("c", "c over a pipe", "cpp")
+@languages("c", "cpp")
 def test_files_that_a_test_closes(failing: Failing, tmp_path: Path) -> None:
     """Those that it opens then get their numbers, and nothing is written into them; it passes, and the loss is told."""
     ran = failing("closes_files", tmp_path)
@@ -334,7 +315,7 @@ def test_a_test_without_a_step(failing: Failing, tmp_path: Path, program: Path) 
 # ---- C
 
 
-@languages(*C, "cpp")
+@languages("c", "cpp")
 def test_abort_by_assert(failing: Failing, tmp_path: Path, program: Path) -> None:
     ran = failing("aborts", tmp_path)
     stem = failing.stem("aborts")
@@ -343,7 +324,7 @@ def test_abort_by_assert(failing: Failing, tmp_path: Path, program: Path) -> Non
     check_page(tmp_path, stem, "aborts", "SIGABRT")
 
 
-@languages(*C)
+@languages("c")
 @pytest.mark.parametrize("case", ["aborts", "aborts_elsewhere"])
 def test_abort(failing: Failing, tmp_path: Path, program: Path, case: str) -> None:
     """By assert(3), in any thread, while a test is open."""
@@ -355,7 +336,7 @@ def test_abort(failing: Failing, tmp_path: Path, program: Path, case: str) -> No
     check_page(tmp_path, stem, case, "SIGABRT")
 
 
-@languages(*C)
+@languages("c")
 def test_a_program_that_handles_abort(failing: Failing, tmp_path: Path, program: Path) -> None:
     """It may go on, so the files keep the names of a test that runs. Its handler is called, once they are told."""
     ran = failing("handles_abort", tmp_path)
@@ -372,14 +353,14 @@ def test_a_child_that_aborts(failing: Failing, tmp_path: Path) -> None:
     assert (ran.status, ran.left) == (0, []), ran.said
 
 
-@languages(*C)
+@languages("c")
 def test_a_session_that_is_closed_in_a_test(failing: Failing, tmp_path: Path) -> None:
     ran = failing("closes", tmp_path)
     assert ran.left == files(failing.stem("closes"))
     check_page(tmp_path, failing.stem("closes"), "closes", "th_close came before th_test_end")
 
 
-@languages(*C)
+@languages("c")
 def test_what_begins_too_late(failing: Failing, tmp_path: Path) -> None:
     ran = failing("misuse", tmp_path)
     assert (ran.status, ran.left) == (0, []), ran.said
@@ -391,7 +372,7 @@ WITHOUT_ASAN = {"ASAN_OPTIONS": "handle_segv=0:handle_sigbus=0:handle_sigfpe=0:a
 CASE = "is_signalled"
 
 
-@languages(*C, "cpp")
+@languages("c", "cpp")
 @pytest.mark.parametrize("how", [*map(str, [signal.SIGINT, signal.SIGTERM, signal.SIGALRM, signal.SIGBUS]), "fault"])
 def test_a_signal_ends_the_program(failing: Failing, tmp_path: Path, program: Path, how: str) -> None:
     """The files have their last names, they are told, and the signal ends the program."""
@@ -407,7 +388,7 @@ def test_a_signal_ends_the_program(failing: Failing, tmp_path: Path, program: Pa
         assert ran.said.count(f"tracehost: {label}{tmp_path / file}\n") == 1
 
 
-@languages(*C, "cpp")
+@languages("c", "cpp")
 def test_a_handler_that_was_there_before(failing: Failing, tmp_path: Path) -> None:
     """That of the address sanitizer is called with what the fault brings, once the files are told."""
     if not sanitized():
@@ -420,7 +401,7 @@ def test_a_handler_that_was_there_before(failing: Failing, tmp_path: Path) -> No
     assert f"tracehost: scenario: {tmp_path / scenario}\ntracehost: lines:    {tmp_path / lines}\n" in told
 
 
-@languages(*C, "cpp")
+@languages("c", "cpp")
 def test_control_c_of_a_terminal(failing: Failing, tmp_path: Path, program: Path) -> None:
     """It comes from the kernel."""
     ours, theirs = pty.openpty()
@@ -440,7 +421,7 @@ def test_control_c_of_a_terminal(failing: Failing, tmp_path: Path, program: Path
     check_record(tmp_path, stem, program)
 
 
-@languages(*C, "cpp")
+@languages("c", "cpp")
 def test_a_program_that_is_killed(failing: Failing, tmp_path: Path, program: Path) -> None:
     """The test's next run tells of its record, and takes it away."""
     ran = failing(CASE, tmp_path, environment={"TEST_SIGNAL": str(int(signal.SIGKILL))})

@@ -21,15 +21,16 @@ from checking import TOP, run
 TABLES = ("format/scenario.toml", "format/refusals.toml", "format/notices.toml", "format/edges.toml")
 COPIED = (
     "format tools crates schema include reference clients/c clients/posix/broker clients/posix/runtime clients/posix/tracehost_posix"
-    " clients/python clients/rust/src viewer docs/FORMAT.md docs/VIEWER.md man"
+    " clients/python clients/rust/src clients/go viewer docs/FORMAT.md docs/VIEWER.md man"
 )
 CLIENTS = (
     "clients/c/names.c clients/c/tracehost_client.h clients/python/tracehost/names.py clients/rust/src/steps.rs include/tracehost.h"
-    " clients/posix/broker/model.c clients/posix/runtime/trace.c"
+    " clients/posix/broker/model.c clients/posix/runtime/trace.c clients/go/tables.go"
 )
+GO = "clients/go/tables.go"
 REFERENCE = "reference/names.py"
 NAMES = "clients/python/tracehost/names.py"
-LIMITS = f"{REFERENCE} {NAMES} include/tracehost.h"
+LIMITS = f"{REFERENCE} {NAMES} include/tracehost.h {GO}"
 NOT_IN_C = (
     "clients/python/tracehost/conditions.py clients/rust/src/refusals.rs include/tracehost_explain.hpp viewer/src/conditions.mjs"
 )
@@ -40,9 +41,7 @@ EXPLAINED = "crates/*/src/tables.rt"
 KEYS = "crates/*/src/members.rt crates/*/specs/Streams.antt"
 KEY_SETS = "src/keys.rt specs/Keys.antt proofs/KeyLemmas.antt proofs/KeySets.antt"
 VIEWER = "viewer/src/read.mjs viewer/reading.py"
-DECODERS = (
-    "clients/c/steps.c clients/python/tracehost/replies.py clients/rust/src/replies.rs reference/printing.py viewer/src/words.mjs"
-)
+DECODERS = "clients/rust/src/replies.rs reference/printing.py viewer/src/words.mjs"
 
 
 class Change(NamedTuple):
@@ -66,8 +65,8 @@ CHANGES = [
         "another reply",
         '^answers = "`number`"',
         'answers = "`info`"',
-        "clients/c/calls.c clients/python/tracehost/host.py clients/python/tracehost/replies.py clients/posix/runtime/trace.c"
-        " clients/rust/src/steps.rs docs/FORMAT.md",
+        "clients/c/calls.c clients/python/tracehost/host.py clients/posix/runtime/trace.c"
+        " clients/rust/src/steps.rs docs/FORMAT.md clients/go/tables.go",
     ),
     Change(
         "another name of a request",
@@ -93,15 +92,17 @@ CHANGES = [
         '"thr_exit"',
         '"thr_end"',
         f"{EXPLAINED} {SCHEMA} clients/c/names.c clients/python/tracehost/names.py {MANUAL} docs/FORMAT.md {REFERENCE}"
-        " clients/posix/broker/model.c clients/python/tracehost/typed.py include/tracehost.h viewer/src/conditions.mjs",
+        " clients/posix/broker/model.c clients/python/tracehost/typed.py include/tracehost.h viewer/src/conditions.mjs clients/go/tables.go",
     ),
     Change(
         "another range",
         "^user = .*",
         "user = [1001, 1065]",
-        f"{EXPLAINED} {SCHEMA} {REFERENCE} {NAMES} include/tracehost.h viewer/src/names.mjs viewer/reading.py",
+        f"{EXPLAINED} {SCHEMA} {REFERENCE} {NAMES} include/tracehost.h viewer/src/names.mjs viewer/reading.py {GO}",
     ),
-    Change("another limit", "^lwps = 1000", "lwps = 999", f"{REFERENCE} {NAMES} {REFUSALS} clients/c/rows.c include/tracehost.h"),
+    Change(
+        "another limit", "^lwps = 1000", "lwps = 999", f"{REFERENCE} {NAMES} {REFUSALS} clients/c/rows.c include/tracehost.h {GO}"
+    ),
     Change("the rules of a handler", "^rules = 16", "rules = 17", f"{LIMITS} clients/rust/src/sys.rs {SCHEMA}"),
     Change(
         "the first LWP",
@@ -114,27 +115,27 @@ CHANGES = [
         '"SIGUSR1"',
         '"SIGUSR3"',
         f"{NAMES} {REFERENCE} clients/c/names.c clients/c/tracehost_client.h clients/posix/broker/notices.c"
-        " clients/rust/src/numbers.rs include/tracehost_explain.hpp viewer/src/names.mjs viewer/reading.py",
+        " clients/rust/src/numbers.rs include/tracehost_explain.hpp viewer/src/names.mjs viewer/reading.py clients/go/tables.go",
     ),
     Change(
         "the number of an error",
         "^number = 35",
         "number = 11",
         f"{REFERENCE} clients/c/tracehost_client.h clients/python/tracehost/replies.py clients/rust/src/numbers.rs"
-        " include/tracehost_test.hpp",
+        " include/tracehost_test.hpp clients/go/tables.go",
     ),
     Change(
         "FreeBSD's bit of a flag",
         "^number = 0x0800",
         "number = 0x1000",
-        f"{NAMES} clients/c/tracehost_client.h clients/posix/broker/answers.c clients/rust/src/flags.rs",
+        f"{NAMES} clients/c/tracehost_client.h clients/posix/broker/answers.c clients/rust/src/flags.rs {GO}",
     ),
     Change(
         "a request that resumes",
         r'(?<=^name = "PT_KILL"\nvariant = "Kill"\nnumber = 8\nkeys = ..target., ..data...\ndata = ")ignored',
         "signal",
         f"{SCHEMA} {REFERENCE} {REFUSALS} {MANUAL} clients/rust/src/steps.rs clients/posix/broker/trace_calls.c"
-        " viewer/src/names.mjs viewer/reading.py",
+        " viewer/src/names.mjs viewer/reading.py clients/go/tables.go",
     ),
     Change(
         "a key that may be missing",
@@ -142,30 +143,32 @@ CHANGES = [
         '"caller", "which", "[signal]"',
         f"{EXPLAINED} {SCHEMA} {VIEWER}",
     ),
-    Change("another help", '^help = "Counts the LWPs', 'help = "Counts LWPs', f"{MANUAL} clients/rust/src/steps.rs"),
+    Change("another help", '^help = "Counts the LWPs', 'help = "Counts LWPs', f"{MANUAL} clients/rust/src/steps.rs {GO}"),
     Change("other words of a refusal", "^words = .*traced already", 'words = "{target} is traced', REFUSALS),
     Change("another condition", "^holds = .not is_live.caller..", 'holds = "is_live(caller)"', f"clients/c/rows.c {NOT_IN_C}"),
     Change(
         "the words of a reply",
         "^words = .{pid} {lwp}.",
         'words = "{lwp} {pid}"',
-        f"{DECODERS} reference/steps.py clients/python/tracehost/typed.py include/tracehost.h viewer/src/read.mjs viewer/reading.py",
+        f"{DECODERS} reference/steps.py clients/python/tracehost/replies.py clients/python/tracehost/typed.py include/tracehost.h"
+        " viewer/src/read.mjs viewer/reading.py clients/go/tables.go",
     ),
     Change("a key of a word", "^words = .{lwp} {signal} flags=", 'words = "{lwp} {signal} pl_flags=', DECODERS),
     Change(
         "one more field of a reply",
         '^name = "stop_pid"\n((?:.*\n)*?)words = .{lwp} {event} ',
         'name = "depth"\nkind = "word"\nabout = "a depth"\nfreebsd = "pl_depth"\n\n[[field]]\nname = "stop_pid"\n\\1words = "{lwp} {event} {depth} ',
-        f"{DECODERS} reference/steps.py clients/python/tracehost/library.py clients/python/tracehost/typed.py clients/c/calls.c"
-        " clients/c/in_process.c clients/c/internal.h clients/c/tracehost_client.h clients/rust/src/sys.rs include/tracehost.h"
-        " viewer/src/read.mjs viewer/reading.py",
+        f"{DECODERS} reference/steps.py clients/python/tracehost/library.py clients/python/tracehost/replies.py"
+        " clients/python/tracehost/typed.py clients/c/calls.c"
+        " clients/c/internal.h clients/c/library.c clients/c/tracehost_client.h clients/rust/src/sys.rs include/tracehost.h"
+        " viewer/src/read.mjs viewer/reading.py clients/go/tables.go",
     ),
     Change(
         "a member of a row",
         '^name = "stepping"',
         'name = "single"',
         "clients/python/tracehost/library.py clients/python/tracehost/rows.py clients/rust/src/sys.rs include/tracehost.h"
-        " viewer/src/forms.mjs viewer/reading.py",
+        " viewer/src/forms.mjs viewer/reading.py clients/go/tables.go",
     ),
     Change(
         "another rule",

@@ -172,22 +172,5 @@ def test_typed_calls_from_python(program: Path, seed: int) -> None:
     made = scenario(random.Random(seed))
     steps = [step for step in made["steps"] if is_step(step)]
     session = Session.of_steps(steps, made["kill_on_debugger_exit"])
-    with Host(transport="library", kill_on_debugger_exit=session.kill) as host:
+    with Host(kill_on_debugger_exit=session.kill) as host:
         assert replayed(host, steps, call) == b"".join(of_program(program, session)).decode().splitlines()
-
-
-@pytest.mark.usefixtures("named")
-@pytest.mark.parametrize("seed", range(SCENARIOS + TYPED, SCENARIOS + 2 * TYPED))
-def test_views_over_a_pipe(program: Path, seed: int) -> None:
-    """A user's rows over a pipe are those over the library after the same steps, wherever they are asked for."""
-    made = scenario(random.Random(seed))
-    kill = bool(made["kill_on_debugger_exit"])
-    library = Host(transport="library", kill_on_debugger_exit=kill)
-    pipe = Host(str(program), transport="pipe", kill_on_debugger_exit=kill)
-    with library, pipe:
-        for number, step in enumerate(made["steps"]):
-            text = json.dumps(step)
-            assert library.line(text) == pipe.line(text)
-            if number % 25 == seed % 25:
-                for uid in (1001, 1002, 1064):
-                    assert library.user(uid).view() == pipe.user(uid).view()

@@ -130,7 +130,7 @@ def test_c_with_the_library(installed: Installed) -> None:
 
 @needs("cc", "pkg-config")
 def test_c_with_the_client(installed: Installed) -> None:
-    command = "cc prog.c $(pkg-config --cflags tracehost-client) $(pkg-config --variable=source tracehost-client)"
+    command = "cc prog.c $(pkg-config --variable=source tracehost-client) $(pkg-config --cflags --libs tracehost-client)"
     assert f"    {command}\n" in INSTALL
     installed.write("prog.c", block("CLIENTS.md", "c"))
     if " " in installed.prefix:  # the variable has no quotes
@@ -237,8 +237,10 @@ def test_python_without_a_network(clone: pathlib.Path, tmp_path: pathlib.Path) -
     made, installs = (line.strip() for line in commands.splitlines())
     run(["unshare", "-rn", "sh", "-c", f"{made} && {installs} ./clients/posix"], clone)
     bin = clone / "env/bin"
-    said = run([bin / "python", "-c", "import tracehost; print(tracehost.Host().transport, tracehost.__version__)"], tmp_path)
-    assert said == f"library {run([clone / 'tools/version'], tmp_path)}"
+    said = run(
+        [bin / "python", "-c", "import tracehost; print(tracehost.Host().user(1001).spawn().pid, tracehost.__version__)"], tmp_path
+    )
+    assert said == f"1000 {run([clone / 'tools/version'], tmp_path)}"
     assert run([bin / "tracehost-run", "--version"], tmp_path).startswith("tracehost-run ")
     shutil.rmtree(clone / "env")
 
@@ -339,8 +341,7 @@ executable('client', 'client.c', dependencies: dependency('tracehost-client', al
     (tmp_path / "client.c").write_text(block("CLIENTS.md", "c"))
     shell("meson setup out && ninja -C out", tmp_path)
     assert run(["out/inside"], tmp_path) == "1001 stopped: word 4479\n"
-    program = run([clone / "tools/program"], tmp_path).strip()
-    assert "1001 stopped: SIGSTOP\n" in run(["out/client", program], tmp_path)
+    assert "1001 stopped: SIGSTOP\n" in run(["out/client"], tmp_path)
 
 
 @needs("meson", "ninja", "cc", "pkg-config")

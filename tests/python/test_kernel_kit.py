@@ -166,7 +166,11 @@ def test_all_of_it_here(room: Room) -> None:
 
 def test_cases_on_the_model(room: Room, program: Path, library: Path) -> None:
     room.few()
-    variables = {"TRACEHOST": str(program), "TRACEHOST_LIB_DIR": str(library)}
+    variables = {
+        "TRACEHOST": str(program),
+        "TRACEHOST_LIB_DIR": str(library),
+        "TRACEHOST_ARTIFACTS": str(room.path.parent / "left"),
+    }
     done = room.run("make", f"CC={CC}", f"RUN={RUN}", "PARTS=cases", **variables)
     assert done.returncode == 0, done.stdout
     rows = {row["name"]: row for row in room.rows() if row["what"] == "case"}

@@ -232,7 +232,7 @@ def test_equal_ones_come_once() -> None:
 def reasons_of(steps: Sequence[Mapping[str, Any]], setting: bool) -> list[list[Any]]:
     """Each step that is refused or held, and why."""
     whys: list[list[Any]] = []
-    with Host(transport="library", kill_on_debugger_exit=setting) as host:
+    with Host(kill_on_debugger_exit=setting) as host:
         for number, step in enumerate(steps, 1):
             try:
                 host.step(step)

@@ -25,7 +25,7 @@ VERSION = subprocess.run([TOP / "tools/version"], stdout=subprocess.PIPE, text=T
 OFFLINE = "--no-build-isolation --no-index"
 FIRST = (TOP / "examples/first.out").read_text()
 PAGES = ["README.md", "clients/python/README.md"]
-TRANSPORT = "import tracehost; print(tracehost.Host().transport)"
+SPAWN = "import tracehost; print(tracehost.Host().user(1001).spawn().pid)"
 BUILDS = """import ensurepip, venv, importlib.util as u, setuptools
 assert u.find_spec("wheel") or u.find_spec("setuptools.command.bdist_wheel")
 assert int(setuptools.__version__.split(".")[0]) >= 61"""
@@ -129,7 +129,8 @@ def test_pytest_finds_the_plugin(installed: Environment) -> None:
 def test_a_session_is_in_the_process(installed: Environment) -> None:
     has_library = installed.has_library()
     assert (installed.package / "lib/libtracehost.so").exists() == has_library
-    assert installed.python("-c", TRANSPORT) == ("library\n" if has_library else "pipe\n")
+    said = installed.python("-c", SPAWN, status=0 if has_library else 1)
+    assert said == "1000\n" if has_library else "no libtracehost.so: TRACEHOST_LIBRARY names none" in said
 
 
 def test_a_library_that_was_changed_is_refused(installed: Environment) -> None:
@@ -139,15 +140,14 @@ def test_a_library_that_was_changed_is_refused(installed: Environment) -> None:
     whole = library.read_bytes()
     library.write_bytes(whole + b"x\n")
     try:
-        assert installed.python("-c", TRANSPORT) == "pipe\n"
-        said = installed.python("-c", "import tracehost; tracehost.Host(transport='library')", status=1)
+        said = installed.python("-c", SPAWN, status=1)
     finally:
         library.write_bytes(whole)
     assert "libtracehost.so: its digest isn't that of" in said
 
 
-def test_the_environment_names_the_program(installed: Environment) -> None:
-    installed.python(installed.page(), environment={"TRACEHOST": "/bin/false"}, status=1)
+def test_the_environment_names_the_library(installed: Environment) -> None:
+    installed.python(installed.page(), environment={"TRACEHOST_LIBRARY": "/nowhere/libtracehost.so"}, status=1)
 
 
 @pytest.mark.parametrize("client", ["installed", "of the clone"])
@@ -172,8 +172,8 @@ def test_sources_without_a_program(installed: Environment, tmp_path: Path) -> No
     shutil.copy(TOP / "crates/tracehost/src/main.rt", tmp_path / "crates/tracehost/src")
     installed.pip("--target", tmp_path / "only", tmp_path / "clients/python")
     assert not (tmp_path / "only/bin").exists()
-    environment = {"PYTHONPATH": str(tmp_path / "only"), "TRACEHOST": installed.program}
-    run([sys.executable, installed.page()], tmp_path, environment)
+    library = installed.package / "lib/libtracehost.so"
+    run([sys.executable, installed.page()], tmp_path, {"PYTHONPATH": str(tmp_path / "only"), "TRACEHOST_LIBRARY": str(library)})
 
 
 @needs("make", "objdump")

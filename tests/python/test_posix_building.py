@@ -104,7 +104,7 @@ def test_a_program_of_the_flags_of_pkg_config_runs(posix: Posix, tmp_path: Path,
 
 
 @needs("groff")
-@pytest.mark.parametrize("page", ["tracehost-run", "tracehost-cc", "tracehost-corpus"])
+@pytest.mark.parametrize("page", ["tracehost-run", "tracehost-cc", "tracehost-ld", "tracehost-corpus"])
 def test_groff_renders(posix: Posix, page: str) -> None:
     done = posix.execute("groff", "-mdoc", "-ww", "-Tutf8", TOP / f"man/{page}.1")
     assert (done.returncode, done.stderr) == (0, "") and done.stdout

@@ -213,5 +213,5 @@ def test_where_few_processes_are_allowed(posix: Posix, other_user: OtherUser) ->
     program = other_user.room / "program"
     program.with_suffix(".c").write_text(HEAD + FEW)
     assert posix.execute(CC, "-g", "-w", "-o", program, program.with_suffix(".c")).returncode == 0
-    done = other_user.run("prlimit", "--nproc=20", sys.executable, RUN, program)
+    done = other_user.run("prlimit", "--nproc=20", sys.executable, RUN, "--no-record", program)
     assert (done.stderr, done.returncode) == ("", 0)

@@ -186,8 +186,14 @@ int main(int argc, char **argv)
 
 
 def run(*words: object, **environment: str) -> subprocess.CompletedProcess[str]:
+    """A command. A run leaves no record unless it is asked for one."""
+    command, *rest = words
     return subprocess.run(
-        [str(word) for word in words], capture_output=True, text=True, timeout=120, env=dict(os.environ, **environment)
+        [str(word) for word in (command, *(["--no-record"] if command == RUN else []), *rest)],
+        capture_output=True,
+        text=True,
+        timeout=120,
+        env=dict(os.environ, **environment),
     )
 
 
@@ -404,10 +410,11 @@ def test_a_record_s_page_shows_the_failure(posix: Posix, tmp_path: pathlib.Path)
     assert done.returncode == 1
     data, (file,) = embedded(tmp_path / "run.json.html"), embedded(tmp_path / "run.json.html")["files"]
     told = data["failure"]["message"].splitlines()
-    assert (data["failure"]["test"], data["failure"]["step"]) == ("lost_wakeup", len(file["lines"]))
+    assert (data["failure"]["test"], data["failure"]["step"]) == ("lost_wakeup", len(file["rows"]))
     assert told[0].startswith("deadlock: 1000/100000 waits in pause") and told[1].endswith(at_pause)
     assert any(line.startswith("--switches ") for line in told)
-    assert any("rows" in line for line in file["lines"]) and any(line["asked"].get("call") == "pause" for line in file["lines"])
+    assert all(changes >= 0 for *_, changes in file["rows"])
+    assert any(file["values"][asked].get("call") == "pause" for _, _, asked, _, _ in file["rows"])
     done = run(RUN, "--record", tmp_path / "right.json", posix.remedy("lost_wakeup"))
     assert done.returncode == 0 and "failure" not in embedded(tmp_path / "right.json.html")
 

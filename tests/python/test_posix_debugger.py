@@ -18,7 +18,7 @@ from posix_kit import RUN as RUNNER
 
 pytestmark = pytest.mark.usefixtures("posix")
 
-RUN = [sys.executable, RUNNER]
+RUN = [sys.executable, RUNNER, "--no-record"]
 
 
 def run(words: list[object], **more: str) -> subprocess.CompletedProcess[str]:

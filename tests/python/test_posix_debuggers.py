@@ -1,9 +1,9 @@
-"""FreeBSD debuggers that nobody here wrote, on the model: the FreeBSD code of delve, reptyr and LLDB, from Debian's source
+"""FreeBSD debuggers that nobody here wrote, on the model: the FreeBSD code of delve, reptyr, gdb and LLDB, from Debian's source
 packages, unchanged. clients/posix/tests/foreign has a driver for each, which says what is expected.
 
-Each mode runs plain and under 20 seeds; TRACEHOST_TEST_SCALE multiplies them. LLDB takes a minute to unpack and compile: it
-runs if that is more than 1, or TRACEHOST_OUTSIDE_SUITE is 1. Nothing of the packages stays; if they can't be had the tests are
-skipped. DELVE, REPTYR and LLVM_TOOLCHAIN_14 may name unpacked ones. Nothing here runs as root.
+Each mode runs plain and under 20 seeds; TRACEHOST_TEST_SCALE multiplies them. gdb and LLDB take a minute to unpack and compile:
+they run if that is more than 1, or TRACEHOST_OUTSIDE_SUITE is 1. Nothing of the packages stays; if they can't be had the tests are
+skipped. DELVE, REPTYR, GDB and LLVM_TOOLCHAIN_14 may name unpacked ones. Nothing here runs as root.
 """
 
 from __future__ import annotations
@@ -31,6 +31,11 @@ def outside(program: pathlib.Path) -> Iterator[Outside]:
     yield from outside_room(program)
 
 
+def need_time() -> None:
+    if SCALE == 1 and not SUITE:
+        pytest.skip("it runs if TRACEHOST_TEST_SCALE is more than 1, or TRACEHOST_OUTSIDE_SUITE is 1")
+
+
 def compile_with(outside: Outside, *words: object, compiler: str = "cc") -> None:
     done = outside.run(["env", f"CC={compiler}", CC, "--freebsd", "-g", *words], 600)
     assert done.returncode == 0, done.stderr[-4000:]
@@ -38,7 +43,7 @@ def compile_with(outside: Outside, *words: object, compiler: str = "cc") -> None
 
 def passes(outside: Outside, *words: object) -> None:
     """The plain schedule and all seeds."""
-    done = outside.run([sys.executable, RUN, "--schedules", SCHEDULES, *words], 120 * SCALE)
+    done = outside.run([sys.executable, RUN, "--no-record", "--schedules", SCHEDULES, *words], 120 * SCALE)
     assert done.returncode == 0 and f"{SCHEDULES + 1} schedules passed" in done.stderr, done.stderr
 
 
@@ -73,6 +78,43 @@ def test_delve_finds_each_thread_at_its_breakpoint(outside: Outside, delve: path
 @pytest.mark.parametrize("words", [[], ["fopen"]], ids=["getppid", "fopen"])
 def test_reptyr_makes_calls_in_its_target(outside: Outside, reptyr: pathlib.Path, words: Sequence[str]) -> None:
     passes(outside, reptyr, *words)
+
+
+# ---- gdb: its target, and what it has of threads and inferiors
+
+GDB = """gdb/fbsd-nat.c gdb/inf-ptrace.c gdb/inf-child.c gdb/thread.c gdb/thread-iter.c gdb/inferior.c gdb/target.c
+    gdb/process-stratum-target.c gdb/target-connection.c gdb/target/waitstatus.c gdb/observable.c gdbsupport/btrace-common.cc
+    gdbsupport/common-exceptions.cc gdbsupport/common-utils.cc gdbsupport/environ.cc gdbsupport/event-pipe.cc
+    gdbsupport/ptid.cc gdbsupport/signals.cc""".split()
+GDB_HEADERS = "gdb/*.h gdb/target-delegates.c gdb/*.def gdbsupport/*.h gdbsupport/*.def include/* bfd/*.h gnulib/import/*.h".split()
+
+
+@pytest.fixture(scope="module")
+def gdb(outside: Outside) -> pathlib.Path:
+    need_time()
+    if not pathlib.Path("/usr/include/bfd.h").exists():
+        pytest.skip("needs binutils-dev")
+    folder = outside.upstream("gdb", *GDB_HEADERS, *GDB)
+    include = [FOREIGN / "gdb", *(folder / path for path in ("gdb", ".", "include", "gdbsupport", "bfd", "gnulib/import"))]
+    flags = ["-std=gnu++17", *(f"-I{path}" for path in include)]
+
+    def compiled(path: pathlib.Path, *warnings: str) -> pathlib.Path:
+        made = outside.room / f"gdb_{path.stem}.o"
+        compile_with(outside, *flags, *warnings, "-c", "-o", made, "-x", "c++", path, compiler="g++")
+        return made
+
+    with ThreadPoolExecutor(JOBS) as pool:
+        objects = list(pool.map(lambda name: compiled(folder / name, "-w"), GDB))
+    # what isn't called may be missing
+    link = ["-no-pie", "-Wl,--unresolved-symbols=ignore-all"]
+    made = outside.room / "gdb_driver"
+    compile_with(outside, "-o", made, compiled(FOREIGN / "gdb.cpp", "-Wall"), *objects, *link, compiler="g++")
+    return made
+
+
+@pytest.mark.parametrize("mode", ["threads", "signal", "fork", "vfork", "attach"])
+def test_gdb_debugs(outside: Outside, gdb: pathlib.Path, mode: str) -> None:
+    passes(outside, gdb, mode)
 
 
 # ---- LLDB: files that are compiled together, in the order of these lines, and those that are compiled by themselves
@@ -123,8 +165,7 @@ def lldb_files(outside: Outside, source: pathlib.Path) -> list[pathlib.Path]:
 
 @pytest.fixture(scope="module")
 def lldb(outside: Outside) -> pathlib.Path:
-    if SCALE == 1 and not SUITE:
-        pytest.skip("LLDB runs if TRACEHOST_TEST_SCALE is more than 1, or TRACEHOST_OUTSIDE_SUITE is 1")
+    need_time()
     if shutil.which("clang++") is None or shutil.which(f"llvm-config-{LLVM}") is None:
         pytest.skip(f"needs clang and llvm-{LLVM}-dev")
     folder = outside.upstream(f"llvm-toolchain-{LLVM}", "lldb/include/*", "lldb/source/*") / "lldb"
@@ -153,8 +194,8 @@ def test_lldb_debugs(outside: Outside, lldb: pathlib.Path, mode: str) -> None:
 
 def test_a_thread_misses_the_breakpoint_that_lldb_steps_over(outside: Outside, lldb: pathlib.Path) -> None:
     """While LLDB steps one thread without its breakpoint a new one is born, which LLDB lets go on: it runs through the place."""
-    done = outside.run([sys.executable, RUN, lldb, "threads"])
+    done = outside.run([sys.executable, RUN, "--no-record", lldb, "threads"])
     assert done.returncode == 0, done.stderr
-    done = outside.run([sys.executable, RUN, "--schedules", 200, lldb, "threads"], 600)
+    done = outside.run([sys.executable, RUN, "--no-record", "--schedules", 200, lldb, "threads"], 600)
     assert done.returncode == 1 and "the first process exited with status 1" in done.stderr, done.stderr
     assert "exit code 7, breakpoints 3, steps 3" in done.stdout + done.stderr, done.stderr

@@ -19,8 +19,10 @@ from pathlib import Path
 import pytest
 from c_programs import HEADERS, SANITIZERS, output, sanitized
 from checking import Checks, needs
+from forged_messages import CASES, WROTE, timely
 from forged_numbers import FIELDS, HELLOS, REFUSED, Lines, asked, edges, is_near, is_refused
 from forging import ENDS_THAT_GO_ON, FORMS, OF_A_SCRIPT, SECONDS, Ended, at_ends, options, script
+from planted import CHECKS
 from posix_kit import CC, POSIX, RUN, SCALE, Posix, once, shared_folder
 
 pytestmark = needs("unshare")
@@ -181,11 +183,6 @@ def test_what_the_runtime_never_says_is_refused(plain: tuple[Path, Path], checks
         checks.check(ended.status == 3 and not fault(ended) and told is not None, f"{said}: {ended.status} {ended.said}")
 
 
-PLANTED = {  # a check of the broker's that is taken away
-    "the place of a thread": ("process_calls.c", "int tid = place < count ?", "int tid = p != NULL ?"),
-    "how a mask is set": ("signal_calls.c", "to[arguments[0] & 3]", "to[arguments[0]]"),
-    "the request of ptrace(2)": ("model.c", "number >= 0 && (size_t)number < sizeof requests / sizeof requests[0] && ", ""),
-}
 BROKER_FLAGS = ["-O0", "-g", "-w", "-std=gnu11", "-D_GNU_SOURCE", "-fPIE", *SANITIZERS, *HEADERS]
 BUILT = "lib/tracehost-posix/build/tracehost-broker"
 
@@ -203,7 +200,7 @@ def objects(checked: tuple[Path, Path]) -> Path:
     return once(folder, make)
 
 
-def planted(build: tuple[Path, Path], objects: Path, library: Path, room: Path, change: tuple[str, str, str]) -> tuple[Path, Path]:
+def planted(build: tuple[Path, Path], objects: Path, library: Path, room: Path, change: list[str]) -> tuple[Path, Path]:
     """The same programs, but for a change of the broker's source."""
     name, old, new = change
     shutil.copytree(POSIX / "broker", room / "posix/broker")
@@ -218,55 +215,22 @@ def planted(build: tuple[Path, Path], objects: Path, library: Path, room: Path, 
     return room / "prefix/bin" / build[0].name, build[1]
 
 
-@pytest.mark.parametrize("check", PLANTED)
+@pytest.mark.parametrize("check", list(CHECKS)[:: 8 if SCALE == 1 else 1])
 def test_a_check_that_is_taken_away_is_found(
     checked: tuple[Path, Path], objects: Path, library: Path, tmp_path: Path, check: str
 ) -> None:
-    build = planted(checked, objects, library, tmp_path, PLANTED[check])
-    for first in range(0, OF_ENDS, 10):
-        ends = runs(build, [(options(number), at_ends(number)) for number in range(first, first + 10)])
-        if any("runtime error: " in ended.said or "ERROR: AddressSanitizer" in ended.said for ended in ends):
+    """By a message that the broker checks there."""
+    *change, message = CHECKS[check]
+    build = planted(checked, objects, library, tmp_path, change)
+    said, status, words = CASES[message] if message in CASES else (timely(f"ask {message}"), 3, WROTE)
+    for _ in range(5):  # what a child says to the server may come before its time
+        (ended,) = runs(build, [([], said)])
+        if fault(ended) or ended.status != status or words not in ended.said:
             return
-    pytest.fail(f"none of {OF_ENDS} scripts finds it")
+    pytest.fail(f"{message} doesn't find it: {ended}")
 
 
 # ---- a message, and what the run says
-
-
-def hexed(*lines: tuple[str, str | bytes]) -> str:
-    """A script: of each line the word, and the message, or a number."""
-    texts = ((word, message.encode() if isinstance(message, str) else message) for word, message in lines)
-    return "".join(f"{word} {message.hex()}\n" for word, message in texts)
-
-
-ALL = str(2**32 - 1)
-"""As a number of a process -1, which is everybody's."""
-WROTE, BEGINS, OTHER = "has written", "begins with", "another one than the runtime has written"
-CASES = {  # what is said, the status, and what the run says
-    "nothing": (hexed(("send", "")), 3, WROTE),
-    "too_long": (hexed(("send", "0 call " + "20".zfill(5000))), 3, WROTE),
-    "a_fault_of_the_runtime": (hexed(("send", "0 broken by \x1b[31m force")), 3, r"process 1000: by \x1b[31m force"),
-    "a_remark": (hexed(("send", "0 remark \x1b[31m red"), ("ask", "0 getppid")), 0, r"\x1b[31m red"),
-    "a_refused_call": (hexed(("send", "0 refused  \t ")), 1, "calls "),
-    "remarks_without_end": (hexed(("flood 100000", "0 remark a")), 3, "remarks on more than it asks"),
-    "ends_without_end": (hexed(("flood 100000", "0 ended 1 0")), 3, "remarks on more than it asks"),
-    "unread_answers": (hexed(("flood 2500", "0 getppid")) + "rest 100000\n", 3, "doesn't read what it is answered"),
-    "a_status": (hexed(("ask", "0 exit 478")), 3, WROTE),
-    "a_disposition": (hexed(("ask", "0 action 2 3 0 0 0")), 3, WROTE),
-    "a_process_descriptor": (hexed(("ask", "0 undescribed 1000")), 3, WROTE),
-    "a_timer_back_in_time": (hexed(("ask", "0 timer 0 0 1 -1"), ("ask", "0 pause")), 3, WROTE),
-    "a_signal_of_a_timer": (hexed(("ask", "0 timer 1 99 1 1")), 3, WROTE),
-    "no_event": (hexed(("ask", "0 news"), ("ask", "0 news")), 0, ""),
-    "everybody_is_killed": (hexed(("ask", "0 exec"), ("ask", f"0 hello {ALL} {ALL} 0 0"), ("ask", "0 exec"), ("ask", "0 foreign"),
-        ("ask", "0 kill 1000 9")), 1, "the first process was killed"),
-    "a_number_of_nobody": (hexed(("ask", "0 exec"), ("ask", "0 hello 0 0 0 0"), ("ask", "0 getppid")), 0, ""),
-    "no_hello": (hexed(("ask", "0 exec"), ("ask", "0 getppid")), 3, BEGINS),
-    "to_the_server": (hexed(("control", "x")), 3, OTHER),
-    "nothing_to_the_server": (hexed(("control", "")), 3, OTHER),
-    "more_to_the_server": (hexed(("control_later 100000", "swept more")), 3, OTHER),
-    "an_answer_of_the_server": (hexed(("control_later 1", "swept 1:0 more")), 3, OTHER),
-    "a_closed_socket": ("close\ncall 0\n", 1, "has ended, or closed its socket"),
-}  # fmt: skip
 
 
 @pytest.mark.parametrize("name", CASES)

@@ -19,7 +19,7 @@ pytestmark = pytest.mark.usefixtures("posix")
 TABLE = POSIX / "tests" / "FUNCTIONS.txt"
 HEADERS = """sys/types.h sys/event.h sys/procdesc.h sys/ptrace.h sys/sysctl.h sys/time.h threads.h pty.h utmp.h unistd.h signal.h
 pthread.h pthread_np.h semaphore.h time.h sys/wait.h grp.h crypt.h sys/swap.h sys/reboot.h sys/uio.h sys/stat.h poll.h spawn.h
-sched.h stdlib.h sys/thr.h""".split()
+sched.h stdlib.h sys/thr.h wordexp.h""".split()
 KINDS = ("runtime", "refused", "absent", "host")
 
 
@@ -76,5 +76,5 @@ def test_what_is_refused_ends_the_run_by_name(name: str, tmp_path: pathlib.Path)
         f"{includes}int main(void) {{ ((void (*)(long, long, long)){name})(0, 0, 0); return 0; }}\n"
     )
     subprocess.run([CC, "-w", "-o", tmp_path / "program", tmp_path / "program.c"], check=True)
-    done = subprocess.run([sys.executable, RUN, tmp_path / "program"], capture_output=True, text=True, timeout=60)
+    done = subprocess.run([sys.executable, RUN, "--no-record", tmp_path / "program"], capture_output=True, text=True, timeout=60)
     assert done.returncode == 1 and f"calls {name}, which isn't among the calls of this runtime" in done.stderr

@@ -20,7 +20,7 @@ def compiled(folder: Path, name: str, text: str, *options: str) -> Path:
 
 
 def run(*words: object) -> Done:
-    return Posix.execute(sys.executable, RUN, *words)
+    return Posix.execute(sys.executable, RUN, "--no-record", *words)
 
 
 GROUPS = """

@@ -1,117 +1,72 @@
-"""The numbers and structures of clients/posix/include, compared with two copies of FreeBSD's headers that others keep, for
-amd64: those of Go's x/sys and of Rust's libc. A name that only the host's headers define has the host's number, as
-docs/POSIX.md says."""
+"""The numbers and structures that a program of tracehost-cc sees, compared with copies of FreeBSD's headers that others keep.
+What isn't FreeBSD's is in clients/posix/tests/HEADERS.txt, with its reason, and nothing else is."""
 
 from __future__ import annotations
 
-import dataclasses
+import os
 import re
-from collections.abc import Callable, Mapping
+import subprocess
+from collections.abc import Iterable, Mapping
 from pathlib import Path
 
 import pytest
 
+import freebsd_headers
 from c_programs import output
+from freebsd_headers import Layout
 from posix_kit import CC, POSIX, RUN
 
-GO = Path("/usr/share/gocode/src/golang.org/x/sys/unix")
-RUST = Path("/usr/share/cargo/registry")
 INCLUDE = POSIX / "include"
+TABLE = POSIX / "tests" / "HEADERS.txt"
+OWN = [str(path.relative_to(INCLUDE)) for path in sorted(INCLUDE.rglob("*.h")) if path.parent.name != "tracehost"]
+NOT_INCLUDED = {"atf-c.h", "kvm.h", "libprocstat.h", "machine/ptrace.h", "sys/exec.h"}
+HOST = """aio.h arpa/inet.h dirent.h dlfcn.h err.h errno.h fcntl.h fnmatch.h ftw.h glob.h ifaddrs.h inttypes.h langinfo.h limits.h
+    locale.h net/if.h netdb.h netinet/in.h netinet/tcp.h nl_types.h poll.h pthread.h regex.h sched.h semaphore.h stddef.h stdio.h
+    stdlib.h string.h sys/file.h sys/ioctl.h sys/ipc.h sys/mman.h sys/msg.h sys/param.h sys/select.h sys/sem.h sys/shm.h
+    sys/socket.h sys/stat.h sys/statvfs.h sys/time.h sys/types.h sys/uio.h sys/un.h sysexits.h syslog.h termios.h unistd.h
+    utmpx.h wordexp.h""".split()
+LEAST = {"x/sys": 700, "runtime": 50, "syscall": 3, "libc": 1000}
+"""So many names of a copy there are here at least."""
+LEAST_STRUCTURES = 40
 
-DIFFERENT = {
-    "MINSIGSTKSZ": "the runtime needs room on the stack of a handler",
-}
-"""The numbers that aren't FreeBSD's, and why."""
-
-STRUCTURES = ("kevent", "reg", "fpreg", "ptrace_io_desc", "ptrace_sc_ret", "ptrace_vm_entry")
-"""The structures that are FreeBSD's byte for byte. struct ptrace_lwpinfo isn't: it has the host's sigset_t and siginfo_t.
-kinfo_proc and kinfo_vmentry have only some members."""
-
-UNNAMED = re.compile(
-    r"ATF_|TRACEHOST_|(DBREG|FPE|PSL|SI|VM_PROT|XFEATURE)_" r"|(SYS_futex|EV_KEEPUDATA|KQUEUE_CLOEXEC|WAIT_ANY|AT_COUNT|SIGSTKSZ)$"
+pytestmark = pytest.mark.skipif(
+    not freebsd_headers.are_there(), reason="needs golang-golang-x-sys-dev, golang-1.19-src and librust-libc-dev"
 )
-"""What neither copy names: what isn't of FreeBSD, and parts of its headers that they leave out."""
-
-HEADERS = (
-    "sys/types.h sys/mount.h vm/vm.h machine/elf.h x86/specialreg.h sys/event.h sys/proc.h sys/procctl.h sys/procdesc.h "
-    "sys/ptrace.h sys/resource.h sys/syscall.h sys/sysctl.h "
-    "sys/time.h sys/user.h sys/wait.h machine/reg.h errno.h pthread.h pthread_np.h signal.h stddef.h stdio.h"
-).split()
 
 
-def includes() -> str:
-    return "".join(f"#include <{header}>\n" for header in HEADERS)
+class Listed:
+    """The table: paragraphs, each with a reason and the names it holds for."""
+
+    def __init__(self) -> None:
+        self.reasons: dict[str, set[str]] = {}
+        for part in re.split(r"\n\n+", re.sub(r"^#.*\n", "", TABLE.read_text(), flags=re.M).strip()):
+            reason, *names = part.splitlines()
+            assert all(line.startswith("    ") for line in names), part
+            self.reasons.setdefault(reason, set()).update(re.findall(r"struct \w+|\w+", " ".join(names)))
+        self.in_no_copy = self.reasons.pop("No copy has these names.")
+        self.names = set().union(*self.reasons.values())
+        self.structures = {name.removeprefix("struct ") for name in self.names if name.startswith("struct ")}
+        self.numbers = self.names - {f"struct {name}" for name in self.structures}
 
 
-# ---- the two copies
+LISTED = Listed()
 
 
-def numbers_of_go() -> dict[str, int]:
-    found: dict[str, int] = {}
-    number = re.compile(r"^\s*([A-Z]\w+)\s*=\s*(?:Errno\(|Signal\(|syscall\.\w+\()?(-?0x[0-9a-f]+|-?\d+)\)?", re.M)
-    for file in ("zerrors_freebsd_amd64.go", "zsysnum_freebsd_amd64.go", "ztypes_freebsd_amd64.go"):
-        for name, value in number.findall((GO / file).read_text()):
-            # Go writes the calls' names in capitals
-            found["SYS_" + name[4:].lower() if name.startswith("SYS_") else name] = int(value, 0)
-    return found
-
-
-def sources_of_rust() -> list[str]:
-    [folder] = RUST.glob("libc-*/src/unix/bsd")
-    files = (
-        "mod",
-        "freebsdlike/mod",
-        "freebsdlike/freebsd/mod",
-        "freebsdlike/freebsd/x86_64/mod",
-        "freebsdlike/freebsd/freebsd13/mod",
-    )
-    return [(folder / f"{file}.rs").read_text() for file in files]
-
-
-def numbers_of_rust() -> dict[str, int]:
-    number = re.compile(r"pub const ([A-Z]\w+): [^=;]+ = (-?0x[0-9a-fA-F_]+|-?\d[\d_]*)(?: as [^;]+)?;")
-    return {name: int(value.replace("_", ""), 0) for text in sources_of_rust() for name, value in number.findall(text)}
-
-
-SIZES = {
-    **dict.fromkeys(("u8", "c_char"), 1),
-    **dict.fromkeys(("u16", "c_short", "c_ushort"), 2),
-    **dict.fromkeys(("u32", "i32", "c_int", "c_uint"), 4),
-    **dict.fromkeys(("u64", "i64", "c_long", "c_ulong", "size_t", "uintptr_t", "register_t"), 8),
-}
-"""The bytes of Rust's types, which are their alignments too."""
-
-
-@dataclasses.dataclass(frozen=True)
-class Layout:
-    """A structure's size, and each member's name, place and size, in bytes."""
-
-    size: int
-    members: tuple[tuple[str, int, int], ...]
-
-
-def size_of(kind: str) -> tuple[int, int]:
-    """The size and the alignment of a type of Rust's."""
-    if array := re.fullmatch(r"\[(.+); (\d+)\]", kind):
-        size, aligned = size_of(array[1])
-        return int(array[2]) * size, aligned
-    size = 8 if kind.startswith("*mut ") else SIZES[kind.removeprefix("::")]
-    return size, size
-
-
-def layout_of_rust(name: str) -> Layout:
-    """The layout by C's rules of a structure that Rust's libc declares."""
-    [body] = (found for text in sources_of_rust() for found in re.findall(rf"pub struct {name} \{{\n(.*?)\n    \}}", text, re.S))
-    place, most, members = 0, 1, []
-    for member, kind in re.findall(r"pub (\w+): (.+),", body):
-        size, aligned = size_of(kind)
-        place += -place % aligned
-        members.append((member, place, size))
-        place, most = place + size, max(most, aligned)
-    return Layout(place + -place % most, tuple(members))
-
-
-# ---- ours
+def values(room: Path, expressions: Iterable[str]) -> dict[str, int]:
+    """The values of those expressions that compile, as a program prints them."""
+    headers = "".join(f"#include <{header}>\n" for header in (*HOST, *(name for name in OWN if name not in NOT_INCLUDED)))
+    asked = list(dict.fromkeys(expressions))
+    lines = [f"long long tracehost_{i}(void) {{ return (long long)({each}); }}\n" for i, each in enumerate(asked)]
+    source = room / "compiles.c"
+    source.write_text(headers + "".join(lines))
+    words: list[str | Path] = [CC, "--freebsd", "-w", "-fsyntax-only", source]
+    errors = subprocess.run(words, env={**os.environ, "LC_ALL": "C"}, capture_output=True, text=True, check=False).stderr
+    failed = set(map(int, re.findall(r"In function .tracehost_(\d+).:", errors)))
+    there = [each for i, each in enumerate(asked) if i not in failed]
+    body = "".join(f'\tprintf("%lld\\n", (long long)({each}));\n' for each in there)
+    (room / "main.c").write_text(f"{headers}int main(void)\n{{\n{body}\treturn 0;\n}}\n")
+    output(CC, "--freebsd", "-w", "-o", room / "main", room / "main.c")
+    return dict(zip(there, map(int, output(RUN, room / "main").splitlines()), strict=True))
 
 
 def defined_names() -> set[str]:
@@ -120,54 +75,74 @@ def defined_names() -> set[str]:
     return {name for text in texts for name in re.findall(r"^#\s*define\s+([A-Z]\w+)[ \t]+\S", text, re.M)}
 
 
-def run_program(room: Path, body: str) -> list[str]:
-    """The lines that a program with this body prints."""
-    (room / "main.c").write_text(f"{includes()}int main(void)\n{{\n{body}\treturn 0;\n}}\n")
-    output(CC, "--freebsd", "-w", "-o", room / "main", room / "main.c")
-    return output(RUN, room / "main").splitlines()
+def same(one: int, other: int) -> bool:
+    """A number of 32 bits may be signed in one of them."""
+    return one == other or (all(-(1 << 31) <= each < 1 << 32 for each in (one, other)) and (one - other) % (1 << 32) == 0)
+
+
+# ---- numbers
 
 
 @pytest.fixture(scope="module")
 def numbers(tmp_path_factory: pytest.TempPathFactory) -> dict[str, int]:
-    """The numbers of our names, as a program sees them."""
-    body = "".join(f'\tprintf("%s %lld\\n", "{name}", (long long)({name}));\n' for name in sorted(compared_names()))
-    lines = run_program(tmp_path_factory.mktemp("numbers"), body)
-    return {name: int(value) for name, value in (line.split() for line in lines)}
+    """The numbers that a program sees: those of the copies' names, and of our own."""
+    asked = defined_names().union(*freebsd_headers.numbers().values())
+    return values(tmp_path_factory.mktemp("numbers"), sorted(asked))
 
 
-def compared_names() -> set[str]:
-    return {name for name in defined_names() if not UNNAMED.match(name)}
+@pytest.mark.parametrize("copy", LEAST)
+def test_numbers(numbers: Mapping[str, int], copy: str) -> None:
+    there = freebsd_headers.numbers()[copy]
+    common = numbers.keys() & there.keys()
+    assert len(common) >= LEAST[copy]
+    differ = {name for name in common if not same(numbers[name], there[name])}
+    assert differ == common & LISTED.numbers
 
 
-@pytest.mark.skipif(not GO.is_dir() or not any(RUST.glob("libc-*")), reason="needs golang-golang-x-sys-dev and librust-libc-dev")
-class TestHeaders:
-    @pytest.mark.parametrize(("read", "least"), [(numbers_of_go, 220), (numbers_of_rust, 190)], ids=["Go", "Rust"])
-    def test_numbers(self, numbers: Mapping[str, int], read: Callable[[], dict[str, int]], least: int) -> None:
-        copy = read()
-        common = numbers.keys() & copy.keys()
-        assert len(common) >= least
-        assert {name: numbers[name] for name in common - DIFFERENT.keys()} == {
-            name: copy[name] for name in common - DIFFERENT.keys()
-        }
+def test_each_name_that_we_define_is_in_a_copy_or_listed(numbers: Mapping[str, int]) -> None:
+    copied = set().union(*freebsd_headers.numbers().values())
+    assert (defined_names() & numbers.keys()) - copied == LISTED.in_no_copy
 
-    def test_each_name_is_in_a_copy(self, numbers: Mapping[str, int]) -> None:
-        named = {**numbers_of_go(), **numbers_of_rust()}
-        assert set(numbers) - named.keys() == set()
 
-    @pytest.mark.parametrize("name", STRUCTURES)
-    def test_structures(self, tmp_path: Path, name: str) -> None:
-        copy = layout_of_rust(name)
-        body = f'\tprintf("%zu\\n", sizeof(struct {name}));\n' + "".join(
-            f'\tprintf("%zu %zu\\n", offsetof(struct {name}, {member}), sizeof ((struct {name} *)0)->{member});\n'
-            for member, _, _ in copy.members
-        )
-        whole, *lines = run_program(tmp_path, body)
-        ours = []
-        for (member, _, _), line in zip(copy.members, lines, strict=True):
-            place, size = map(int, line.split())
-            ours.append((member, place, size))
-        assert copy.members and Layout(int(whole), tuple(ours)) == copy
+def test_each_listed_number_is_there(numbers: Mapping[str, int]) -> None:
+    copied = set().union(*freebsd_headers.numbers().values())
+    assert LISTED.numbers - (copied & numbers.keys()) == set()
 
-    def test_what_is_listed_differs(self, numbers: Mapping[str, int]) -> None:
-        named = {**numbers_of_go(), **numbers_of_rust()}
-        assert [name for name in DIFFERENT if numbers[name] == named[name]] == []
+
+# ---- structures
+
+
+def members_of(kind: str, layout: Layout) -> dict[str, tuple[str, str]]:
+    """What a program prints for each member's place and size."""
+    return {name: (f"offsetof({kind}, {name})", f"sizeof((({kind} *)0)->{name})") for name in layout.members}
+
+
+def layout_here(seen: Mapping[str, int], kind: str, copy: Layout) -> Layout:
+    """A structure as a program sees it, with those of the copy's members that it has."""
+    members = {
+        name: (seen[place], seen[size]) for name, (place, size) in members_of(kind, copy).items() if place in seen and size in seen
+    }
+    return Layout(seen[f"sizeof({kind})"], members)
+
+
+def test_the_copy_is_read_rightly() -> None:
+    """FreeBSD's <sys/user.h> asserts these sizes."""
+    copies = freebsd_headers.Structures().layouts()
+    sizes = {"kinfo_proc": 1088, "kinfo_file": 1392, "kinfo_vmentry": 1160}
+    assert {name: copies[name].size for name in sizes} == sizes
+
+
+def test_structures(tmp_path: Path) -> None:
+    copies = freebsd_headers.Structures().layouts()
+    kinds = {name: (f"struct {name}", name) for name in copies}
+    asked = [
+        each
+        for name, copy in copies.items()
+        for kind in kinds[name]
+        for each in (f"sizeof({kind})", *(each for pair in members_of(kind, copy).values() for each in pair))
+    ]
+    seen = values(tmp_path, asked)
+    there = {name: next((kind for kind in kinds[name] if f"sizeof({kind})" in seen), None) for name in copies}
+    here = {name: layout_here(seen, kind, copies[name]) for name, kind in there.items() if kind is not None}
+    assert len(here) >= LEAST_STRUCTURES
+    assert {name for name in here if here[name] != copies[name]} == LISTED.structures

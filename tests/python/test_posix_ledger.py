@@ -123,7 +123,7 @@ def test_the_first_failure_ends_it(posix: Posix, whole: Whole, tmp_path: Path) -
 def test_killed_again_and_again_it_comes_to_the_same(posix: Posix, whole: Whole, tmp_path: Path) -> None:
     ledger, kills = tmp_path / "ledger", 0
     for size in (1, *(len(b"".join(whole.lines[:count])) + 1 for count in range(1, 4))):
-        words = [str(word) for word in (sys.executable, RUN, *whole.words(ledger))]
+        words = [str(word) for word in (sys.executable, RUN, "--no-record", *whole.words(ledger))]
         search = subprocess.Popen(words, stdout=subprocess.DEVNULL, stderr=subprocess.DEVNULL)
         while search.poll() is None and not (ledger.exists() and ledger.stat().st_size >= size):
             time.sleep(0.002)
@@ -201,7 +201,7 @@ def test_a_full_disk_ends_it_with_status_3(posix: Posix, whole: Whole, tmp_path:
     for size in (10, len(whole.lines[0]) + 10, len(b"".join(whole.lines[:2])) + 10):
         ledger = tmp_path / str(size)
         full = subprocess.run(
-            [str(word) for word in (sys.executable, RUN, *whole.words(ledger))],
+            [str(word) for word in (sys.executable, RUN, "--no-record", *whole.words(ledger))],
             preexec_fn=lambda: resource.setrlimit(resource.RLIMIT_FSIZE, (size, size)),
             capture_output=True, text=True, check=False,
         )  # fmt: skip
@@ -215,7 +215,7 @@ def test_a_full_disk_ends_it_with_status_3(posix: Posix, whole: Whole, tmp_path:
 
 def test_two_at_once_are_refused(posix: Posix, whole: Whole, tmp_path: Path) -> None:
     ledger = tmp_path / "ledger"
-    words = [str(word) for word in (sys.executable, RUN, *whole.words(ledger))]
+    words = [str(word) for word in (sys.executable, RUN, "--no-record", *whole.words(ledger))]
     first = subprocess.Popen(words, stdout=subprocess.PIPE, stderr=subprocess.PIPE, text=True)
     while not (ledger.exists() and ledger.stat().st_size > 0):
         time.sleep(0.002)
@@ -376,7 +376,7 @@ def test_a_slow_run_stalls_no_other(monkeypatch: pytest.MonkeyPatch) -> None:
 @pytest.mark.parametrize("jobs", [1, 2])
 def test_a_broker_that_is_killed_is_started_again(posix: Posix, whole: Whole, tmp_path: Path, jobs: int) -> None:
     ledger = tmp_path / "ledger"
-    words = [str(word) for word in (sys.executable, RUN, *whole.words(ledger, "--jobs", jobs))]
+    words = [str(word) for word in (sys.executable, RUN, "--no-record", *whole.words(ledger, "--jobs", jobs))]
     search = subprocess.Popen(words, stdout=subprocess.PIPE, stderr=subprocess.PIPE, text=True)
     while not (ledger.exists() and ledger.read_bytes().count(b"\n") > 1):
         time.sleep(0.002)
@@ -458,7 +458,7 @@ def test_the_numbers_of_a_run_are_the_same_however_long_the_host_takes(posix: Po
     lease = os.open(file, os.O_RDONLY)
     try:
         fcntl.fcntl(lease, fcntl.F_SETLEASE, fcntl.F_WRLCK)
-        words = [sys.executable, str(RUN), "--figures", str(program), str(file)]
+        words = [sys.executable, str(RUN), "--no-record", "--figures", str(program), str(file)]
         with subprocess.Popen(words, stderr=subprocess.PIPE, text=True) as run:
             while run.poll() is None and fcntl.fcntl(lease, fcntl.F_GETLEASE) == fcntl.F_WRLCK:
                 time.sleep(0.01)

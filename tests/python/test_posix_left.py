@@ -59,7 +59,9 @@ def odd(posix: Posix, tmp_path: Path, monkeypatch: pytest.MonkeyPatch) -> Odd:
     return made
 
 
-@pytest.mark.parametrize("word", ["killed", "hangs", "spins", "closes_all", "deadlock", "system", "closes", "forks", "prints"])
+@pytest.mark.parametrize(
+    "word", ["killed", "hangs", "spins", "closes_all", "deadlock", "system", "shell", "closes", "forks", "prints"]
+)
 def test_nothing_is_left_of_a_program_that(posix: Posix, odd: Odd, word: str) -> None:
     done = posix.run("--patience", 2, odd.program, word, seconds=120)
     assert not odd.left()
@@ -83,6 +85,8 @@ ENDS = [
     ("KILL", "asks", "--jobs 1"),
     ("KILL", "asks", "--jobs 2 --schedules 100000"),
     ("INT", "asks", "--jobs 1"),
+    ("KILL", "shell", "--jobs 2 --schedules 100000"),
+    ("INT", "shell", "--jobs 1"),
 ]
 
 
@@ -122,7 +126,7 @@ WAYS: list[list[str]] = [
 
 def test_what_sleeps_in_the_host_ends_if_broker_and_server_are_killed_together(odd: Odd) -> None:
     """One of its processes waits for a lock that another one has, and looks at nothing else."""
-    words = [sys.executable, str(RUN), "--patience", "1000", str(odd.program), "hangs"]
+    words = [sys.executable, str(RUN), "--no-record", "--patience", "1000", str(odd.program), "hangs"]
     with subprocess.Popen(words, stdin=subprocess.DEVNULL, stdout=subprocess.DEVNULL, stderr=subprocess.DEVNULL) as runner:
         end = time.monotonic() + 60
         while len(odd.processes()) < 8 and time.monotonic() < end:  # five of the program, its server, the broker, the command
@@ -139,8 +143,8 @@ def test_what_sleeps_in_the_host_ends_if_broker_and_server_are_killed_together(o
 def test_nothing_is_left_of_a_kill_at_any_moment(posix: Posix, odd: Odd, number: int) -> None:
     """Of tracehost-run, of any of its processes, or of all. If tracehost-run goes on it ends by a signal then."""
     chance = random.Random(number)
-    word = chance.choice(["asks", "spins", "closes", "forks", "hangs", "deadlock", "prints"])
-    words = [sys.executable, str(RUN), "--limit", "1000000", *chance.choice(WAYS), str(odd.program), word]
+    word = chance.choice(["asks", "spins", "closes", "forks", "hangs", "deadlock", "prints", "shell"])
+    words = [sys.executable, str(RUN), "--no-record", "--limit", "1000000", *chance.choice(WAYS), str(odd.program), word]
     with subprocess.Popen(
         words, stdin=subprocess.DEVNULL, stdout=subprocess.DEVNULL, stderr=subprocess.DEVNULL, start_new_session=True
     ) as runner:

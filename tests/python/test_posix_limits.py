@@ -14,7 +14,9 @@ POSIX = pathlib.Path(__file__).resolve().parents[2] / "clients" / "posix"
 
 def run(program: pathlib.Path, flags: list[str], options: list[str], folder: pathlib.Path) -> subprocess.CompletedProcess[str]:
     subprocess.run([POSIX / "tracehost-cc", "-g", "-w", *flags, "-o", folder / "program", program], check=True)
-    return subprocess.run([POSIX / "tracehost-run", *options, folder / "program"], capture_output=True, text=True, timeout=300)
+    return subprocess.run(
+        [POSIX / "tracehost-run", "--no-record", *options, folder / "program"], capture_output=True, text=True, timeout=300
+    )
 
 
 @pytest.mark.parametrize("levels", [300, 1000, 4000])

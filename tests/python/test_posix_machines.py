@@ -128,7 +128,7 @@ class Remote:
         return self.cluster.worker(self._machines.on(machine), **noting(self._room, name, slow), **environment)
 
     def begin(self, *words: str | Path) -> subprocess.Popen[str]:
-        command = [sys.executable, RUN, "--workers", self.cluster.address, *words, self._program]
+        command = [sys.executable, RUN, "--no-record", "--workers", self.cluster.address, *words, self._program]
         before = self._machines.on(self._machines.hub)
         return subprocess.Popen([*before, *map(str, command)], stdout=subprocess.PIPE, stderr=subprocess.PIPE, text=True)
 
@@ -212,7 +212,7 @@ def test_certificates(posix: Posix, tmp_path: Path) -> None:
         cluster.worker()
         program = posix.race("lost_wakeup")
         here = posix.run("--schedules", 500, program)
-        command = [sys.executable, RUN, "--workers", cluster.address, "--schedules", "500", program]
+        command = [sys.executable, RUN, "--no-record", "--workers", cluster.address, "--schedules", "500", program]
         tls = {"DASK_DISTRIBUTED__COMM__TLS__CA_FILE": certificate}
         tls |= {f"DASK_DISTRIBUTED__COMM__TLS__CLIENT__{name}": file for name, file in (("CERT", certificate), ("KEY", key))}
         there = posix.execute("env", *(f"{name}={file}" for name, file in tls.items()), *command)

@@ -14,7 +14,7 @@ from posix_kit import RUN as RUNNER
 
 pytestmark = pytest.mark.usefixtures("posix")
 
-RUN = [sys.executable, RUNNER]
+RUN = [sys.executable, RUNNER, "--no-record"]
 CC = [COMPILER]
 CALLS = "#include <unistd.h>\nint main(void) { getppid(); return 0; }\n"
 CLOSED, FULL = ">&-", ">/dev/full"

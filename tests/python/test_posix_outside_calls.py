@@ -28,6 +28,23 @@ NOBODY = ["setpriv", "--reuid=65534", "--regid=65534", "--clear-groups"]
 ALONE = ["unshare", "--pid", "--fork", "--kill-child", "--mount-proc"]
 VICTIM = 'sleep 100 & victim=$!; "$@" "$victim"; status=$?; kill -0 $victim && echo lives; exit $status'
 """Runs the words, and a victim's number behind them."""
+WAITER = r"""
+#include <sys/wait.h>
+#include <unistd.h>
+int main(int argc, char **argv)
+{ /* waits for ever; `waits sh COMMAND..` runs each of them by a shell */
+	if (argc < 3)
+		pause();
+	for (int i = 2; i < argc; i++) {
+		if (fork() == 0) {
+			execl("/bin/sh", "sh", "-c", argv[i], (char *)0);
+			_exit(9);
+		}
+		wait(NULL);
+	}
+	return 0;
+}
+"""
 WITHOUT_NOTIFICATIONS = r"""
 #include <fcntl.h>
 #include <linux/filter.h>
@@ -56,11 +73,11 @@ class Room(NamedTuple):
 
     def run(self, *words: object, before: str = "", cwd: Path | None = None) -> Done:
         """tracehost-run with these words, as nobody, alone in a namespace. `before`: a command of root's in there."""
-        return self.alone([sys.executable, RUN, "--patience", 10, *words], before, cwd)
+        return self.alone([sys.executable, RUN, "--no-record", "--patience", 10, *words], before, cwd)
 
     def with_victim(self, *words: object) -> tuple[Done, bool]:
         """The same with a victim's number behind the words, and whether that lives."""
-        done = self.alone(["sh", "-c", VICTIM, "sh", sys.executable, RUN, "--patience", 10, *words])
+        done = self.alone(["sh", "-c", VICTIM, "sh", sys.executable, RUN, "--no-record", "--patience", 10, *words])
         return done, "lives" in done.stdout.splitlines()
 
     def alone(self, words: list[object], before: str = "", cwd: Path | None = None) -> Done:
@@ -98,6 +115,8 @@ def room(posix: Posix) -> Iterator[Room]:
         build("cc", "-o", "foreign", SOURCES / "foreign.c", cwd=folder)
         (folder / "without_notifications.c").write_text(WITHOUT_NOTIFICATIONS)
         build("cc", "-w", "-D_GNU_SOURCE", "-o", "without_notifications", "without_notifications.c", cwd=folder)
+        (folder / "waits.c").write_text(WAITER)
+        build(CC, "-g", "-w", "-o", "waits", "waits.c", cwd=folder)
         build(CC, "-g", "-w", "-o", "calls", SOURCES / "calls.c", "-ldl", cwd=folder)
         build(CC, "-g", "-w", "-no-pie", "-o", "calls_fixed", SOURCES / "calls.c", cwd=folder)
         for name, path in (("linked", "."), ("linked_by_path", str(folder))):
@@ -319,18 +338,50 @@ def test_a_program_itself_has_no_number_of_the_models(room: Room) -> None:
         assert done.returncode == 0, (last, done.stderr)
 
 
-@pytest.mark.parametrize("command", ["exec ./calls", "./calls; true"])
-def test_a_shell_that_starts_a_program_with_the_runtime_ends_the_run(room: Room, command: str) -> None:
-    done = room.run("./calls", "executes", "/bin/sh", "-c", command)
+WAITS = r"1001/100001 is a program without the runtime, and waits for those that it has started; 1002/100002 waits in pause"
+
+
+def test_a_shells_child_that_waits_for_ever_is_a_deadlock(room: Room) -> None:
+    done = room.run("./waits", "sh", "./waits; true")
+    assert done.returncode == 1 and re.search(WAITS, done.stderr), done.stderr
+
+
+def test_a_shells_child_whose_number_is_one_of_the_models_is_no_verdict(room: Room) -> None:
+    """The shell's kill names it by its number of the host's."""
+    met = 0
+    for last in range(985, 1000):
+        done = room.run("./waits", "sh", "./waits & kill $!; wait", before=f"echo {last} >/proc/sys/kernel/ns_last_pid")
+        assert done.returncode in (0, 3), (done.returncode, done.stderr)
+        met += done.returncode == 3
+        if done.returncode == 3:
+            assert re.search(r"100\d is a number of the model's, and of a process that \S+ has started$", done.stderr, re.MULTILINE)
+    assert met > 0
+
+
+@pytest.mark.parametrize("command", ["(sleep 0.3; ./waits) & exit 0", "(sleep 0.3; ./waits) & exec ./waits sh 'sleep 2'"])
+def test_a_program_that_is_started_too_late_ends_the_run(room: Room, command: str) -> None:
+    """Its shell has no process in the model any more."""
+    done = room.run("./waits", "sh", command, "sleep 2")
     assert done.returncode == 1, done.stderr
-    assert re.search(r"1001: a program without the runtime, such as a shell, has started \S+/calls, for which", done.stderr)
+    assert re.search(r"has left a process that has started \S+/waits, but its own process in the model has ended, or", done.stderr)
 
 
 # ---- a host without notifications
 
 
 def test_without_notifications_a_shell_ends_at_its_kill(room: Room) -> None:
-    words = ["./without_notifications", sys.executable, RUN, "./calls", "executes", "/bin/sh", "-c", 'kill -9 "$1"', "sh"]
+    words = [
+        "./without_notifications",
+        sys.executable,
+        RUN,
+        "--no-record",
+        "./calls",
+        "executes",
+        "/bin/sh",
+        "-c",
+        'kill -9 "$1"',
+        "sh",
+    ]
     done = room.alone(["sh", "-c", VICTIM, "sh", *words])
     assert done.returncode == 1 and "lives" in done.stdout.splitlines(), done.stderr
     assert "the host gives no notifications of seccomp(2)" in done.stderr
@@ -339,7 +390,7 @@ def test_without_notifications_a_shell_ends_at_its_kill(room: Room) -> None:
 
 @pytest.mark.parametrize("call", ["kill by instruction", "waitpid", "sigaction by instruction"])
 def test_without_notifications_a_library_is_held(room: Room, call: str) -> None:
-    words = ["./without_notifications", sys.executable, RUN, "./calls", "loaded", call]
+    words = ["./without_notifications", sys.executable, RUN, "--no-record", "./calls", "loaded", call]
     done = room.alone(["sh", "-c", VICTIM, "sh", *words])
     is_held(done, CALLS[call], "liboutside.so")
     assert "lives" in done.stdout.splitlines()

@@ -70,15 +70,22 @@ def test_on_the_model(posix: Posix, source: pathlib.Path, flags: list[str]) -> N
     wanted = header(source)
     for compiler in compilers(source):
         built = posix.compiled(str(source.relative_to(POSIX)), *flags, compiler=compiler)
-        done = run([sys.executable, RUN, built])
+        done = run([sys.executable, RUN, "--no-record", built])
         if "the host makes no hardware breakpoint" in done.stderr:
             pytest.skip("the host makes no hardware breakpoint")
         assert (done.stdout, done.returncode) == (_lines(wanted), 0), done.stderr
     schedules = wanted.get("schedules", "0")
     if schedules != "0":
-        done = run([sys.executable, RUN, "--verify", "--schedules", schedules, built])
+        done = run([sys.executable, RUN, "--no-record", "--verify", "--schedules", schedules, built])
         assert done.returncode == 0, done.stderr
 
 
 def _lines(wanted: dict[str, str]) -> str:
     return "".join(f"{line}\n" for line in wanted["prints"].split("|")) if "prints" in wanted else ""
+
+
+def test_a_seed_decides_what_a_shells_process_does(posix: Posix) -> None:
+    built = posix.compiled("tests/programs/traced_shell_forks.c", *FLAGS, compiler="cc")
+    runs = [run([sys.executable, RUN, "--no-record", "--schedules", "10", "--digest", built]) for _ in range(2)]
+    assert [done.returncode for done in runs] == [0, 0], runs[0].stderr
+    assert len(runs[0].stdout.splitlines()) == 11 and runs[0].stdout == runs[1].stdout

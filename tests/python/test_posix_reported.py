@@ -83,7 +83,7 @@ def run(folder: pathlib.Path, call: str, request: str = "PT_SYSCALL", register: 
     before = f"{before}()" if before else ""
     (folder / "program.c").write_text(PROGRAM.format(before=before, call=call, request=request, register=register))
     subprocess.run([CC, "-g", "-o", folder / "program", folder / "program.c"], check=True)
-    done = subprocess.run([sys.executable, RUN, folder / "program"], capture_output=True, text=True, timeout=60)
+    done = subprocess.run([sys.executable, RUN, "--no-record", folder / "program"], capture_output=True, text=True, timeout=60)
     assert done.returncode == status, done.stderr
     return done.stderr
 
@@ -169,5 +169,5 @@ int main()
 def test_streams_of_cpp_are_reported(tmp_path: pathlib.Path) -> None:
     (tmp_path / "program.cpp").write_text(IN_CPP)
     subprocess.run(["env", "CC=g++", CC, "-g", "-o", tmp_path / "program", tmp_path / "program.cpp"], check=True)
-    done = subprocess.run([sys.executable, RUN, tmp_path / "program"], capture_output=True, text=True, timeout=60)
+    done = subprocess.run([sys.executable, RUN, "--no-record", tmp_path / "program"], capture_output=True, text=True, timeout=60)
     assert done.returncode == 0, done.stderr

@@ -101,7 +101,19 @@ def test_a_run_that_is_killed_while_it_makes_a_page(posix: Posix, temporary: Pat
     viewer.parent.mkdir()
     viewer.write_text('#!/bin/sh\necho "$$" >"$TMPDIR/../viewer"\nexec sleep 1000\n')
     viewer.chmod(0o755)
-    words = [sys.executable, "-c", VIEWER, str(viewer), str(RUN), "--seed", "4", "--compare", str(page), str(program)]
+    words = [
+        sys.executable,
+        "-c",
+        VIEWER,
+        str(viewer),
+        str(RUN),
+        "--no-record",
+        "--seed",
+        "4",
+        "--compare",
+        str(page),
+        str(program),
+    ]
     with subprocess.Popen(words, stderr=subprocess.DEVNULL) as process:
         while not (tmp_path / "viewer").exists() and process.poll() is None:
             time.sleep(0.05)

@@ -21,7 +21,7 @@ import pytest
 from posix_kit import CC, POSIX, RACES, SCALE, Posix, cases
 from posix_kit import RUN as RUNNER
 
-RUN = [sys.executable, RUNNER]
+RUN = [sys.executable, RUNNER, "--no-record"]
 WHOLE = SCALE >= 20
 SEEDS = 20 if WHOLE else 4
 NEVER_THE_SAME = {  # a run depends on the host: on processor time, or on how long a call of the host sleeps

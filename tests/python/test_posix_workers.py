@@ -40,7 +40,7 @@ def test_workers_come_to_what_one_job_does(posix: Posix, cluster: Cluster, tmp_p
     here = posix.run(*words, tmp_path / "here", program)
     killed = [cluster.worker() for _ in range(3)][1]
     ledger = tmp_path / "there"
-    command = [str(word) for word in (sys.executable, RUN, "--workers", cluster.address, *words, ledger, program)]
+    command = [str(word) for word in (sys.executable, RUN, "--no-record", "--workers", cluster.address, *words, ledger, program)]
     search = subprocess.Popen(command, stdout=subprocess.PIPE, stderr=subprocess.PIPE, text=True)
     while search.poll() is None and not (ledger.exists() and ledger.read_bytes().count(b"\n") > 1):
         time.sleep(0.01)

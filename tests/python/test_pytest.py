@@ -1,4 +1,4 @@
-"""The plugin for pytest and what is for Hypothesis, over a pipe and over the library: their tests, the suite of a small debugger,
+"""The plugin for pytest and what is for Hypothesis: their tests, the suite of a small debugger,
 and the tests on docs/CLIENTS.md.
 """
 
@@ -22,11 +22,11 @@ SECONDS = 1800
 
 
 class Suite:
-    """Runs pytest with the plugin, over a transport."""
+    """Runs pytest with the plugin."""
 
-    def __init__(self, room: Path, program: Path, library: Path | None) -> None:
+    def __init__(self, room: Path, program: Path, library: Path) -> None:
         self.room, self.program = room, program
-        named = "" if library is None else str(library / "libtracehost.so")
+        named = str(library / "libtracehost.so")
         self._environment = {**os.environ, "TRACEHOST": str(program), "TRACEHOST_LIBRARY": named, "PYTHONPATH": str(CLIENT)}
 
     def __call__(self, base: str, *files: Path, status: int = 0) -> str:
@@ -51,17 +51,13 @@ class Suite:
         (self.room / name).write_text(text.replace(old, new))
 
 
-@pytest.fixture(params=["pipe", "library"])
-def suite(request: pytest.FixtureRequest, tmp_path: Path, program: Path) -> Suite:
-    return Suite(tmp_path, program, request.getfixturevalue("library") if request.param == "library" else None)
+@pytest.fixture
+def suite(tmp_path: Path, program: Path, library: Path) -> Suite:
+    return Suite(tmp_path, program, library)
 
 
 def test_the_plugins_own_tests(suite: Suite) -> None:
     suite("own", CLIENT / "tests/test_pytest_plugin.py")
-
-
-def test_artifacts_over_a_pipe(tmp_path: Path, program: Path) -> None:
-    Suite(tmp_path, program, None)("artifacts", CLIENT / "tests/test_artifacts.py")
 
 
 def test_a_small_debugger(suite: Suite) -> None:

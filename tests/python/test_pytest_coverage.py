@@ -35,7 +35,7 @@ def test_takes_the_place_of_another(new_tracehost):
             host.user(1001).spawn()
 
 @given(strategies.integers(1, 3))
-@settings(max_examples=5, database=None, derandomize=True)
+@settings(max_examples=5, database=None, derandomize=True, deadline=None)
 def test_examples(new_tracehost, count):
     with open(EXAMPLES, "a") as made:
         made.write("an example\\n")

@@ -1,6 +1,6 @@
 """Failing and passing tests of all languages side by side, on one folder: each failed test has its own record, and no other has one.
 
-All tests fail first, then half of them pass. TRACEHOST_TEST_SCALE multiplies how many there are.
+All tests fail first, then half of them pass; each leaves its trace then. There are 200; TRACEHOST_TEST_SCALE multiplies them.
 """
 
 from __future__ import annotations
@@ -115,7 +115,7 @@ def room(tmp_path_factory: pytest.TempPathFactory) -> Path:
 
 @pytest.fixture(scope="module")
 def programs(library: Path, program: Path, room: Path) -> dict[str, Program]:
-    c = in_c(room, library, program, "in process")
+    c = in_c(room, library)
     return {
         "pytest -n4": by_pytest(room),
         "threads in C": by_threads(c, room),
@@ -125,14 +125,28 @@ def programs(library: Path, program: Path, room: Path) -> dict[str, Program]:
     }
 
 
-def check(programs: dict[str, Program], folder: Path, program: Path, fails: Callable[[int], bool]) -> int:
-    """The folder has the records of the tests that fail, and nothing else. Returns how many."""
-    stems = {
+def stems_of(programs: dict[str, Program], has: Callable[[int], bool]) -> dict[str, int]:
+    """How the names of some tests' files begin, with each test's number."""
+    return {
         each.stem(n): n % (OF_A_RUN if name == "cargo test" else COUNT)
         for name, each in programs.items()
         for n in range(COUNT)
-        if fails(n)
+        if has(n)
     }
+
+
+def check_traces(traces: Path, stems: dict[str, int]) -> None:
+    """Each test has left its own trace, whether it failed or passed, and the folder has nothing else."""
+    left = {path: path.name.rsplit(".", 2)[0] for path in traces.iterdir()}
+    assert sorted(left.values()) == sorted(stems)
+    for path, stem in left.items():
+        spawned = [step["op"] for step in json.loads(path.read_bytes())["steps"]].count("spawn")
+        assert spawned == stems[stem] % 5 + 1, path
+
+
+def check(programs: dict[str, Program], folder: Path, program: Path, fails: Callable[[int], bool]) -> int:
+    """The folder has the records of the tests that fail, and nothing else. Returns how many."""
+    stems = stems_of(programs, fails)
     left = {path.name for path in folder.iterdir()}
     assert left == {f"{stem}.{kind}" for stem in stems for kind in ("json", "out")}
 
@@ -161,5 +175,7 @@ def test_side_by_side(programs: dict[str, Program], room: Path, library: Path, p
 
     run_all({"ALL_FAIL": "1"})
     assert check(programs, left, program, lambda number: True) == COUNT * len(programs)
-    run_all({})
+    stems = stems_of(programs, lambda number: True)
+    run_all({"TRACEHOST_TRACES": str(room / "traces")})
+    check_traces(room / "traces", stems)
     assert check(programs, left, program, lambda number: number % 2 == 0) == COUNT * len(programs) // 2

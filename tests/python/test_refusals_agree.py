@@ -124,7 +124,7 @@ def first_condition(host: Host, step: Step, answer: str) -> str:
 
 def in_python(session: Session, met: set[str]) -> str:
     lines, counts = [], collections.Counter[int]()
-    with Host(transport="library", kill_on_debugger_exit=bool(session.kills)) as host:
+    with Host(kill_on_debugger_exit=bool(session.kills)) as host:
         for step in session.steps:
             user = step["user"]
             counts[user] += 1
@@ -174,7 +174,7 @@ def test_in_c(programs: Programs, folder: Path, python: tuple[dict[str, str], se
     for name, wanted in said.items():
         steps = (folder / f"{name}.calls").read_bytes()
         kills = (folder / f"{name}.setting").read_text()
-        checks.check(output(programs["in process", "replay"], "-", kills, "explain", given=steps) == wanted, name)
+        checks.check(output(programs["plain", "replay"], kills, "explain", given=steps) == wanted, name)
 
 
 def test_in_cpp(library: Path, folder: Path, tmp_path: Path, python: tuple[dict[str, str], set[str]], checks: Checks) -> None:

@@ -83,10 +83,7 @@ def test_c_for_freebsd(stale: Stale) -> None:
 
 @needs("python3")
 def test_python(stale: Stale) -> None:
-    """Neither over the library nor over a pipe."""
     said = stale.run("python3 -c 'import tracehost; tracehost.Host()'", 1)
-    assert said.endswith(f"FileNotFoundError: {PROGRAM}")
-    said = stale.run("""python3 -c 'import tracehost; tracehost.Host(transport="library")'""", 1)
     assert said.endswith(f"FileNotFoundError: {LIBRARY}")
     said = stale.run("python3 -c 'import tracehost; tracehost.view(\"examples/first.json\")'", 1)
     assert said.endswith(f"FileNotFoundError: {PROGRAM}")

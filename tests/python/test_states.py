@@ -153,6 +153,21 @@ def test_a_copy_over_needs_both_open(tools: Tools) -> None:
     assert host.exchange('{"user":1001,"op":"spawn"}') == "1001 1 new 1000 100000"
 
 
+def test_a_copy_of_one_user(tools: Tools) -> None:
+    one, other = opened(tools), opened(tools)
+    for user in USERS[:2]:
+        one.exchange(f'{{"user":{user},"op":"spawn"}}')
+        other.exchange(f'{{"user":{user},"op":"spawn"}}')
+        other.exchange(f'{{"user":{user},"op":"spawn"}}')
+    kept = [other.state(user) for user in USERS[1:]]
+    one.copy_user(other, USERS[0])
+    assert other.state(USERS[0]) == one.state(USERS[0])
+    assert [other.state(user) for user in USERS[1:]] == kept
+    assert other.exchange('{"user":1001,"op":"list","caller":1000}') == "1001 2 pids 1000"
+    one.copy_user(one, USERS[0])
+    assert one.exchange('{"user":1001,"op":"list","caller":1000}') == "1001 2 pids 1000"
+
+
 @pytest.mark.parametrize("line", NO_STEPS.values(), ids=NO_STEPS)
 def test_an_explanation_is_the_programs(tools: Tools, program: Path, line: str) -> None:
     said = run(program, "--lines", "--explain", given=line + "\n")

@@ -9,43 +9,27 @@ import os
 import re
 import subprocess
 import sys
-from collections.abc import Callable, Mapping
+from collections.abc import Mapping
 from pathlib import Path
 
 import pytest
 from checking import TOP, needs, run
-from failing_programs import STORY, WITH_COMMANDS, Failing, in_c, in_cpp
+from failing_programs import IN_PYTHON, STORY, WITH_COMMANDS, Failing, Make, Programs, failing, in_c, in_cpp, languages
+from posix_kit import Posix
 
+__all__ = ["failing"]  # a fixture
 PLAIN = "-fno-sanitize=all"
-MADE: dict[str, Callable[[Path, Path, Path], Failing]] = {
-    "c": lambda room, library, program: in_c(room, library, program, "in process", PLAIN, "-DTH_SECONDS_FOR_A_STORY=3"),
-    "cpp": lambda room, library, program: in_cpp(room, library, PLAIN, "-DTRACEHOST_SECONDS_FOR_A_STORY=3"),
+MADE: dict[str, Make] = {
+    "c": lambda room, library: in_c(room, library, PLAIN, "-DTH_SECONDS_FOR_A_STORY=3"),
+    "cpp": lambda room, library: in_cpp(room, library, PLAIN, "-DTRACEHOST_SECONDS_FOR_A_STORY=3"),
 }
 
 
 @pytest.fixture(scope="module")
-def programs() -> dict[str, Failing]:
-    return {}
-
-
-@pytest.fixture
-def failing(
-    request: pytest.FixtureRequest,
-    programs: dict[str, Failing],
-    library: Path,
-    program: Path,
-    tmp_path_factory: pytest.TempPathFactory,
-) -> Failing:
-    """The test program in a language, compiled once. It finds the program, and makes no page."""
-    language = request.param
-    if language not in programs:
-        programs[language] = MADE[language](tmp_path_factory.mktemp("stories"), library, program)
-        programs[language].environment = {"TRACEHOST": str(program), "TRACEHOST_VIEW": "/bin/false", **WITH_COMMANDS}
-    return programs[language]
-
-
-def languages(*names: str) -> pytest.MarkDecorator:
-    return pytest.mark.parametrize("failing", names, indirect=True)
+def programs(library: Path, program: Path, tmp_path_factory: pytest.TempPathFactory) -> Programs:
+    """They make no page."""
+    environment = {"TRACEHOST_VIEW": "/bin/false", **WITH_COMMANDS}
+    return Programs(tmp_path_factory.mktemp("stories"), library, program, environment, MADE)
 
 
 @languages(*MADE)
@@ -117,22 +101,6 @@ def test_a_signal_tells_no_story(failing: Failing, tmp_path: Path) -> None:
 
 # ---- Python
 
-SUITE = """
-import os
-import {module}
-from tracehost import Compute, Host, Raise, Request, Signal
-
-def debug(tracehost, wanted):
-    user = tracehost.user(1001)
-    debugger, target = user.process(user.spawn()), user.spawn()
-    debugger.ptrace(Request.PT_ATTACH, target.pid)
-    debugger.wait4()
-    debugger.ptrace(Request.PT_STEP, target.pid)
-    user.turn(target.tid, Raise(Signal.SIGSEGV))
-    user.turn(target.tid, Compute())
-    assert os.WSTOPSIG(debugger.wait4().status) == wanted
-{tests}
-"""
 PYTEST = """
 def test_fails(tracehost): debug(tracehost, Signal.SIGTRAP)
 def test_passes(tracehost): debug(tracehost, Signal.SIGSEGV)
@@ -144,15 +112,17 @@ def test_patches(tracehost, monkeypatch):
     debug(tracehost, Signal.SIGTRAP)
 """
 UNITTEST = """
+import tracehost.case
+
 class Case(tracehost.case.TestCase):
     def test_fails(self): debug(self.tracehost, Signal.SIGTRAP)
     def test_passes(self): debug(self.tracehost, Signal.SIGSEGV)
 """
 
 
-def suite(room: Path, program: Path, module: str, *words: str, environment: Mapping[str, str] = {}) -> str:
+def suite(room: Path, program: Path, tests: str, *words: str, environment: Mapping[str, str] = {}) -> str:
     """What a suite prints that fails."""
-    (room / "test_suite.py").write_text(SUITE.format(module=module, tests=UNITTEST if module == "tracehost.case" else PYTEST))
+    (room / "test_suite.py").write_text(IN_PYTHON + tests)
     surroundings = {
         **{**os.environ, "PYTHONPATH": str(TOP / "clients/python"), "TRACEHOST": str(program)},
         **{"TRACEHOST_ARTIFACTS": str(room / "left"), **environment},
@@ -167,7 +137,7 @@ def suite(room: Path, program: Path, module: str, *words: str, environment: Mapp
 def test_pytest(tmp_path: Path, program: Path) -> None:
     """In the failure's report, that of a test that has replaced functions too. Our frames are left out if the caller is to blame."""
     words = ["pytest", "-q", "-p", "tracehost.pytest_plugin", "-p", "no:cacheprovider", f"--basetemp={tmp_path / 'base'}"]
-    said = suite(tmp_path, program, "pytest", *words, "test_suite.py")
+    said = suite(tmp_path, program, PYTEST, *words, "test_suite.py")
     reports = re.split(r"^_+ test_(\w+) _+$", said, flags=re.MULTILINE)
     of_test = dict(zip(reports[1::2], reports[2::2]))
     assert list(of_test) == ["fails", "is_refused", "patches"]
@@ -177,9 +147,9 @@ def test_pytest(tmp_path: Path, program: Path) -> None:
     refused = of_test["is_refused"]
     assert "-> ESRCH   (user 1001 has no process 1234)\n" in refused
     assert "tracehost/host.py" not in refused and "tracehost/host.py" in suite(
-        tmp_path, program, "pytest", *words, "--full-trace", "-k", "refused", "test_suite.py"
+        tmp_path, program, PYTEST, *words, "--full-trace", "-k", "refused", "test_suite.py"
     )
-    off = suite(tmp_path, program, "pytest", *words, "-k", "fails", "test_suite.py", environment={"TRACEHOST_DEBUG": ""})
+    off = suite(tmp_path, program, PYTEST, *words, "-k", "fails", "test_suite.py", environment={"TRACEHOST_DEBUG": ""})
     assert STORY not in off and off.count("\nto go on from here: tracehost-debug ") == 1
 
 
@@ -196,25 +166,23 @@ def test_workers(tmp_path: Path, program: Path) -> None:
         "no:cacheprovider",
         f"--basetemp={tmp_path / 'base'}",
     ]
-    said = suite(tmp_path, program, "pytest", *words, "-k", "fails or passes", "test_suite.py")
+    said = suite(tmp_path, program, PYTEST, *words, "-k", "fails or passes", "test_suite.py")
     assert said.count(f"\n{STORY}\n") == 1 and said.count("\nto go on from here: tracehost-debug ") == 1
 
 
 def test_unittest(tmp_path: Path, program: Path) -> None:
     """In the report of the failure, and nowhere else."""
-    said = suite(tmp_path, program, "tracehost.case", "unittest", "test_suite")
+    said = suite(tmp_path, program, UNITTEST, "unittest", "test_suite")
     head, _, report = said.partition("FAIL: test_fails")
     assert "tracehost: " not in head and report.count(f"\ntracehost: {STORY}\n") == 1
     assert report.count("\ntracehost: to go on from here: tracehost-debug ") == 1
 
 
 @needs("cc")
-def test_tracehost_run(tmp_path: Path) -> None:
+def test_tracehost_run(posix: Posix, tmp_path: Path) -> None:
     """Of the record of a failure."""
-    race, record = tmp_path / "race", tmp_path / "record.json"
-    made = run(TOP / "bin/tracehost-cc", "-g", "-o", race, TOP / "clients/posix/races/lost_wakeup.c")
-    assert made.status == 0, made.err
-    words: list[str | Path] = [TOP / "bin/tracehost-run", "--seeds", "1..25", "--record", record, race]
+    record = tmp_path / "record.json"
+    words: list[str | Path] = [TOP / "bin/tracehost-run", "--seeds", "1..25", "--record", record, posix.race("lost_wakeup")]
     lines = run(*words).err.splitlines()
     assert any(re.fullmatch(r"step \d+ of user 1001: turn 100000 enter pause -> ok", line) for line in lines), lines
     assert lines[-1] == f"to go on from here: tracehost-debug {record}"

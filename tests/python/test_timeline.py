@@ -40,9 +40,7 @@ def over_the_library(library: Path, monkeypatch: pytest.MonkeyPatch) -> None:
 
 
 def opened() -> libraries.Session:
-    found = libraries.find(needed=True)
-    assert found is not None
-    return libraries.Session(found)
+    return libraries.Session(libraries.find())
 
 
 def steps_of(scenario: dict[str, Any]) -> list[dict[str, Any]]:
@@ -224,7 +222,7 @@ def test_a_step_in_the_past_is_a_branch() -> None:
         "compare 1",
         "undo",
     )
-    with Host(transport="library") as host:
+    with Host() as host:
         lines = [host.line(json.dumps(step)) for step in session.steps[:12]]
         lines = [host.line(json.dumps({"user": 1001, **step})) for step in (
             {"op": "turn", "lwp": 100001, "act": "compute"}, {"op": "turn", "lwp": 100002, "act": "enter", "call": "exit", "code": 3},

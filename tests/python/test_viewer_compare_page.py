@@ -18,11 +18,12 @@ from test_viewer_compare import changed, shifted
 from test_viewer_state import lwp_words, process_words
 from viewer_browser import Tab
 from viewer_pages import Pages, browser, needs_browser, run_make, viewed
-from viewer_yardstick import OF_TWO_RUNS, times_to_open, yardstick
+from viewer_yardstick import times_to_make, times_to_open, yardstick_of_runs
 
 __all__ = ["viewed"]  # a fixture
 Object = dict[str, Any]
-MOST_TIMES_TO_OPEN = 6  # of the yardstick's time
+MOST_TIMES_TO_OPEN = 4  # of the yardstick's time
+MOST_TIMES_TO_MAKE = 1  # of the time to read the lines
 SESSIONS, ROWS_OF_A_SESSION = 12, 20
 ALARM = "document.body.dataset.executed = 1"
 EXAMPLE = json.loads((TOP / "examples/follow_a_fork.json").read_text())["steps"]
@@ -380,17 +381,18 @@ def test_a_run_without_steps(compared: Compared) -> None:
     assert len([row for row in tab.value(ROWS) if row["kind"] == "right"]) == 18
 
 
-def test_40000_steps(compared: Compared) -> None:
-    """One step is left out in the middle: the page opens fast, and the list scrolls."""
-    steps = viewer_runs.long_scenario(40000)["steps"]
+def test_50000_steps(compared: Compared) -> None:
+    """One step is left out in the middle: the page is made and opens fast, and the list scrolls."""
+    steps = viewer_runs.long_scenario(50000)["steps"]
     compared.open(compared.of_steps(EXAMPLE, EXAMPLE))  # the browser is there
     page = compared.of_steps(steps, [*steps[:20000], *steps[20001:]])
-    other = compared.pages.file("yardstick.html", yardstick(page, OF_TWO_RUNS))
+    assert times_to_make(*(compared.pages.room / name for name in ("left", "right"))) < MOST_TIMES_TO_MAKE
+    other = compared.pages.file("yardstick.html", yardstick_of_runs(page))
     assert times_to_open(compared.open, page, other) < MOST_TIMES_TO_OPEN
     tab = compared.open(page)
     assert "first at step 5001 of user 1001, which only the left one makes" in text_of(tab, "verdict")
-    assert tab.value("page.all.length") == 40000
+    assert tab.value("page.all.length") == 50000
     tab.value("document.getElementById('pairs').scrollTop = 1e9")
     tab.settle()
-    assert tab.value(ROWS)[-1]["number"] == 40000
+    assert tab.value(ROWS)[-1]["number"] == 50000
     assert tab.value("document.querySelectorAll('.pair').length") < 100

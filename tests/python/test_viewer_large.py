@@ -13,7 +13,7 @@ import pytest
 import viewer_runs as runs
 from viewer_browser import Tab
 from viewer_pages import Pages, browser, lines_of, needs_browser, run_make, viewed
-from viewer_yardstick import OF_A_RUN, processor_seconds, times_to_open, yardstick
+from viewer_yardstick import processor_seconds, times_to_make, times_to_open, yardstick_of_run
 
 __all__ = ["viewed"]  # a fixture
 pytestmark = needs_browser
@@ -23,7 +23,8 @@ STEPS = "page.picture.plan.steps.map(({ at }) => at + 1)"
 TICKS = "[...document.querySelectorAll('#axis text')].map((text) => Number(text.textContent))"
 FRAMES = 120
 # of the yardstick's time, by steps: of a short session most is the drawing; and of a frame of one of 300 steps
-MOST_TIMES_TO_OPEN, MOST_TIMES_A_FRAME = {5000: 8, 40000: 4}, 2
+MOST_TIMES_TO_OPEN, MOST_TIMES_A_FRAME = {5000: 6, 50000: 2}, 2
+MOST_TIMES_TO_MAKE = 1  # of the time to read the lines
 
 
 class Run:
@@ -31,10 +32,10 @@ class Run:
 
     def __init__(self, pages: Pages, scenario: runs.Scenario, name: str) -> None:
         file = pages.file(f"{name}.json", json.dumps(scenario).encode())
-        trace = pages.file(f"{name}.trace", lines_of("--json=trace+rows", file))
-        self.replies = [json.loads(line) for line in trace.read_text().splitlines()]
+        self.trace = pages.file(f"{name}.trace", lines_of("--json=trace+rows", file))
+        self.replies = [json.loads(line) for line in self.trace.read_text().splitlines()]
         self.page = pages.room / f"{name}.html"
-        run_make(trace, "-o", self.page, check=True)
+        run_make(self.trace, "-o", self.page, check=True)
 
     def numbers(self, *words: str) -> list[int]:
         """The numbers of the steps with these replies."""
@@ -252,7 +253,7 @@ def frame_milliseconds(tab: Tab) -> float:
 def test_a_long_session_is_fast(tabs: list[Tab], pages: Pages, some: Run, count: int) -> None:
     """By the time of the processor, in times what other pages of the same browser take: the machine may have other work."""
     run = Run(pages, runs.long_scenario(count), f"long{count}")
-    other = pages.file("yardstick.html", yardstick(run.page, OF_A_RUN))
+    other = pages.file("yardstick.html", yardstick_of_run(run.trace))
     open_tab(tabs, pages.empty())  # the browser has begun
     assert times_to_open(lambda page: open_tab(tabs, page), run.page, other) < MOST_TIMES_TO_OPEN[count]
     short_frame = min(frame_milliseconds(open_tab(tabs, some.page)) for _ in range(2))
@@ -263,3 +264,11 @@ def test_a_long_session_is_fast(tabs: list[Tab], pages: Pages, some: Run, count:
     assert frame < MOST_TIMES_A_FRAME * short_frame
     tab.value(f"page.goToStep({count // 2})")
     assert tab.value("document.getElementById('active').dataset.line") == str(count // 2)
+
+
+def test_a_page_has_each_part_of_its_lines_once(pages: Pages) -> None:
+    """The page of a long session is a small part of its trace, and fast to make."""
+    run = Run(pages, runs.long_scenario(50000), "parts")
+    data = run.page.stat().st_size - pages.empty().stat().st_size
+    assert data < 30 * len(run.replies) < run.trace.stat().st_size / 10
+    assert times_to_make(run.trace) < MOST_TIMES_TO_MAKE

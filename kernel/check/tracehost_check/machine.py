@@ -42,9 +42,7 @@ class Machine:
 
     def __init__(self, kill_on_debugger_exit: bool) -> None:
         """Raises OSError if there is no library, and MemoryError."""
-        library = find(needed=True)
-        assert library is not None
-        self._tried = Session(library, kill_on_debugger_exit)
+        self._tried = Session(find(), kill_on_debugger_exit)
         self._free: list[Session] = []
         self.calls = TypedCalls(self._tried, Progress())
 
