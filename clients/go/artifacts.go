@@ -43,14 +43,16 @@ func (s *Session) RecordTest(t TB) {
 	lost := func(err error) { t.Logf("tracehost: %s: not recorded: %v", t.Name(), err) }
 	files, err := newArtifacts(t)
 	if err == nil {
-		err = s.recordInto(files.now("json"), files.now("out"), syscall.O_NOFOLLOW, lost)
+		err = files.whileLocked(func() error {
+			files.findDead(t)
+			return s.recordInto(files.now("json"), files.now("out"), syscall.O_NOFOLLOW, lost)
+		})
 	}
 	if err != nil {
 		lost(err)
 		return
 	}
 	record := s.record
-	isFree(record.scenario.File) // others then know that it isn't what a dead process has left
 	t.Cleanup(func() {
 		if err := files.end(t, record); err != nil {
 			t.Logf("tracehost: the record stays %s: %v", files.now("json"), err)
@@ -65,14 +67,13 @@ func isFree(file *os.File) bool {
 
 // artifacts are the files of a test. While it runs, the process's number ends their names.
 type artifacts struct {
-	folder, name string
-	began        time.Time
-	dead         []string // what processes that have died have left of this test
+	folder, stem, name string
+	began              time.Time
+	dead               []string // what processes that have died have left of this test
 }
 
 var (
-	namesMutex sync.Mutex
-	namesInUse = map[string]bool{}
+	namesInUse sync.Map
 	notPlain   = regexp.MustCompile(`[^A-Za-z0-9_.-]`)
 	ofARunning = regexp.MustCompile(`^(-\d+)?\.(json|out|html)\.\d+$`)
 )
@@ -95,22 +96,33 @@ func newArtifacts(t TB) (*artifacts, error) {
 	if err := first(err, os.MkdirAll(folder, 0o777)); err != nil {
 		return nil, err
 	}
-	made := &artifacts{folder: folder, name: stem, began: time.Now()}
-	made.findDead(t, stem)
-	namesMutex.Lock()
-	defer namesMutex.Unlock()
-	for nth := 2; namesInUse[made.name]; nth++ {
+	made := &artifacts{folder: folder, stem: stem, name: stem, began: time.Now()}
+	_, isUsed := namesInUse.LoadOrStore(made.name, true)
+	for nth := 2; isUsed; nth++ {
 		made.name = fmt.Sprintf("%s-%d", stem, nth)
+		_, isUsed = namesInUse.LoadOrStore(made.name, true)
 	}
-	namesInUse[made.name] = true
 	return made, nil
 }
 
+// whileLocked runs a function while no other process begins or ends a record in the folder, or looks for dead ones.
+func (a *artifacts) whileLocked(run func() error) error {
+	folder, err := os.Open(a.folder)
+	if err != nil {
+		return err
+	}
+	defer folder.Close()
+	for try := 0; !isFree(folder) && try < 1000; try++ {
+		time.Sleep(10 * time.Millisecond)
+	}
+	return run()
+}
+
 // findDead tells of the scenarios that nobody has locked though their names end by a process's number.
-func (a *artifacts) findDead(t TB, stem string) {
+func (a *artifacts) findDead(t TB) {
 	entries, _ := os.ReadDir(a.folder)
 	for _, entry := range entries {
-		path, rest := filepath.Join(a.folder, entry.Name()), strings.TrimPrefix(entry.Name(), stem)
+		path, rest := filepath.Join(a.folder, entry.Name()), strings.TrimPrefix(entry.Name(), a.stem)
 		if rest != entry.Name() && ofARunning.MatchString(rest) && isDead(path) {
 			a.dead = append(a.dead, path)
 			t.Logf("tracehost: left by a test that ended its process: %s", path)
@@ -138,26 +150,15 @@ func (a *artifacts) end(t TB, record *recording) error {
 	if err := a.leaveTrace(); err != nil {
 		t.Logf("tracehost: no trace is left: %v", err)
 	}
-	told := ""
-	if t.Failed() {
-		told = a.told(t, record.steps)
-	}
-	folder, err := os.Open(a.folder) // nobody else renames or removes its files while it is locked
-	if err != nil {
-		return err
-	}
-	defer folder.Close()
-	for try := 0; !isFree(folder) && try < 1000; try++ {
-		time.Sleep(10 * time.Millisecond)
-	}
 	if !t.Failed() {
-		a.remove()
-		return nil
+		return a.whileLocked(func() error { a.remove(); return nil })
 	}
-	os.Remove(a.last("html")) // of an earlier run
-	os.Rename(a.now("html"), a.last("html"))
-	defer t.Logf("%s", told)
-	return first(os.Rename(a.now("out"), a.last("out")), os.Rename(a.now("json"), a.last("json")))
+	defer t.Logf("%s", a.told(t, record.steps))
+	return a.whileLocked(func() error {
+		os.Remove(a.last("html")) // of an earlier run
+		os.Rename(a.now("html"), a.last("html"))
+		return first(os.Rename(a.now("out"), a.last("out")), os.Rename(a.now("json"), a.last("json")))
+	})
 }
 
 func (a *artifacts) remove() {
@@ -168,13 +169,11 @@ func (a *artifacts) remove() {
 		}
 	}
 	for _, path := range a.dead {
-		if isDead(path) { // a scenario that was just made wasn't locked yet
+		if isDead(path) { // its number may be another process's by now
 			os.Remove(path)
 		}
 	}
-	namesMutex.Lock()
-	defer namesMutex.Unlock()
-	delete(namesInUse, a.name)
+	namesInUse.Delete(a.name)
 }
 
 // leaveTrace copies the scenario to the folder $TRACEHOST_TRACES, if it is set.
@@ -204,11 +203,10 @@ func (a *artifacts) told(t TB, steps int) string {
 
 func (a *artifacts) makePage(test, at string) error {
 	trace, err := printed("TRACEHOST", "tracehost", nil, "--json=trace+rows", "--", a.now("json"))
-	if err != nil {
-		return err
+	if err == nil {
+		_, err = printed("TRACEHOST_VIEW", "tracehost-view", trace, "--output="+a.now("html"), "--title="+test, "--failed="+test,
+			"--message=the test has failed", at, "-")
 	}
-	_, err = printed("TRACEHOST_VIEW", "tracehost-view", trace, "--output="+a.now("html"), "--title="+test, "--failed="+test,
-		"--message=the test has failed", at, "-")
 	return err
 }
 

@@ -83,6 +83,7 @@ func (s *Session) recordInto(scenario, lines string, flags int, lost func(error)
 		made.close()
 		return err
 	}
+	isFree(made.scenario.File) // locked, so that others know that it isn't what a dead process has left
 	s.record = made
 	return nil
 }

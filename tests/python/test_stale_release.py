@@ -87,7 +87,7 @@ def test_python(stale: Stale) -> None:
     assert said.endswith(f"FileNotFoundError: {LIBRARY}")
     said = stale.run("python3 -c 'import tracehost; tracehost.view(\"examples/first.json\")'", 1)
     assert said.endswith(f"FileNotFoundError: {PROGRAM}")
-    assert stale.run("echo spawn | python3 -m tracehost.debug", 1) == f"tracehost-debug: {PROGRAM}"
+    assert stale.run("echo spawn | python3 -m tracehost.debug", 1) == f"tracehost-debug: {LIBRARY}"
 
 
 @needs("cc")

@@ -132,6 +132,12 @@ pub const ALL: &[Race] = &[
         signals::lost_wakeup,
     ),
     Race::new(
+        "newborn_lwp",
+        "a thread is born while another is stepped over a breakpoint",
+        0,
+        threads::newborn_lwp,
+    ),
+    Race::new(
         "stale_lwp",
         "an exec takes the thread away that has stopped before",
         0,

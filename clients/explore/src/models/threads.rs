@@ -2,7 +2,7 @@
 
 use super::attach::join;
 use super::{next_one, stop, stopped_by, threads, traced_child, Processes, Setup};
-use crate::process::{Next, When};
+use crate::process::{Next, Place, When};
 use crate::script::{succeeded, Go, Script};
 use crate::step::Step;
 use tracehost::{Act, Call, Error, New, Reply, Request, Session, Signal, StopFlags, WaitStatus};
@@ -154,8 +154,14 @@ pub fn step_over_breakpoint(host: &mut Session, setup: Setup) -> Result<Processe
 
 /// A thread that calls the function once.
 fn counted(setup: Setup, own: New, is_first: bool) -> Script {
-    let user = setup.user;
-    let mut script = Script::new(format!("thread {}", own.lwp), user, own);
+    let mut script = Script::new(format!("thread {}", own.lwp), setup.user, own);
+    call_counted(&mut script, setup.user, own.lwp);
+    join(&mut script, is_first, setup.size - 1);
+    script
+}
+
+/// The call. A thread may have to report its birth first.
+fn call_counted(script: &mut Script, user: u32, lwp: u32) {
     script.label("call");
     script.step(
         move |_, memory| {
@@ -164,21 +170,20 @@ fn counted(setup: Setup, own: New, is_first: bool) -> Script {
             } else {
                 Act::Compute
             };
-            Next::Step(Step::Turn(user, own.lwp, act), When::Runs)
+            Next::Step(Step::Turn(user, lwp, act), When::Runs)
         },
-        |_, memory, answer| match memory[BREAKPOINT] {
-            1 => succeeded(answer),
+        |_, memory, answer| match answer {
+            Ok(Reply::Stopped { flags, .. }) if flags.contains(StopFlags::PL_FLAG_BORN) => Ok(Go::To("call")),
+            answer if memory[BREAKPOINT] == 1 => succeeded(answer),
             _ => Ok(Go::To("return")), // also if a step ends here
         },
     );
     // it stops, and the call is made again
     script.step(
-        move |_, _| Next::Step(Step::Turn(user, own.lwp, Act::Compute), When::Runs),
+        move |_, _| Next::Step(Step::Turn(user, lwp, Act::Compute), When::Runs),
         |_, _, _| Ok(Go::To("call")),
     );
     script.label("return");
-    join(&mut script, is_first, setup.size - 1);
-    script
 }
 
 fn counting(setup: Setup, own: New, lwps: &[New]) -> Script {
@@ -244,4 +249,92 @@ fn others(script: &mut Script, lwps: &[New], request: Request) {
             |_, _, _| Ok(Go::On),
         );
     }
+}
+
+/// A debugger counts calls as above, and suspends the other threads for a step. One that was created before reports its birth
+/// during the step, and is let go. The remedy: it is suspended, too.
+pub fn newborn_lwp(host: &mut Session, setup: Setup) -> Result<Processes, Error> {
+    let (debugger, target, born) = threaded(host, setup.user)?;
+    let mut main = Script::new("target", setup.user, target);
+    main.call(Call::ThrNew);
+    call_counted(&mut main, setup.user, target.lwp);
+    join(&mut main, true, 1);
+    let mut thread = Script::new("thread", setup.user, born);
+    call_counted(&mut thread, setup.user, born.lwp);
+    join(&mut thread, false, 1);
+    let counting = counting_births(setup, debugger, target, born.lwp);
+    Ok(vec![Box::new(counting), Box::new(main), Box::new(thread)])
+}
+
+fn counting_births(setup: Setup, own: New, target: New, born: u32) -> Script {
+    const HITS: usize = 0;
+    const IS_BORN: usize = 1;
+    let pid = target.pid;
+    let mut script = Script::new("debugger", setup.user, own);
+    script.wait(pid, stopped_by(Signal::SIGSTOP));
+    script.ptrace(Request::LwpEvents(true), pid);
+    script.label("resume");
+    script.ptrace(Request::Continue(None), pid);
+    script.also(|memory| memory[BREAKPOINT] = 1);
+    script.wait(pid, |place, status| match status {
+        WaitStatus::Stopped(_) => Ok(Go::On),
+        WaitStatus::Exited(0) if place.bytes[HITS] == 2 => Ok(Go::End),
+        status => Err(format!("{status}, and {} of 2 calls were counted", place.bytes[HITS])),
+    });
+    births(&mut script, pid, IS_BORN, "resume", "resume");
+    script.local(move |place| {
+        place.bytes[HITS] += 1;
+        match place.bytes[IS_BORN] == 1 || place.numbers[AT_HAND] == born {
+            true => Go::To("suspend"),
+            false => Go::To("step"),
+        }
+    });
+    let other = move |place: &Place| match place.numbers[AT_HAND] == born {
+        true => target.lwp,
+        false => born,
+    };
+    script.label("suspend");
+    script.ptrace_then(Request::Suspend, other, |_, answer| succeeded(answer));
+    script.label("step");
+    script.ptrace_then(
+        Request::Step(None),
+        |place| place.numbers[AT_HAND],
+        |_, answer| succeeded(answer),
+    );
+    script.also(|memory| memory[BREAKPOINT] = 0);
+    script.wait(pid, stopped_by(Signal::SIGTRAP));
+    births(
+        &mut script,
+        pid,
+        IS_BORN,
+        if setup.right { "suspend" } else { "step" },
+        "step",
+    );
+    script.jump_if(IS_BORN, 0, "resume");
+    script.ptrace_then(Request::Resume, other, |_, answer| succeeded(answer));
+    script.jump("resume");
+    script
+}
+
+/// Looks at a stop: the birth and the end of a thread lead to these labels, and its LWP is at hand at another one.
+fn births(script: &mut Script, pid: u32, is_born: usize, birth: &'static str, end: &'static str) {
+    script.ptrace_then(
+        Request::LwpInfo,
+        move |_| pid,
+        move |place, answer| {
+            let Ok(Reply::Info(info)) = answer else {
+                return succeeded(answer);
+            };
+            if info.flags.contains(StopFlags::PL_FLAG_BORN) {
+                place.bytes[is_born] = 1;
+                return Ok(Go::To(birth));
+            }
+            if info.flags.contains(StopFlags::PL_FLAG_EXITED) {
+                place.bytes[is_born] = 0;
+                return Ok(Go::To(end));
+            }
+            place.numbers[AT_HAND] = info.lwp;
+            Ok(Go::On)
+        },
+    );
 }
