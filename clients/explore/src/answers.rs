@@ -43,7 +43,7 @@ impl<T: Clone + Eq + Hash> Numbered<T> {
 
 /// What the users see, by its number until all is forgotten.
 #[derive(Clone, Copy, Debug, PartialEq, Eq)]
-pub struct Seen(pub u32);
+pub struct ViewId(pub u32);
 
 /// A question by its number until all is forgotten.
 #[derive(Clone, Copy, Debug, PartialEq, Eq)]
@@ -53,7 +53,7 @@ pub struct Question(NonZeroU32);
 #[derive(Clone, Copy, Debug, PartialEq, Eq)]
 pub struct Known {
     answer: NonZeroU32,
-    pub after: Seen,
+    pub after: ViewId,
 }
 
 /// A question, its answer, and what the users see after it.
@@ -61,7 +61,7 @@ pub struct Known {
 struct Entry {
     question: NonZeroU16,
     answer: NonZeroU16,
-    after: Seen,
+    after: ViewId,
 }
 
 impl Entry {
@@ -97,7 +97,7 @@ struct Block {
 #[derive(Clone, Copy, Debug)]
 struct Row {
     block: u32,
-    way: Option<(Question, Seen)>,
+    way: Option<(Question, ViewId)>,
 }
 
 /// Answers `A` to questions `Q`.
@@ -148,29 +148,29 @@ impl<Q: Clone + Eq + Hash, A: Clone + Eq + Hash> Answers<Q, A> {
     }
 
     /// The number of a view.
-    fn view(&mut self, key: Key) -> Result<(Seen, bool), Refused> {
+    fn view(&mut self, key: Key) -> Result<(ViewId, bool), Refused> {
         let (number, is_new) = self.views.insert(key)?;
         if is_new {
             one_more(&mut self.rows)?;
             self.rows.push(Row { block: NONE, way: None });
         }
-        Ok((Seen(number), is_new))
+        Ok((ViewId(number), is_new))
     }
 
     /// The numbers of views, whose answers are asked for next. What that needs is read for all of them first: so a processor
     /// waits for all as long as for one.
-    pub fn views(&mut self, keys: impl Iterator<Item = Key> + Clone) -> Result<Vec<Seen>, Refused> {
+    pub fn views(&mut self, keys: impl Iterator<Item = Key> + Clone) -> Result<Vec<ViewId>, Refused> {
         black_box(keys.clone().fold(0, |all, key| all ^ self.views.near(key)));
         let places = keys.clone().map(|key| self.views.candidate(key));
         let places: Vec<Option<u32>> = places.collect();
         let mut seen = room(places.len())?;
         for (key, place) in keys.zip(places) {
             seen.push(match place {
-                Some(place) if self.views.is_at(key, place) => Seen(place),
+                Some(place) if self.views.is_at(key, place) => ViewId(place),
                 _ => self.view(key)?.0,
             });
         }
-        let seen: Vec<Seen> = seen;
+        let seen: Vec<ViewId> = seen;
         let last = seen.iter().map(|view| self.row(*view).block);
         let before = |at: u32| self.blocks.get(at as usize).map_or(NONE, |block| block.before);
         let blocks: Vec<u32> = last.map(before).collect();
@@ -178,11 +178,11 @@ impl<Q: Clone + Eq + Hash, A: Clone + Eq + Hash> Answers<Q, A> {
         Ok(seen)
     }
 
-    pub fn key(&self, view: Seen) -> Key {
+    pub fn key(&self, view: ViewId) -> Key {
         self.views.keys()[view.0 as usize]
     }
 
-    fn row(&self, view: Seen) -> &Row {
+    fn row(&self, view: ViewId) -> &Row {
         &self.rows[view.0 as usize]
     }
 
@@ -190,7 +190,7 @@ impl<Q: Clone + Eq + Hash, A: Clone + Eq + Hash> Answers<Q, A> {
         Ok(Question(self.questions.number(question)?))
     }
 
-    pub fn get(&self, view: Seen, question: Question) -> Option<Known> {
+    pub fn get(&self, view: ViewId, question: Question) -> Option<Known> {
         let mut at = self.row(view).block;
         while let Some(block) = self.blocks.get(at as usize) {
             let mut entries = block.entries.iter().flatten();
@@ -206,7 +206,7 @@ impl<Q: Clone + Eq + Hash, A: Clone + Eq + Hash> Answers<Q, A> {
     }
 
     /// Keeps an answer that isn't known yet, if there aren't too many.
-    pub fn put(&mut self, view: Seen, question: Question, answer: &A, after: Key) -> Result<Known, Refused> {
+    pub fn put(&mut self, view: ViewId, question: Question, answer: &A, after: Key) -> Result<Known, Refused> {
         let answer = self.answers.number(answer)?;
         let (after, is_new) = self.view(after)?;
         if is_new {
@@ -219,7 +219,7 @@ impl<Q: Clone + Eq + Hash, A: Clone + Eq + Hash> Answers<Q, A> {
         Ok(known)
     }
 
-    fn add(&mut self, view: Seen, entry: Entry) -> Result<(), Refused> {
+    fn add(&mut self, view: ViewId, entry: Entry) -> Result<(), Refused> {
         let before = self.row(view).block;
         let block = self.blocks.get_mut(before as usize);
         let free = block.and_then(|block| block.entries.iter_mut().find(|entry| entry.is_none()));
@@ -241,7 +241,7 @@ impl<Q: Clone + Eq + Hash, A: Clone + Eq + Hash> Answers<Q, A> {
     }
 
     /// From which view this one was reached first, and by which question.
-    pub fn way(&self, view: Seen) -> Option<(Seen, &Q)> {
+    pub fn way(&self, view: ViewId) -> Option<(ViewId, &Q)> {
         let way = self.row(view).way;
         way.map(|(Question(number), from)| (from, self.questions.value(number)))
     }

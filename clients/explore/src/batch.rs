@@ -1,19 +1,19 @@
 //! States on their way to the thread that owns them, as words.
 
-use crate::answers::Seen;
+use crate::answers::ViewId;
 use crate::hash::Key;
 use crate::hosts::Hosts;
 use crate::progress::Progress;
 use crate::search::{Reached, Search};
 use crate::set::part_of;
-use crate::spot::key_of;
+use crate::state::key_of;
 use std::sync::atomic::Ordering::Relaxed;
 use tracehost::Session;
 
 /// States on their way to the thread that owns them, and sessions that have come there.
 #[derive(Default)]
 pub struct Batch {
-    /// Key, link, order and spot of each.
+    /// Key, link, order and state of each.
     pub words: Vec<u64>,
     pub sessions: Vec<(Key, Session)>,
 }
@@ -34,14 +34,14 @@ pub fn write(words: &mut Vec<u64>, reached: &Reached) {
     let Key(first, second) = reached.key.unwrap_or(Key(0, 0));
     words.extend([first, second, reached.link.packed(), reached.order]);
     words.extend([reached.view.0.into(), 0]);
-    reached.spot.write_processes(words);
+    reached.state.write_processes(words);
 }
 
 /// Gives the states of a batch their views, and their keys.
 pub fn complete(search: &Search, hosts: &Hosts, words: &mut [u64]) {
     let width = HEAD + search.start.width();
     for words in words.chunks_exact_mut(width) {
-        let view = hosts.key(Seen(words[HEAD] as u32));
+        let view = hosts.key(ViewId(words[HEAD] as u32));
         (words[HEAD], words[HEAD + 1]) = (view.0, view.1);
     }
     if search.symmetry.is_none() {

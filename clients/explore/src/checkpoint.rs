@@ -5,7 +5,7 @@ use crate::list::List;
 use crate::memory::{room, Refused};
 use crate::packed::{pack, Packing};
 use crate::set::PARTS;
-use crate::spots::Spots;
+use crate::states::States;
 use std::fs::{self, File};
 use std::io::{self, BufReader, BufWriter, Error, ErrorKind, Read, Write};
 use std::path::{Path, PathBuf};
@@ -20,9 +20,9 @@ pub type Identity = Vec<(&'static str, String)>;
 pub struct SavedPart {
     pub keys: List<Key>,
     pub links: List<u64>,
-    /// The place of the first state of the front, and its spots, packed by themselves.
+    /// The place of the first state of the front, and its states, packed by themselves.
     pub first: usize,
-    pub spots: Vec<Vec<u8>>,
+    pub states: Vec<Vec<u8>>,
 }
 
 /// The same, to be written.
@@ -32,8 +32,8 @@ pub struct PartToSave<'a> {
     /// How many of them there are. Later ones are of a level that isn't done.
     pub count: usize,
     pub first: usize,
-    /// The spots, how they are packed, and their words.
-    pub spots: Option<(&'a Spots, &'a Packing, usize)>,
+    /// The states, how they are packed, and their words.
+    pub states: Option<(&'a States, &'a Packing, usize)>,
 }
 
 /// A search between two levels, to be written: one part is there at a time.
@@ -54,7 +54,7 @@ pub struct Saved {
     pub parts: Vec<SavedPart>,
 }
 
-/// About how many bytes of spots are written at once.
+/// About how many bytes of states are written at once.
 const PIECE: usize = 1 << 16;
 
 struct Output<W> {
@@ -73,10 +73,10 @@ impl<W: Write> Output<W> {
         words.try_for_each(|word| self.word(word))
     }
 
-    /// Pieces with whole spots, and one of no bytes.
-    fn spots(&mut self, (spots, packing, width): (&Spots, &Packing, usize)) -> io::Result<()> {
+    /// Pieces with whole states, and one of no bytes.
+    fn states(&mut self, (states, packing, width): (&States, &Packing, usize)) -> io::Result<()> {
         let mut piece = Vec::new();
-        spots.each(packing, width, |words| {
+        states.each(packing, width, |words| {
             pack(words, &mut piece);
             if piece.len() < PIECE {
                 return Ok::<(), Error>(());
@@ -153,7 +153,7 @@ impl<R: Read> Input<R> {
         Ok(keys)
     }
 
-    fn spots(&mut self) -> io::Result<Vec<Vec<u8>>> {
+    fn states(&mut self) -> io::Result<Vec<Vec<u8>>> {
         let mut pieces = Vec::new();
         loop {
             let piece = self.bytes()?;
@@ -258,7 +258,7 @@ fn write_new<'a>(
         output.words(part.count, keys.flat_map(|key| [key.0, key.1]))?;
         output.words(part.count, part.links.iter().take(part.count).copied())?;
         output.word(part.first as u64)?;
-        part.spots.map_or(Ok(()), |spots| output.spots(spots))?;
+        part.states.map_or(Ok(()), |states| output.states(states))?;
         output.bytes(&[])?;
     }
     let Key(first, second) = output.sum.key();
@@ -293,7 +293,7 @@ pub fn read(path: &Path, identity: &Identity) -> io::Result<Saved> {
             keys: input.keys()?,
             links: input.words()?,
             first: input.word()? as usize,
-            spots: input.spots()?,
+            states: input.states()?,
         });
     }
     let sum = input.sum.key();
@@ -350,7 +350,7 @@ mod tests {
     const WIDTH: usize = 3;
 
     /// Some have none, and one more than a piece.
-    fn spots(part: usize) -> Vec<[u64; WIDTH]> {
+    fn states(part: usize) -> Vec<[u64; WIDTH]> {
         let count = if part == 9 { PIECE as u64 / 10 } else { part as u64 % 5 };
         (0..count).map(|n| [mixed(n), n, mixed(n)]).collect()
     }
@@ -358,12 +358,12 @@ mod tests {
     fn saved() -> Saved {
         let part = |part: usize| {
             let (n, mut bytes) = (part as u64, Vec::new());
-            spots(part).iter().for_each(|words| pack(words, &mut bytes));
+            states(part).iter().for_each(|words| pack(words, &mut bytes));
             SavedPart {
                 keys: List::of((0..n).map(|k| Key(k, n))).expect("memory"),
                 links: List::of(0..n).expect("memory"),
                 first: part / 2,
-                spots: bytes.chunks(usize::MAX).map(<[u8]>::to_vec).collect(),
+                states: bytes.chunks(usize::MAX).map(<[u8]>::to_vec).collect(),
             }
         };
         Saved {
@@ -377,13 +377,13 @@ mod tests {
     fn written(file: &Path, identity: &Identity, saved: &Saved) {
         let mut packing = Packing::default();
         let mut packed = |part: usize| {
-            let mut packed = Spots::default();
-            for words in spots(part) {
+            let mut packed = States::default();
+            for words in states(part) {
                 packed.add(&mut packing, &words).expect("memory");
             }
             packed
         };
-        let packed: Vec<Spots> = (0..PARTS).map(&mut packed).collect();
+        let packed: Vec<States> = (0..PARTS).map(&mut packed).collect();
         // what comes later in a list is of the next level
         let lists = saved.parts.iter().map(|part| (part.keys.clone(), part.links.clone()));
         let lists: Vec<_> = lists
@@ -398,7 +398,7 @@ mod tests {
             links,
             count: part.keys.len(),
             first: part.first,
-            spots: Some((packed, &packing, WIDTH)),
+            states: Some((packed, &packing, WIDTH)),
         });
         let saved = ToSave {
             depth: saved.depth,
@@ -419,9 +419,9 @@ mod tests {
         let file = folder.join("search");
         written(&file, &identity("a"), &saved());
         let mut found = read(&file, &identity("a")).expect("a checkpoint");
-        assert!(found.parts[9].spots.len() > 1);
+        assert!(found.parts[9].states.len() > 1);
         for part in &mut found.parts {
-            part.spots = part.spots.concat().chunks(usize::MAX).map(<[u8]>::to_vec).collect();
+            part.states = part.states.concat().chunks(usize::MAX).map(<[u8]>::to_vec).collect();
         }
         assert!(found == saved());
         let other = read(&file, &identity("b")).expect_err("another model");

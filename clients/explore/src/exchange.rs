@@ -20,7 +20,7 @@ impl Member {
 }
 
 /// What a user sees, by `tracehost_state`.
-pub type State = Arc<[u32]>;
+pub type UserState = Arc<[u32]>;
 
 /// The words before the rows: a setting and two cursors.
 const HEAD: usize = 3;

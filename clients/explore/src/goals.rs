@@ -8,7 +8,7 @@ use crate::places::Places;
 use crate::process::Next;
 use crate::rounds::{self, Bit};
 use crate::search::{Failure, Fault, Search};
-use crate::spot::Spot;
+use crate::state::State;
 use crate::symmetry::Symmetry;
 use tracehost::{Error, Session};
 
@@ -102,26 +102,26 @@ impl Search<'_> {
 
     /// The fault of a state from which something can't be reached.
     pub fn lack(&self, lacking: &Lacking, start: &Session) -> Result<Fault, Error> {
-        let spot = self.replay(lacking.state, &mut start.try_clone()?, |_, _, _| ())?;
+        let state = self.replay(lacking.number, &mut start.try_clone()?, |_, _, _| ())?;
         let failure = Failure {
             property: self.properties[self.property_of(lacking.bit)].name.clone(),
-            why: self.lacks(lacking.bit, &spot),
+            why: self.lacks(lacking.bit, &state),
         };
-        Ok(Fault::new(failure, lacking.state, None, lacking.order))
+        Ok(Fault::new(failure, lacking.number, None, lacking.order))
     }
 
     /// What can't be reached from a state, in words.
-    fn lacks(&self, bit: Bit, spot: &Spot) -> String {
+    fn lacks(&self, bit: Bit, state: &State) -> String {
         match bit {
             Bit::Moves(place) => {
                 // without a deadlock another process of the user goes on
                 let others = self.deadlock.map_or("", |_| ", while others go on");
-                let step = self.step_at(spot, place);
+                let step = self.step_at(state, place);
                 let name = self.processes[place].name();
                 format!("{name} waits for ever{others}: {}", step.as_deref().unwrap_or("memory"))
             }
             Bit::Calls(place) | Bit::Gains(place) => {
-                let step = self.step_at(spot, place);
+                let step = self.step_at(state, place);
                 let step = step.map_or(String::new(), |step| format!(": {step}"));
                 let name = self.processes[place].name();
                 format!("{name} goes round for ever, and its calls change nothing{step}")
@@ -138,8 +138,8 @@ impl Search<'_> {
     }
 
     /// The step that a process asks for.
-    fn step_at(&self, spot: &Spot, place: usize) -> Option<String> {
-        match self.processes[place].next(&spot.places[place], &spot.memories[self.user_of[place]]) {
+    fn step_at(&self, state: &State, place: usize) -> Option<String> {
+        match self.processes[place].next(&state.places[place], &state.memories[self.user_of[place]]) {
             Next::Step(step, _) => Some(step.to_string()),
             Next::Blocked | Next::Ended => None,
         }

@@ -3,7 +3,7 @@
 mod way;
 
 use crate::alike::{told_apart, Alike};
-use crate::answers::{Answers, Known, Question, Seen};
+use crate::answers::{Answers, Known, Question, ViewId};
 use crate::calls::Calls;
 use crate::hash::{Hasher, Key};
 use crate::memory::Refused;
@@ -17,7 +17,7 @@ use tracehost::{Caller, Errno, Error, Reply, Session, SignalSet, State, WaitOpti
 
 /// A question about what the users see.
 #[derive(Clone, Copy, Debug, PartialEq, Eq, Hash)]
-enum Ask {
+enum ModelQuestion {
     Step(Step),
     /// Which processes a wait for any is for.
     Children(Caller),
@@ -39,16 +39,19 @@ enum Ask {
     Apart(u32, bool),
 }
 
-impl Ask {
+impl ModelQuestion {
     /// The number of whom it is about.
     fn number(self) -> u32 {
         match self {
-            Ask::Step(step) => step.user(),
-            Ask::Children(caller) | Ask::News(caller, _) => caller.pid,
-            Ask::Signal(_, lwp) => lwp,
-            Ask::State(user) | Ask::There(user) | Ask::Live(user) | Ask::Broken(user, _) => user,
-            Ask::Holds(user, property, side) => user + 2 * property as u32 + side as u32,
-            Ask::Apart(user, _) => user,
+            ModelQuestion::Step(step) => step.user(),
+            ModelQuestion::Children(caller) | ModelQuestion::News(caller, _) => caller.pid,
+            ModelQuestion::Signal(_, lwp) => lwp,
+            ModelQuestion::State(user)
+            | ModelQuestion::There(user)
+            | ModelQuestion::Live(user)
+            | ModelQuestion::Broken(user, _) => user,
+            ModelQuestion::Holds(user, property, side) => user + 2 * property as u32 + side as u32,
+            ModelQuestion::Apart(user, _) => user,
         }
     }
 }
@@ -57,7 +60,7 @@ impl Ask {
 pub type Broken = Option<(usize, String)>;
 
 #[derive(Clone, Debug, PartialEq, Eq, Hash)]
-enum Told {
+enum ModelAnswer {
     Step(Answer),
     Numbers(Arc<[u32]>),
     Met(Met),
@@ -77,7 +80,7 @@ pub enum Met {
 
 /// Where a question is asked: what the users see there, and how a session at the start comes there.
 pub struct At<'a> {
-    pub view: Seen,
+    pub view: ViewId,
     pub replay: &'a dyn Fn(&mut Session) -> Result<(), Error>,
 }
 
@@ -109,9 +112,9 @@ pub struct Hosts<'a> {
     scratch_view: Option<Key>,
     spare: Vec<Session>,
     sessions: Sessions,
-    answers: Answers<Ask, Told>,
+    answers: Answers<ModelQuestion, ModelAnswer>,
     /// Questions that were asked last, by who asks.
-    recent: Vec<Option<(Ask, Question)>>,
+    recent: Vec<Option<(ModelQuestion, Question)>>,
     numbers: Vec<u32>,
     /// The steps from a session that is kept, the last one first.
     steps: Vec<Step>,
@@ -183,7 +186,7 @@ impl<'a> Hosts<'a> {
     }
 
     /// What the users see in some states, before questions about them. What was seen before may be forgotten.
-    pub fn seen(&mut self, views: impl Iterator<Item = Key> + Clone) -> Result<Vec<Seen>, Refused> {
+    pub fn seen(&mut self, views: impl Iterator<Item = Key> + Clone) -> Result<Vec<ViewId>, Refused> {
         if self.answers.is_full() {
             self.answers.forget()?;
             self.recent.fill(None);
@@ -199,7 +202,7 @@ impl<'a> Hosts<'a> {
         let _ = self.answers.forget(); // all but a little is free
     }
 
-    pub fn key(&self, view: Seen) -> Key {
+    pub fn key(&self, view: ViewId) -> Key {
         self.answers.key(view)
     }
 
@@ -218,21 +221,21 @@ impl<'a> Hosts<'a> {
     }
 
     /// The answer to a step, and what the users see after it. Who asks is a number, which for one step is mostly the same.
-    pub fn step(&mut self, at: &At, step: Step, who: usize) -> Result<(&Answer, Seen), Error> {
-        let known = self.known(at, Ask::Step(step), who)?;
+    pub fn step(&mut self, at: &At, step: Step, who: usize) -> Result<(&Answer, ViewId), Error> {
+        let known = self.known(at, ModelQuestion::Step(step), who)?;
         match self.answers.answer(known) {
-            Told::Step(answer) => Ok((answer, known.after)),
+            ModelAnswer::Step(answer) => Ok((answer, known.after)),
             told => unreachable!("{told:?}"),
         }
     }
 
     /// Whether the answer to a step is known.
     pub fn is_known(&mut self, at: &At, step: Step, who: usize) -> Result<bool, Refused> {
-        let question = self.question(&Ask::Step(step), who)?;
+        let question = self.question(&ModelQuestion::Step(step), who)?;
         Ok(self.answers.get(at.view, question).is_some())
     }
 
-    fn question(&mut self, ask: &Ask, who: usize) -> Result<Question, Refused> {
+    fn question(&mut self, ask: &ModelQuestion, who: usize) -> Result<Question, Refused> {
         let recent = &mut self.recent[who % RECENT];
         match recent {
             Some((known, question)) if known == ask => Ok(*question),
@@ -246,56 +249,56 @@ impl<'a> Hosts<'a> {
 
     /// The processes that a wait for any is for.
     pub fn children(&mut self, at: &At, caller: Caller) -> Result<Arc<[u32]>, Error> {
-        self.listed(at, Ask::Children(caller))
+        self.listed(at, ModelQuestion::Children(caller))
     }
 
     /// Those that it may report.
     pub fn news(&mut self, at: &At, caller: Caller, options: WaitOptions) -> Result<Arc<[u32]>, Error> {
-        self.listed(at, Ask::News(caller, options))
+        self.listed(at, ModelQuestion::News(caller, options))
     }
 
     /// The user's processes that haven't ended.
     pub fn live(&mut self, at: &At, user: u32) -> Result<Arc<[u32]>, Error> {
-        self.listed(at, Ask::Live(user))
+        self.listed(at, ModelQuestion::Live(user))
     }
 
-    fn listed(&mut self, at: &At, ask: Ask) -> Result<Arc<[u32]>, Error> {
+    fn listed(&mut self, at: &At, ask: ModelQuestion) -> Result<Arc<[u32]>, Error> {
         match self.told(at, ask)? {
-            Told::Numbers(numbers) => Ok(Arc::clone(numbers)),
+            ModelAnswer::Numbers(numbers) => Ok(Arc::clone(numbers)),
             told => unreachable!("{told:?}"),
         }
     }
 
     /// All that the user sees, by `tracehost_state`.
     pub fn state(&mut self, at: &At, user: u32) -> Result<Arc<[u32]>, Error> {
-        self.listed(at, Ask::State(user))
+        self.listed(at, ModelQuestion::State(user))
     }
 
     /// The user's processes, zombies too.
     pub fn there(&mut self, at: &At, user: u32) -> Result<Arc<[u32]>, Error> {
-        self.listed(at, Ask::There(user))
+        self.listed(at, ModelQuestion::There(user))
     }
 
     /// Whether an LWP meets a signal once it is in user mode.
     pub fn signal(&mut self, at: &At, user: u32, lwp: u32) -> Result<Met, Error> {
-        match self.told(at, Ask::Signal(user, lwp))? {
-            Told::Met(met) => Ok(*met),
+        match self.told(at, ModelQuestion::Signal(user, lwp))? {
+            ModelAnswer::Met(met) => Ok(*met),
             told => unreachable!("{told:?}"),
         }
     }
 
     /// The first property that the user's rows break.
     pub fn broken(&mut self, at: &At, user: u32, at_end: bool) -> Result<&Broken, Error> {
-        match self.told(at, Ask::Broken(user, at_end))? {
-            Told::Broken(broken) => Ok(broken),
+        match self.told(at, ModelQuestion::Broken(user, at_end))? {
+            ModelAnswer::Broken(broken) => Ok(broken),
             told => unreachable!("{told:?}"),
         }
     }
 
     /// Whether a side of a property holds of the user's rows.
     pub fn holds(&mut self, at: &At, user: u32, property: usize, side: Side) -> Result<bool, Error> {
-        match self.told(at, Ask::Holds(user, property, side))? {
-            Told::Holds(holds) => Ok(*holds),
+        match self.told(at, ModelQuestion::Holds(user, property, side))? {
+            ModelAnswer::Holds(holds) => Ok(*holds),
             told => unreachable!("{told:?}"),
         }
     }
@@ -305,18 +308,18 @@ impl<'a> Hosts<'a> {
         if self.symmetry.is_none() {
             return Ok(None);
         }
-        match self.told(at, Ask::Apart(user, at_end))? {
-            Told::Apart(why) => Ok(why.clone()),
+        match self.told(at, ModelQuestion::Apart(user, at_end))? {
+            ModelAnswer::Apart(why) => Ok(why.clone()),
             told => unreachable!("{told:?}"),
         }
     }
 
-    fn told(&mut self, at: &At, ask: Ask) -> Result<&Told, Error> {
+    fn told(&mut self, at: &At, ask: ModelQuestion) -> Result<&ModelAnswer, Error> {
         let known = self.known(at, ask, ask.number() as usize)?;
         Ok(self.answers.answer(known))
     }
 
-    fn known(&mut self, at: &At, ask: Ask, who: usize) -> Result<Known, Error> {
+    fn known(&mut self, at: &At, ask: ModelQuestion, who: usize) -> Result<Known, Error> {
         let question = self.question(&ask, who)?;
         if let Some(known) = self.answers.get(at.view, question) {
             return Ok(known);
@@ -326,41 +329,41 @@ impl<'a> Hosts<'a> {
     }
 
     /// The answer, and what the users see after it.
-    fn find_out(&mut self, at: &At, ask: Ask) -> Result<(Told, Key), Error> {
+    fn find_out(&mut self, at: &At, ask: ModelQuestion) -> Result<(ModelAnswer, Key), Error> {
         let told = match ask {
-            Ask::Step(step) => {
+            ModelQuestion::Step(step) => {
                 let (answer, after) = self.make(at, step)?;
-                return Ok((Told::Step(answer), after));
+                return Ok((ModelAnswer::Step(answer), after));
             }
-            Ask::Children(caller) => {
+            ModelQuestion::Children(caller) => {
                 let rows = self.session_at(at)?.view(caller.user)?.processes;
                 let own = rows
                     .iter()
                     .filter(|row| row.parent == caller.pid || row.tracer == Some(caller.pid));
-                Told::Numbers(own.map(|row| row.pid).collect())
+                ModelAnswer::Numbers(own.map(|row| row.pid).collect())
             }
-            Ask::News(caller, options) => Told::Numbers(self.find_news(at, caller, options)?.into()),
-            Ask::Signal(user, lwp) => Told::Met(self.find_signal(at, user, lwp)?),
-            Ask::Live(user) => {
+            ModelQuestion::News(caller, options) => ModelAnswer::Numbers(self.find_news(at, caller, options)?.into()),
+            ModelQuestion::Signal(user, lwp) => ModelAnswer::Met(self.find_signal(at, user, lwp)?),
+            ModelQuestion::Live(user) => {
                 let rows = self.session_at(at)?.view(user)?.processes;
                 let live = rows.iter().filter(|row| !matches!(row.state, State::Zombie(_)));
-                Told::Numbers(live.map(|row| row.pid).collect())
+                ModelAnswer::Numbers(live.map(|row| row.pid).collect())
             }
-            Ask::State(user) => {
+            ModelQuestion::State(user) => {
                 let mut state = Vec::new();
                 self.session_at(at)?.state(user, &mut state)?;
-                Told::Numbers(state.into())
+                ModelAnswer::Numbers(state.into())
             }
-            Ask::There(user) => {
+            ModelQuestion::There(user) => {
                 let rows = self.session_at(at)?.view(user)?.processes;
-                Told::Numbers(rows.iter().map(|row| row.pid).collect())
+                ModelAnswer::Numbers(rows.iter().map(|row| row.pid).collect())
             }
-            Ask::Broken(user, at_end) => Told::Broken(self.find_broken(at, user, at_end)?),
-            Ask::Holds(user, property, side) => {
+            ModelQuestion::Broken(user, at_end) => ModelAnswer::Broken(self.find_broken(at, user, at_end)?),
+            ModelQuestion::Holds(user, property, side) => {
                 let property = &self.properties[property];
-                Told::Holds(property.holds(&self.session_at(at)?.view(user)?, side))
+                ModelAnswer::Holds(property.holds(&self.session_at(at)?.view(user)?, side))
             }
-            Ask::Apart(user, at_end) => Told::Apart(self.find_told_apart(at, user, at_end)?),
+            ModelQuestion::Apart(user, at_end) => ModelAnswer::Apart(self.find_told_apart(at, user, at_end)?),
         };
         Ok((told, self.answers.key(at.view)))
     }

@@ -4,7 +4,7 @@ use crate::list::List;
 use crate::memory::{one_more, Refused};
 use crate::packed::Packing;
 use crate::set::{Link, Number, PARTS};
-use crate::spots::Spots;
+use crate::states::States;
 
 /// For each part the places of the first states of a level, or how many states there are.
 pub type Bounds = [u32; PARTS];
@@ -31,17 +31,17 @@ pub fn bounds(links: &[&List<u64>], start: Number) -> Vec<Bounds> {
     bounds
 }
 
-/// The spots of a level.
+/// The states of a level.
 #[derive(Debug)]
 pub struct Layer {
     pub level: usize,
-    /// For each part the spots, and where each is.
-    parts: Vec<(Spots, Vec<usize>)>,
+    /// For each part the states, and where each is.
+    parts: Vec<(States, Vec<usize>)>,
 }
 
 impl Layer {
     pub fn new(level: usize) -> Layer {
-        let parts = (0..PARTS).map(|_| (Spots::default(), Vec::new()));
+        let parts = (0..PARTS).map(|_| (States::default(), Vec::new()));
         Layer {
             level,
             parts: parts.collect(),
@@ -49,15 +49,15 @@ impl Layer {
     }
 
     pub fn add(&mut self, part: usize, packing: &mut Packing, words: &[u64]) -> Result<(), Refused> {
-        let (spots, places) = &mut self.parts[part];
+        let (states, places) = &mut self.parts[part];
         one_more(places)?;
-        places.push(spots.add(packing, words)?);
+        places.push(states.add(packing, words)?);
         Ok(())
     }
 
-    /// The words of the spot of a state of a part, by its place in the level.
+    /// The words of a state of a part, by its place in the level.
     pub fn read(&self, part: usize, index: usize, packing: &Packing, words: &mut [u64]) {
-        let (spots, places) = &self.parts[part];
-        packing.unpack(spots.at(places[index]), words);
+        let (states, places) = &self.parts[part];
+        packing.unpack(states.at(places[index]), words);
     }
 }

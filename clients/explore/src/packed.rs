@@ -1,11 +1,11 @@
-//! The words of a spot as few bytes: a process is at few different places, and most bytes of a word are 0.
+//! The words of a state as few bytes: a process is at few different places, and most bytes of a word are 0.
 
 use crate::hash::mixed;
 
 /// How many words at the beginning are hashes, which stay as they are.
 const WHOLE: usize = 2;
 
-/// Adds the words to the bytes: of each but the first two, which of its bytes aren't 0, and those. They say nothing of other spots.
+/// Adds the words to the bytes: of each but the first two, which of its bytes aren't 0, and those. They say nothing of other states.
 pub fn pack(words: &[u64], bytes: &mut Vec<u8>) {
     let small = pack_whole(words, bytes);
     pack_small(small, bytes);
@@ -107,14 +107,14 @@ impl Column {
     }
 }
 
-/// The values that make spots even fewer bytes: of one that packs and unpacks the same spots.
+/// The values that make states even fewer bytes: of one that packs and unpacks the same states.
 #[derive(Debug, Default)]
 pub struct Packing {
     columns: Vec<Column>,
 }
 
 impl Packing {
-    /// Adds the words of a spot to the bytes.
+    /// Adds the words of a state to the bytes.
     pub fn pack(&mut self, words: &[u64], bytes: &mut Vec<u8>) {
         let small = pack_whole(words, bytes);
         self.columns.resize_with(small.len().div_ceil(2), Column::new);
@@ -127,7 +127,7 @@ impl Packing {
         }
     }
 
-    /// Takes the words of a spot from the front of the bytes, and returns the rest.
+    /// Takes the words of a state from the front of the bytes, and returns the rest.
     pub fn unpack<'b>(&self, bytes: &'b [u8], words: &mut [u64]) -> &'b [u8] {
         let (mut rest, small) = unpack_whole(bytes, words);
         for (words, column) in small.rchunks_mut(2).zip(&self.columns) {
@@ -146,7 +146,7 @@ impl Packing {
         rest
     }
 
-    /// Takes as many spots as there is room for from the front of the bytes, and returns their words.
+    /// Takes as many states as there is room for from the front of the bytes, and returns their words.
     pub fn unpack_some<'w>(&self, bytes: &mut &[u8], words: &'w mut [u64], width: usize) -> &'w [u64] {
         let mut count = 0;
         while !bytes.is_empty() && count < words.len() {
@@ -164,7 +164,7 @@ mod tests {
     const WIDTH: usize = 9;
 
     /// Words of all lengths, and some that are few.
-    fn spot(seed: u64) -> [u64; WIDTH] {
+    fn state(seed: u64) -> [u64; WIDTH] {
         let word = |place: u64| mixed(seed << 8 | place) >> (8 * (mixed(seed ^ place) % 9)).min(63);
         let few = |place: u64| word(place) % 4;
         let many = [word(1), word(2), u64::MAX, 0xff << 56];
@@ -181,16 +181,16 @@ mod tests {
         ]
     }
 
-    fn spots() -> Vec<[u64; WIDTH]> {
-        (0..3000).map(spot).collect()
+    fn states() -> Vec<[u64; WIDTH]> {
+        (0..3000).map(state).collect()
     }
 
     #[test]
     fn words_come_out_as_they_went_in() {
         let mut bytes = Vec::new();
-        spots().iter().for_each(|words| pack(words, &mut bytes));
+        states().iter().for_each(|words| pack(words, &mut bytes));
         let mut rest = &bytes[..];
-        for words in spots() {
+        for words in states() {
             let mut found = [7; WIDTH];
             rest = unpack(rest, &mut found);
             assert_eq!(found, words);
@@ -202,11 +202,11 @@ mod tests {
     #[test]
     fn few_values_are_a_byte_each() {
         let (mut bytes, mut packing) = (Vec::new(), Packing::default());
-        spots().iter().for_each(|words| packing.pack(words, &mut bytes));
+        states().iter().for_each(|words| packing.pack(words, &mut bytes));
         let counts: Vec<usize> = packing.columns.iter().map(|column| column.values.len()).collect();
         assert_eq!(counts, [1, 16, 255, 4]);
         let mut rest = &bytes[..];
-        for words in spots() {
+        for words in states() {
             let (mut found, mut plain) = ([7; WIDTH], Vec::new());
             let before = rest.len();
             rest = packing.unpack(rest, &mut found);

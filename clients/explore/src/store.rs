@@ -5,7 +5,7 @@ use crate::list::List;
 use crate::memory::{filled, Refused};
 use crate::packed::Packing;
 use crate::set::{Part, PARTS};
-use crate::spots::Spots;
+use crate::states::States;
 use std::sync::RwLock;
 
 /// The links of all states, but those of the level that is being made.
@@ -18,30 +18,30 @@ pub fn no_links() -> Links {
 /// A part of the set, and those of its states whose next ones aren't known yet.
 pub struct Level {
     pub set: Part,
-    /// The links of the level that is being made, their orders, and its spots.
+    /// The links of the level that is being made, their orders, and its states.
     pub links: List<u64>,
     orders: List<u64>,
-    spots: Spots,
-    /// Where each state's spot is, if it may be exchanged for another.
+    states: States,
+    /// Where each state's words are, if it may be exchanged for another.
     starts: List<usize>,
     /// The place of its first state.
     pub first: usize,
 }
 
 impl Level {
-    /// Brings the spots of the level into the order of its states.
-    fn order_spots(&mut self, packing: &mut Packing, width: usize) -> Result<(), Refused> {
+    /// Brings the states of the level into the order of its states.
+    fn order_states(&mut self, packing: &mut Packing, width: usize) -> Result<(), Refused> {
         if self.starts.len() == 0 {
             return Ok(());
         }
         let mut words = filled(0, width)?;
-        let mut kept = Spots::default();
+        let mut kept = States::default();
         for start in self.starts.iter() {
-            packing.unpack(self.spots.at(*start), &mut words);
+            packing.unpack(self.states.at(*start), &mut words);
             kept.add(packing, &words)?;
         }
         self.starts.clear();
-        self.spots = kept;
+        self.states = kept;
         Ok(())
     }
 }
@@ -50,7 +50,7 @@ impl Level {
 pub struct Store {
     thread: usize,
     threads: usize,
-    /// Whether states with one key have different spots. Then that of the lowest order is kept.
+    /// Whether states with one key have different states. Then that of the lowest order is kept.
     symmetric: bool,
     pub levels: Vec<Level>,
     pub packing: Packing,
@@ -62,7 +62,7 @@ pub struct Front {
     pub first: usize,
     pub count: usize,
     /// Where their processes are, as the store has packed it.
-    pub spots: Spots,
+    pub states: States,
 }
 
 impl Store {
@@ -72,7 +72,7 @@ impl Store {
                 set: Part::new()?,
                 links: List::new(),
                 orders: List::new(),
-                spots: Spots::default(),
+                states: States::default(),
                 starts: List::new(),
                 first: 0,
             })
@@ -86,7 +86,7 @@ impl Store {
         })
     }
 
-    /// The level of a part that this thread owns, and how its spots are packed.
+    /// The level of a part that this thread owns, and how its states are packed.
     pub fn level(&mut self, part: usize) -> (&mut Level, &mut Packing) {
         debug_assert_eq!(part % self.threads, self.thread, "a part of this thread");
         (&mut self.levels[part / self.threads], &mut self.packing)
@@ -113,7 +113,7 @@ impl Store {
         &mut self,
         part: usize,
         key: Key,
-        spot: &[u64],
+        state: &[u64],
         (link, order): (u64, u64),
     ) -> Result<(bool, bool), Refused> {
         let symmetric = self.symmetric;
@@ -122,18 +122,18 @@ impl Store {
         if is_new {
             level.links.push(link)?;
             level.orders.push(order)?;
-            let start = level.spots.add(packing, spot)?;
+            let start = level.states.add(packing, state)?;
             if symmetric {
                 level.starts.push(start)?;
             }
             Ok((true, true))
         } else {
-            Ok((false, self.meet(part, place, spot, (link, order))?))
+            Ok((false, self.meet(part, place, state, (link, order))?))
         }
     }
 
     /// Adds another way to a state, and returns whether it is of the level that is being made.
-    pub fn meet(&mut self, part: usize, place: u32, spot: &[u64], (link, order): (u64, u64)) -> Result<bool, Refused> {
+    pub fn meet(&mut self, part: usize, place: u32, state: &[u64], (link, order): (u64, u64)) -> Result<bool, Refused> {
         let symmetric = self.symmetric;
         let (level, packing) = self.level(part);
         let Some(place) = (place as usize).checked_sub(level.first) else {
@@ -143,7 +143,7 @@ impl Store {
             level.orders[place] = order;
             level.links[place] = link;
             if symmetric {
-                level.starts[place] = level.spots.add(packing, spot)?;
+                level.starts[place] = level.states.add(packing, state)?;
             }
         }
         Ok(true)
@@ -153,7 +153,7 @@ impl Store {
     pub fn end_level(&mut self, links: &Links, width: usize) -> Result<(), Refused> {
         let parts = self.parts();
         for (part, level) in parts.zip(&mut self.levels) {
-            level.order_spots(&mut self.packing, width)?;
+            level.order_states(&mut self.packing, width)?;
             let mut known = links[part].write().expect("no thread has panicked");
             known.append(&mut level.links)?;
         }
@@ -167,13 +167,13 @@ impl Store {
         for (part, level) in parts.zip(&mut self.levels) {
             let first = std::mem::replace(&mut level.first, level.set.keys().len());
             level.orders.clear();
-            let (count, spots) = (level.first - first, std::mem::take(&mut level.spots));
+            let (count, states) = (level.first - first, std::mem::take(&mut level.states));
             if count > 0 {
                 fronts.push(Front {
                     part,
                     first,
                     count,
-                    spots,
+                    states,
                 });
             }
         }
@@ -184,7 +184,7 @@ impl Store {
     pub fn free_level(&mut self) {
         for level in &mut self.levels {
             (level.links, level.orders, level.starts) = (List::new(), List::new(), List::new());
-            level.spots = Spots::default();
+            level.states = States::default();
         }
     }
 
@@ -193,7 +193,7 @@ impl Store {
         let of = |level: &Level| {
             let lists = [&level.links, &level.orders].map(List::bytes);
             let known = level.first * std::mem::size_of::<u64>();
-            level.set.bytes() + known + lists[0] + lists[1] + level.starts.bytes() + level.spots.bytes()
+            level.set.bytes() + known + lists[0] + lists[1] + level.starts.bytes() + level.states.bytes()
         };
         self.levels.iter().map(of).sum()
     }

@@ -4,10 +4,10 @@
 //! processes have exchanged their places and numbers. It is any exchange of them, so that two states with one key are the same
 //! up to an exchange, whichever was chosen. A good choice only makes such states fewer.
 
-use crate::exchange::{rows, Exchange, Member, Rows, State, LWP, PROCESS};
+use crate::exchange::{rows, Exchange, Member, Rows, UserState, LWP, PROCESS};
 use crate::hash::{mixed, Hasher, Key};
 use crate::process::Process;
-use crate::spot::Spot;
+use crate::state::State;
 
 /// Equal processes of a user.
 #[derive(Debug)]
@@ -64,14 +64,14 @@ fn mentions(member: &Member, row: &[u32], numbers: &[usize]) -> bool {
 
 impl Group {
     /// What tells a member from others, whatever its numbers are.
-    fn mark(&self, member: &Member, spot: &Spot, rows: &Rows) -> u64 {
+    fn mark(&self, member: &Member, state: &State, rows: &Rows) -> u64 {
         let mut mark = 0u64;
         for (rows, numbers) in [(&rows.processes, PROCESS.1), (&rows.lwps, LWP.1)] {
             for row in rows.iter().filter(|row| mentions(member, row, numbers)) {
                 mark = mark.wrapping_add(seen(member, row, numbers, &self.members));
             }
         }
-        for (process, place) in spot.places.iter().enumerate() {
+        for (process, place) in state.places.iter().enumerate() {
             let who = match self.members.iter().find(|other| other.process == process) {
                 Some(_) if process == member.process => 0,
                 Some(_) => 1,
@@ -87,12 +87,12 @@ impl Group {
     }
 
     /// The members, each with the one whose numbers it gets: in the order of their marks.
-    fn exchange(&self, spot: &Spot, state: &[u32]) -> impl Iterator<Item = (Member, Member)> + '_ {
-        let rows = rows(state);
+    fn exchange(&self, state: &State, numbers: &[u32]) -> impl Iterator<Item = (Member, Member)> + '_ {
+        let rows = rows(numbers);
         let mut marked: Vec<(u64, Member)> = self
             .members
             .iter()
-            .map(|member| (self.mark(member, spot, &rows), *member))
+            .map(|member| (self.mark(member, state, &rows), *member))
             .collect();
         marked.sort_by_key(|(mark, _)| *mark);
         marked
@@ -142,7 +142,7 @@ fn tried<'g>(groups: impl Iterator<Item = &'g Group> + Clone) -> Vec<Exchange> {
 }
 
 /// Groups of processes that say that they are equal.
-fn grouped(processes: &[&dyn Process], user_of: &[usize], states: &[State]) -> Result<Vec<Group>, String> {
+fn grouped(processes: &[&dyn Process], user_of: &[usize], states: &[UserState]) -> Result<Vec<Group>, String> {
     let mut groups: Vec<(u8, Group)> = Vec::new();
     for (process, known) in processes.iter().enumerate() {
         let Some((group, own)) = known.alike() else { continue };
@@ -179,8 +179,8 @@ impl Symmetry {
     pub fn new(
         processes: &[&dyn Process],
         user_of: &[usize],
-        start: &Spot,
-        states: &[State],
+        start: &State,
+        states: &[UserState],
     ) -> Result<Symmetry, String> {
         let groups = grouped(processes, user_of, states)?;
         if let Some(why) = groups
@@ -210,15 +210,16 @@ impl Symmetry {
     }
 
     /// The key of a state after an exchange.
-    fn exchanged(&self, exchange: &Exchange, spot: &Spot, states: &[State]) -> Key {
+    fn exchanged(&self, exchange: &Exchange, state: &State, states: &[UserState]) -> Key {
         let mut hasher = Hasher::new();
         states.iter().for_each(|state| exchange.state(state, &mut hasher));
-        spot.memories
+        state
+            .memories
             .iter()
             .for_each(|memory| hasher.word(u64::from_le_bytes(*memory)));
-        for process in 0..spot.places.len() {
+        for process in 0..state.places.len() {
             let from = exchange.0.iter().find(|(_, to)| to.process == process);
-            let place = spot.places[from.map_or(process, |(from, _)| from.process)];
+            let place = state.places[from.map_or(process, |(from, _)| from.process)];
             hasher.words(&exchange.place(place).words());
         }
         hasher.key()
@@ -231,10 +232,10 @@ impl Symmetry {
     }
 
     /// For each process the one whose place it has in the key.
-    pub fn slots(&self, spot: &Spot, states: &[State]) -> Vec<usize> {
-        let mut slots: Vec<usize> = (0..spot.places.len()).collect();
+    pub fn slots(&self, state: &State, states: &[UserState]) -> Vec<usize> {
+        let mut slots: Vec<usize> = (0..state.places.len()).collect();
         for group in &self.groups {
-            for (from, to) in group.exchange(spot, &states[group.user]) {
+            for (from, to) in group.exchange(state, &states[group.user]) {
                 slots[from.process] = to.process;
             }
         }
@@ -242,11 +243,11 @@ impl Symmetry {
     }
 
     /// The same key for states that differ by an exchange, if their members can be told apart.
-    pub fn key(&self, spot: &Spot, states: &[State]) -> Key {
+    pub fn key(&self, state: &State, states: &[UserState]) -> Key {
         let pairs = self
             .groups
             .iter()
-            .flat_map(|group| group.exchange(spot, &states[group.user]));
-        self.exchanged(&Exchange(pairs.collect()), spot, states)
+            .flat_map(|group| group.exchange(state, &states[group.user]));
+        self.exchanged(&Exchange(pairs.collect()), state, states)
     }
 }

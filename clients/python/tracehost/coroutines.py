@@ -87,7 +87,7 @@ class Memory:
             self.run.write(place, value)
 
 
-class Told(NamedTuple):
+class Answer(NamedTuple):
     """An answer, or a value that was read, as what it is compared by. Two types of replies may be equal as tuples."""
 
     kind: type
@@ -139,7 +139,7 @@ class Place:
         self.before = before
         self.told = told
         self.doing: Optional[Doing] = None
-        self.next: dict[Told, Place] = {}
+        self.next: dict[Answer, Place] = {}
         self.same = self
         """An earlier place, at which the coroutine is equal: it goes on from there."""
 
@@ -290,10 +290,10 @@ def _last_answer(place: Place) -> Any:
     return place.told
 
 
-def key_of(told: Any) -> Told:
+def key_of(told: Any) -> Answer:
     if isinstance(told, OSError):
-        return Told(type(told), told.errno)
-    return Told(type(told), told)
+        return Answer(type(told), told.errno)
+    return Answer(type(told), told)
 
 
 class Live:

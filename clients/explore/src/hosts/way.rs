@@ -1,14 +1,14 @@
 //! How a session comes to a state.
 
-use super::{checked, Ask, At, Hosts, LONG_WAY};
-use crate::answers::Seen;
+use super::{checked, At, Hosts, ModelQuestion, LONG_WAY};
+use crate::answers::ViewId;
 use crate::hash::Key;
 use crate::sessions::copied;
 use tracehost::{Error, Session};
 
 impl Hosts<'_> {
     /// Whether the scratch session is at this state.
-    pub fn is_at(&self, view: Seen) -> bool {
+    pub fn is_at(&self, view: ViewId) -> bool {
         self.scratch_view == Some(self.answers.key(view))
     }
 
@@ -51,7 +51,7 @@ impl Hosts<'_> {
         let mut view = at.view;
         self.steps.clear();
         while self.kept(self.answers.key(view)).is_none() {
-            let Some((from, Ask::Step(step))) = self.answers.way(view) else {
+            let Some((from, ModelQuestion::Step(step))) = self.answers.way(view) else {
                 return self.replayed(at);
             };
             self.steps.push(*step);

@@ -7,7 +7,7 @@ use crate::memory::Refused;
 use crate::notes::Sums;
 use crate::packed::unpack;
 use crate::set::{Link, Number, Part, PARTS};
-use crate::spots::Spots;
+use crate::states::States;
 use crate::store::Front;
 use std::io;
 use std::path::Path;
@@ -36,7 +36,7 @@ impl Levels<'_, '_> {
                 links: &links[part],
                 count,
                 first: front.map_or(count, |front| front.first),
-                spots: front.map(|front| (&front.spots, &store.packing, width)),
+                states: front.map(|front| (&front.states, &store.packing, width)),
             }
         });
         let saved = ToSave {
@@ -111,12 +111,12 @@ impl Levels<'_, '_> {
         level.first = saved.keys.len();
         level.set = Part::of_keys(saved.keys)?;
         let count = level.first - saved.first;
-        let (mut spots, mut words) = (Spots::default(), vec![0; width]);
-        for piece in saved.spots {
+        let (mut states, mut words) = (States::default(), vec![0; width]);
+        for piece in saved.states {
             let mut rest = &piece[..];
             while !rest.is_empty() {
                 rest = unpack(rest, &mut words);
-                spots.add(packing, &words)?;
+                states.add(packing, &words)?;
             }
         }
         if count > 0 {
@@ -124,7 +124,7 @@ impl Levels<'_, '_> {
                 part,
                 first: saved.first,
                 count,
-                spots,
+                states,
             });
         }
         Ok(())
@@ -138,7 +138,7 @@ impl Levels<'_, '_> {
         for (worker, fronts) in self.workers.iter().zip(&self.fronts) {
             for front in fronts {
                 let mut place = front.first as u32;
-                let compared = front.spots.each(&worker.store.packing, width, |words| {
+                let compared = front.states.each(&worker.store.packing, width, |words| {
                     let number = Number {
                         part: front.part,
                         place,

@@ -1,15 +1,15 @@
 //! All steps from a state.
 
-use super::{Failure, Fault, Reached, Search, Went};
+use super::{Failure, Fault, Outcome, Reached, Search};
 use crate::ahead::make_again;
-use crate::answers::Seen;
+use crate::answers::ViewId;
 use crate::hash::{mixed, Key};
 use crate::hosts::{At, Hosts};
 use crate::notes::Noted;
 use crate::places::Places;
 use crate::process::{Next, When};
 use crate::set::{Link, Number};
-use crate::spot::Spot;
+use crate::state::State;
 use crate::step::{with_news, Step};
 use std::sync::Arc;
 use tracehost::{Error, Session, Which};
@@ -41,7 +41,7 @@ impl Choices {
 struct Expansion<'e> {
     search: &'e Search<'e>,
     at: &'e At<'e>,
-    spot: &'e Spot,
+    state: &'e State,
     number: Number,
     key: Key,
     noted: Noted,
@@ -55,34 +55,34 @@ impl Search<'_> {
         &self,
         hosts: &mut Hosts,
         (number, key): (Number, Key),
-        (spot, view): (&Spot, Seen),
-        next: &mut [Spot; 2],
+        (state, view): (&State, ViewId),
+        next: &mut [State; 2],
         sink: &mut Sink,
     ) -> Result<Noted, Error> {
         let replay = |session: &mut Session| self.replay(number, session, |_, _, _| ()).map(drop);
         let at = At { view, replay: &replay };
-        let mut state = Expansion {
+        let mut expansion = Expansion {
             search: self,
             at: &at,
-            spot,
+            state,
             number,
             key,
             noted: Noted::default(),
             goes_on: Places::default(),
         };
-        if let Some(why) = self.tells_apart(hosts, &at, spot)? {
-            sink(hosts, Err(Fault::mistake(why, number, state.order())));
-            return Ok(state.noted);
+        if let Some(why) = self.tells_apart(hosts, &at, state)? {
+            sink(hosts, Err(Fault::mistake(why, number, expansion.order())));
+            return Ok(expansion.noted);
         }
         for place in 0..self.processes.len() {
-            state.go_on(hosts, place, next, sink)?;
+            expansion.go_on(hosts, place, next, sink)?;
         }
-        for user in (0..self.users.len()).filter(|user| !state.goes_on.has(*user)) {
-            state.noted.is_end = true;
-            state.end(hosts, user, sink)?;
+        for user in (0..self.users.len()).filter(|user| !expansion.goes_on.has(*user)) {
+            expansion.noted.is_end = true;
+            expansion.end(hosts, user, sink)?;
         }
-        self.note_goals(hosts, &at, &mut state.noted)?;
-        Ok(state.noted)
+        self.note_goals(hosts, &at, &mut expansion.noted)?;
+        Ok(expansion.noted)
     }
 
     /// The steps that a process's step may be: a wait for any is one for each process with news.
@@ -101,10 +101,10 @@ impl Search<'_> {
 
 impl Expansion<'_> {
     /// Makes each step that a process may make.
-    fn go_on(&mut self, hosts: &mut Hosts, place: usize, next: &mut [Spot; 2], sink: &mut Sink) -> Result<(), Error> {
-        let (search, spot) = (self.search, self.spot);
-        let memory = &spot.memories[search.user_of[place]];
-        let (step, when) = match search.processes[place].next(&spot.places[place], memory) {
+    fn go_on(&mut self, hosts: &mut Hosts, place: usize, next: &mut [State; 2], sink: &mut Sink) -> Result<(), Error> {
+        let (search, state) = (self.search, self.state);
+        let memory = &state.memories[search.user_of[place]];
+        let (step, when) = match search.processes[place].next(&state.places[place], memory) {
             Next::Ended => return Ok(()),
             Next::Blocked => {
                 self.noted.waits.add(place);
@@ -128,24 +128,24 @@ impl Expansion<'_> {
         hosts: &mut Hosts,
         by: By,
         (step, when): (Step, When),
-        next: &mut [Spot; 2],
+        next: &mut [State; 2],
         sink: &mut Sink,
     ) -> Result<bool, Error> {
         let asked = hosts.calls.steps;
         let went = self
             .search
-            .take(hosts, self.at, (self.spot, &mut next[0]), by, (step, when))?;
+            .take(hosts, self.at, (self.state, &mut next[0]), by, (step, when))?;
         let mut changes = false;
         match went {
-            Went::Waits => {
+            Outcome::Waits => {
                 self.noted.waits.add(by.0);
                 return Ok(false);
             }
-            Went::Gone => return Ok(false),
-            Went::Mistakes(why) => sink(hosts, Err(Fault::mistake(why, self.number, self.order_by(by)))),
-            Went::Fails(failure) => sink(hosts, Err(self.fault(failure, Some(by)))),
-            Went::On(view) => {
-                changes = view != self.at.view || next[0].memories != self.spot.memories;
+            Outcome::Gone => return Ok(false),
+            Outcome::Mistakes(why) => sink(hosts, Err(Fault::mistake(why, self.number, self.order_by(by)))),
+            Outcome::Fails(failure) => sink(hosts, Err(self.fault(failure, Some(by)))),
+            Outcome::On(view) => {
+                changes = view != self.at.view || next[0].memories != self.state.memories;
                 if !changes && step.caller().is_some() {
                     self.noted.calls.add(by.0);
                 }
@@ -162,8 +162,8 @@ impl Expansion<'_> {
         &self,
         hosts: &mut Hosts,
         by: By,
-        (step, view, asked): (Step, Seen, u64),
-        [next, ahead]: &mut [Spot; 2],
+        (step, view, asked): (Step, ViewId, u64),
+        [next, ahead]: &mut [State; 2],
         sink: &mut Sink,
     ) -> Result<(), Error> {
         let replay = |session: &mut Session| make_again(self.at, &[step], session);
@@ -171,7 +171,7 @@ impl Expansion<'_> {
         let reached = Reached {
             key: self.search.exchanged_key(hosts, &after, next)?,
             view,
-            spot: next,
+            state: next,
             link: Link {
                 from: self.number,
                 process: by.0,
@@ -194,7 +194,7 @@ impl Expansion<'_> {
                 sink(hosts, Err(Fault::mistake(why, self.number, self.order())));
             }
         }
-        if let Some(failure) = search.end(hosts, self.at, self.spot, user, &self.noted.waits)? {
+        if let Some(failure) = search.end(hosts, self.at, self.state, user, &self.noted.waits)? {
             sink(hosts, Err(self.fault(failure, None)));
         }
         Ok(())

@@ -4,7 +4,7 @@ use super::{Failure, Fault, Search};
 use crate::hosts::{At, Hosts};
 use crate::process::Process;
 use crate::set::Number;
-use crate::spot::Spot;
+use crate::state::State;
 use crate::step::Step;
 use tracehost::Error;
 
@@ -41,12 +41,12 @@ impl Search<'_> {
 
     /// What tells equal processes apart in this state, in words: a process that does something else once they are exchanged, or
     /// a property that says something else.
-    pub fn tells_apart(&self, hosts: &mut Hosts, at: &At, spot: &Spot) -> Result<Option<String>, Error> {
+    pub fn tells_apart(&self, hosts: &mut Hosts, at: &At, state: &State) -> Result<Option<String>, Error> {
         let Some(symmetry) = self.symmetry else {
             return Ok(None);
         };
-        for (process, place) in spot.places.iter().enumerate() {
-            let memory = spot.memories[self.user_of[process]];
+        for (process, place) in state.places.iter().enumerate() {
+            let memory = state.memories[self.user_of[process]];
             if let Err(why) = hosts.alike.ask(symmetry, self.processes, (process, *place), memory) {
                 return Ok(Some(why));
             }

@@ -2,14 +2,14 @@
 
 use super::{Fault, Search};
 use crate::ahead::who;
-use crate::answers::Seen;
-use crate::exchange::State;
+use crate::answers::ViewId;
+use crate::exchange::UserState;
 use crate::hash::Key;
 use crate::hosts::{checked, view_in, At, Hosts};
 use crate::process::{Answer, Next, Process};
 use crate::rounds::Slots;
 use crate::set::{Link, Number};
-use crate::spot::Spot;
+use crate::state::State;
 use crate::step::{with_news, Step};
 use tracehost::{Error, Session};
 
@@ -20,69 +20,69 @@ impl Search<'_> {
         to: Number,
         session: &mut Session,
         mut told: impl FnMut(&dyn Process, Step, &Answer),
-    ) -> Result<Spot, Error> {
-        let mut spot = self.start.clone();
+    ) -> Result<State, Error> {
+        let mut state = self.start.clone();
         for link in self.path(to) {
-            let (step, answer) = self.go(&mut spot, (link.process, link.news), session)?;
+            let (step, answer) = self.go(&mut state, (link.process, link.news), session)?;
             told(self.processes[link.process], step, &answer);
         }
-        Ok(spot)
+        Ok(state)
     }
 
-    /// Makes the step of a process. The spot's view isn't that of the session any more.
+    /// Makes the step of a process. The state's view isn't that of the session any more.
     pub fn go(
         &self,
-        spot: &mut Spot,
+        state: &mut State,
         (process, news): (usize, Option<u32>),
         session: &mut Session,
     ) -> Result<(Step, Answer), Error> {
         let (user, process) = (self.user_of[process], (process, self.processes[process]));
-        let place = &mut spot.places[process.0];
-        let Next::Step(step, _) = process.1.next(place, &spot.memories[user]) else {
+        let place = &mut state.places[process.0];
+        let Next::Step(step, _) = process.1.next(place, &state.memories[user]) else {
             unreachable!("the process has gone on from here before")
         };
         let step = with_news(step, news);
         let answer = step.make(session);
         // a failure was told when the step was made first
-        let _ = process.1.answered(place, &mut spot.memories[user], &answer);
+        let _ = process.1.answered(place, &mut state.memories[user], &answer);
         Ok((step, answer))
     }
 
     /// Brings a session from the start to the state that a link leads to.
     pub fn replay_to(&self, link: Link, session: &mut Session) -> Result<(), Error> {
-        let mut spot = self.replay(link.from, session, |_, _, _| ())?;
-        self.go(&mut spot, (link.process, link.news), session).map(drop)
+        let mut state = self.replay(link.from, session, |_, _, _| ())?;
+        self.go(&mut state, (link.process, link.news), session).map(drop)
     }
 
-    /// Goes on by a link, as the search did before. Stores the spot in `next`, and returns its view.
+    /// Goes on by a link, as the search did before. Stores the state in `next`, and returns its view.
     pub fn follow(
         &self,
         hosts: &mut Hosts,
-        (link, view): (Link, Seen),
-        spot: &Spot,
-        next: &mut Spot,
+        (link, view): (Link, ViewId),
+        state: &State,
+        next: &mut State,
     ) -> Result<Key, Error> {
         let replay = |session: &mut Session| self.replay(link.from, session, |_, _, _| ()).map(drop);
         let (process, user) = (self.processes[link.process], self.user_of[link.process]);
-        let Next::Step(step, _) = process.next(&spot.places[link.process], &spot.memories[user]) else {
+        let Next::Step(step, _) = process.next(&state.places[link.process], &state.memories[user]) else {
             unreachable!("the process has gone on from here before")
         };
-        let (step, who) = (with_news(step, link.news), who(spot, (link.process, link.news)));
+        let (step, who) = (with_news(step, link.news), who(state, (link.process, link.news)));
         let (answer, after) = hosts.step(&At { view, replay: &replay }, step, who)?;
-        next.set(spot);
+        next.set(state);
         let _ = process.answered(&mut next.places[link.process], &mut next.memories[user], answer);
         drop(hosts.take_outgoing());
         Ok(hosts.key(after))
     }
 
     /// Whose places processes have in the key of a state.
-    pub fn slots(&self, hosts: &mut Hosts, at: &At, spot: &Spot) -> Result<Slots, Error> {
+    pub fn slots(&self, hosts: &mut Hosts, at: &At, state: &State) -> Result<Slots, Error> {
         let Some(symmetry) = &self.symmetry else {
             return Ok(Slots(None));
         };
         let states = self.users.iter().map(|user| hosts.state(at, *user));
-        let states = states.collect::<Result<Vec<State>, Error>>()?;
-        Ok(Slots(Some(symmetry.slots(spot, &states))))
+        let states = states.collect::<Result<Vec<UserState>, Error>>()?;
+        Ok(Slots(Some(symmetry.slots(state, &states))))
     }
 
     /// Whether the processes come to a state, of these words, by the steps that have led there, as many as these.
@@ -90,10 +90,10 @@ impl Search<'_> {
         let Some(path) = self.short_path(to, depth).filter(|path| path.len() == depth) else {
             return Ok(false);
         };
-        let mut spot = self.start.clone();
+        let mut state = self.start.clone();
         for link in path {
             let (user, process) = (self.user_of[link.process], self.processes[link.process]);
-            let (place, memory) = (&mut spot.places[link.process], &mut spot.memories[user]);
+            let (place, memory) = (&mut state.places[link.process], &mut state.memories[user]);
             let Next::Step(step, _) = process.next(place, memory) else {
                 return Ok(false);
             };
@@ -102,9 +102,9 @@ impl Search<'_> {
                 return Ok(false);
             }
         }
-        spot.view = view_in(session, self.users)?;
-        let mut found = vec![spot.view.0, spot.view.1];
-        spot.write_processes(&mut found);
+        state.view = view_in(session, self.users)?;
+        let mut found = vec![state.view.0, state.view.1];
+        state.write_processes(&mut found);
         Ok(found == words)
     }
 

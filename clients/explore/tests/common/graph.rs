@@ -1,6 +1,6 @@
 //! All states and steps, one by one, and what can be reached, by definition.
 
-use super::{fate, whole, Fate, Spot, Whole};
+use super::{fate, whole, Fate, State, Whole};
 use std::collections::HashMap;
 use tracehost::{Session, View};
 use tracehost_explore::{Model, Next, Process};
@@ -40,38 +40,41 @@ pub struct Graph {
 struct Builder {
     users: Vec<u32>,
     numbers: HashMap<Whole, usize>,
-    states: Vec<(Session, Spot, usize)>,
+    states: Vec<(Session, State, usize)>,
 }
 
 impl Builder {
-    fn number(&mut self, session: Session, spot: Spot, depth: usize) -> usize {
+    fn number(&mut self, session: Session, state: State, depth: usize) -> usize {
         let count = self.numbers.len();
-        let number = *self.numbers.entry(whole(&session, &self.users, &spot)).or_insert(count);
+        let number = *self
+            .numbers
+            .entry(whole(&session, &self.users, &state))
+            .or_insert(count);
         if number == count {
-            self.states.push((session, spot, depth));
+            self.states.push((session, state, depth));
         }
         number
     }
 
     /// What a process does in a state, and where that leads.
     fn does(&mut self, state: usize, place: usize, process: &dyn Process) -> (Does, Vec<usize>) {
-        let (session, spot, depth) = &self.states[state];
-        let (depth, before) = (*depth, whole(session, &self.users, spot));
-        let memory = spot.memories[&process.user()];
-        let is_call = match process.next(&spot.places[place], &memory) {
+        let (session, state, depth) = &self.states[state];
+        let (depth, before) = (*depth, whole(session, &self.users, state));
+        let memory = state.memories[&process.user()];
+        let is_call = match process.next(&state.places[place], &memory) {
             Next::Step(step, _) => step.caller().is_some(),
             _ => false,
         };
-        match fate(session, spot, place, process) {
+        match fate(session, state, place, process) {
             Fate::Ended => (Does::Ended, Vec::new()),
             Fate::Waits => (Does::Waits, Vec::new()),
             Fate::Goes(went) => {
                 let (mut changes, mut next) = (false, Vec::new());
-                for (session, spot, fails) in went {
+                for (session, state, fails) in went {
                     assert!(!fails, "only what has no failed assertion is asked for");
-                    let (seen, _, memories) = whole(&session, &self.users, &spot);
+                    let (seen, _, memories) = whole(&session, &self.users, &state);
                     changes |= seen != before.0 || memories != before.2;
-                    next.push(self.number(session, spot, depth + 1));
+                    next.push(self.number(session, state, depth + 1));
                 }
                 let calls_in_vain = is_call && !changes;
                 (Does::Goes { calls_in_vain, changes }, next)
@@ -86,7 +89,7 @@ pub fn graph(model: &Model, most: usize) -> Option<Graph> {
     let mut users: Vec<u32> = processes.iter().map(|process| process.user()).collect();
     users.sort_unstable();
     users.dedup();
-    let spot = Spot {
+    let state = State {
         places: processes.iter().map(|process| process.begin()).collect(),
         memories: users.iter().map(|user| (*user, Default::default())).collect(),
     };
@@ -95,7 +98,7 @@ pub fn graph(model: &Model, most: usize) -> Option<Graph> {
         numbers: HashMap::new(),
         states: Vec::new(),
     };
-    builder.number(session, spot, 0);
+    builder.number(session, state, 0);
     let mut nodes: Vec<Node> = Vec::new();
     while nodes.len() < builder.states.len() {
         if builder.states.len() > most {

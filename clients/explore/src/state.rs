@@ -5,27 +5,27 @@ use crate::process::{Memory, Place};
 
 /// Where all processes are, and what the users see.
 #[derive(Clone, Debug, PartialEq, Eq)]
-pub struct Spot {
+pub struct State {
     pub view: Key,
     /// A memory for each user.
     pub memories: Vec<Memory>,
     pub places: Vec<Place>,
 }
 
-impl Spot {
+impl State {
     pub fn key(&self) -> Key {
         let mut words = vec![self.view.0, self.view.1];
         self.write_processes(&mut words);
         key_of(&words)
     }
 
-    /// Becomes another spot of the same processes, but for the view. It takes no memory.
-    pub fn set(&mut self, other: &Spot) {
+    /// Becomes another state of the same processes, but for the view. It takes no memory.
+    pub fn set(&mut self, other: &State) {
         self.memories.copy_from_slice(&other.memories);
         self.places.copy_from_slice(&other.places);
     }
 
-    /// How many words a spot has.
+    /// How many words a state has.
     pub fn width(&self) -> usize {
         2 + self.memories.len() + 2 * self.places.len()
     }
@@ -48,7 +48,7 @@ impl Spot {
     }
 }
 
-/// The key of a spot with these words.
+/// The key of a state with these words.
 pub fn key_of(words: &[u64]) -> Key {
     let mut hasher = Hasher::new();
     hasher.words(words);

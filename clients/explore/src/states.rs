@@ -1,20 +1,20 @@
-//! Many spots, packed one after another in pieces that are freed one by one.
+//! Many states, packed one after another in pieces that are freed one by one.
 
 use crate::list::{next_piece, PIECE};
 use crate::memory::{one_more, Refused};
 use crate::packed::Packing;
 
-/// Packed spots in the order in which they came. Each is whole in a piece.
+/// Packed states in the order in which they came. Each is whole in a piece.
 #[derive(Debug, Default)]
-pub struct Spots {
+pub struct States {
     pieces: Vec<Vec<u8>>,
 }
 
 /// The most bytes of a packed word.
 const MOST: usize = 10;
 
-impl Spots {
-    /// Adds a spot, and returns where it is.
+impl States {
+    /// Adds a state, and returns where it is.
     pub fn add(&mut self, packing: &mut Packing, words: &[u64]) -> Result<usize, Refused> {
         let most = words.len() * MOST;
         let has_room = |piece: &Vec<u8>| piece.len() + most <= PIECE;
@@ -30,17 +30,17 @@ impl Spots {
         Ok(place)
     }
 
-    /// The bytes that begin with the spot that is there.
+    /// The bytes that begin with the state that is there.
     pub fn at(&self, place: usize) -> &[u8] {
         &self.pieces[place / PIECE][place % PIECE..]
     }
 
-    /// Bytes of memory, also those that are kept for more spots.
+    /// Bytes of memory, also those that are kept for more states.
     pub fn bytes(&self) -> usize {
         self.pieces.iter().map(Vec::capacity).sum()
     }
 
-    /// Tells the words of each spot.
+    /// Tells the words of each state.
     pub fn each<E>(
         &self,
         packing: &Packing,
@@ -49,16 +49,16 @@ impl Spots {
     ) -> Result<(), E> {
         let mut words = vec![0; width];
         for piece in &self.pieces {
-            let mut spots = &piece[..];
-            while !spots.is_empty() {
-                spots = packing.unpack(spots, &mut words);
+            let mut states = &piece[..];
+            while !states.is_empty() {
+                states = packing.unpack(states, &mut words);
                 tell(&words)?;
             }
         }
         Ok(())
     }
 
-    /// Pieces with whole spots. A piece that isn't needed any more may be freed.
+    /// Pieces with whole states. A piece that isn't needed any more may be freed.
     pub fn pieces(&mut self) -> &mut [Vec<u8>] {
         &mut self.pieces
     }
@@ -71,26 +71,26 @@ mod tests {
 
     const WIDTH: usize = 8;
 
-    fn spot(n: u64) -> [u64; WIDTH] {
+    fn state(n: u64) -> [u64; WIDTH] {
         [mixed(n), n, mixed(n) % 3, n % 400, 7, mixed(n) >> 40, 0, n]
     }
 
     /// Each is whole in a piece, and where `add` said.
     #[test]
-    fn spots_come_out_as_they_went_in() {
-        let (mut packing, mut spots) = (Packing::default(), Spots::default());
+    fn states_come_out_as_they_went_in() {
+        let (mut packing, mut states) = (Packing::default(), States::default());
         let places: Vec<usize> = (0..30_000)
-            .map(|n| spots.add(&mut packing, &spot(n)).expect("memory"))
+            .map(|n| states.add(&mut packing, &state(n)).expect("memory"))
             .collect();
-        assert!(spots.pieces.len() > 3 && spots.pieces.iter().all(|piece| piece.len() <= PIECE));
+        assert!(states.pieces.len() > 3 && states.pieces.iter().all(|piece| piece.len() <= PIECE));
         let mut found = [0; WIDTH];
         for (n, place) in (0..).zip(places) {
-            packing.unpack(spots.at(place), &mut found);
-            assert_eq!(found, spot(n));
+            packing.unpack(states.at(place), &mut found);
+            assert_eq!(found, state(n));
         }
         let mut n = 0;
-        let count = spots.each(&packing, WIDTH, |words| {
-            assert_eq!(words, spot(n));
+        let count = states.each(&packing, WIDTH, |words| {
+            assert_eq!(words, state(n));
             n += 1;
             if n == 29_999 {
                 Err(n)
@@ -100,11 +100,11 @@ mod tests {
         });
         assert_eq!(count, Err(29_999));
         let mut n = 0;
-        for piece in spots.pieces() {
+        for piece in states.pieces() {
             let (mut rest, mut words) = (&piece[..], [0; 5 * WIDTH]);
             while !rest.is_empty() {
                 for words in packing.unpack_some(&mut rest, &mut words, WIDTH).chunks_exact(WIDTH) {
-                    assert_eq!(words, spot(n));
+                    assert_eq!(words, state(n));
                     n += 1;
                 }
             }
