@@ -71,7 +71,7 @@ class Collector:
 
     def report(self, stop: Handled) -> None:
         self.crashes += 1
-        print(f"{stop.pid}: crashed by {stop.signal.name} in LWP {stop.tid}")
+        print(f"{stop.pid}: crashed by {stop.signal.name} in LWP {stop.lwp}")
         count = self.process.ptrace(Request.PT_GETNUMLWPS, stop.pid)
         for lwp in self.process.ptrace(Request.PT_GETLWPLIST, stop.pid, count):
             info = self.process.ptrace(Request.PT_LWPINFO, lwp)
@@ -107,12 +107,12 @@ def main() -> None:
             collector.watch(worker.pid)
         # an LWP of the first worker has a signal pending when another crashes
         acts: list[Act] = [Block([Signal.SIGUSR1]), Raise(Signal.SIGUSR1), Enter(Call.THR_NEW), Leave()]
-        made = run(user, collector, first.tid, acts)
+        made = run(user, collector, first.lwp, acts)
         assert isinstance(made, New)
-        run(user, collector, made.tid, [Raise(Signal.SIGSEGV), Compute()])
-        run(user, collector, second.tid, [Raise(Signal.SIGTERM), Compute()])
-        run(user, collector, third.tid, [Raise(Signal.SIGABRT), Compute()])
-        run(user, collector, fourth.tid, [Enter(Call.EXIT, 0), Leave()])
+        run(user, collector, made.lwp, [Raise(Signal.SIGSEGV), Compute()])
+        run(user, collector, second.lwp, [Raise(Signal.SIGTERM), Compute()])
+        run(user, collector, third.lwp, [Raise(Signal.SIGABRT), Compute()])
+        run(user, collector, fourth.lwp, [Enter(Call.EXIT, 0), Leave()])
         print(f"{collector.crashes} crashes, {len(collector.watched)} workers left")
 
 

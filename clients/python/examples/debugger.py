@@ -110,11 +110,11 @@ def main() -> None:
         shell = user.spawn()
         debugger.attach(shell.pid)
         # the shell reads a command, and makes a process for it, whose LWP has the next number
-        run(user, debugger, shell.tid, [Enter(Call.OTHER, READ), Leave(), Enter(Call.FORK), Leave()])
-        child = shell.tid + 1
+        run(user, debugger, shell.lwp, [Enter(Call.OTHER, READ), Leave(), Enter(Call.FORK), Leave()])
+        child = shell.lwp + 1
         run(user, debugger, child, [Enter(Call.EXEC), Leave(), Enter(Call.OTHER, WRITE), Leave()])
         run(user, debugger, child, [Raise(Signal.SIGWINCH), Compute(), Enter(Call.EXIT, 3), Leave()])
-        run(user, debugger, shell.tid, [Compute(), Enter(Call.OTHER, READ), Leave()])
+        run(user, debugger, shell.lwp, [Compute(), Enter(Call.OTHER, READ), Leave()])
         collected = user.process(shell.pid).wait4()
         print(f"{shell.pid}: has collected {collected.pid}")
         try:

@@ -32,7 +32,7 @@ class World:
 
     def log(self, *acts: Act) -> list[str]:
         """The debugger's log of a target that does these acts."""
-        log: list[str] = self.host.run(self.debugger.run, lambda: self.acts(self.target.tid, list(acts)))[0]
+        log: list[str] = self.host.run(self.debugger.run, lambda: self.acts(self.target.lwp, list(acts)))[0]
         return log
 
 
@@ -71,9 +71,9 @@ def test_a_child_is_followed(tracehost: Host) -> None:
     world = World(tracehost)
 
     def family() -> None:
-        world.acts(world.target.tid, FORK)
-        world.acts(world.target.tid + 1, EXIT)
-        world.acts(world.target.tid, EXIT)
+        world.acts(world.target.lwp, FORK)
+        world.acts(world.target.lwp + 1, EXIT)
+        world.acts(world.target.lwp, EXIT)
 
     log = tracehost.run(world.debugger.run, family)[0]
     assert sorted(log) == ["1001 exit 0", "1001 fork 1002", "1002 child", "1002 exit 0"]
@@ -83,7 +83,7 @@ def test_two_targets(tracehost: Host) -> None:
     world = World(tracehost)
     other = world.user.spawn()
     world.debugger.attach(other.pid)
-    one, two = (lambda: world.acts(world.target.tid, EXIT)), (lambda: world.acts(other.tid, [Raise(Signal.SIGKILL)]))
+    one, two = (lambda: world.acts(world.target.lwp, EXIT)), (lambda: world.acts(other.lwp, [Raise(Signal.SIGKILL)]))
     log = tracehost.run(world.debugger.run, one, two)[0]
     assert sorted(log) == ["1001 exit 0", "1002 killed by SIGKILL"]
 
@@ -93,7 +93,7 @@ def test_a_detached_target_lives(tracehost: Host) -> None:
     world.debugger.process.wait4()
     world.debugger.detach(world.target.pid)
     assert world.debugger.run() == []
-    assert world.user.turn(world.target.tid, Compute()) is None
+    assert world.user.turn(world.target.lwp, Compute()) is None
 
 
 def test_another_user_sees_nothing(tracehost: Host) -> None:

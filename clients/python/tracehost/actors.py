@@ -203,10 +203,15 @@ class Process:
 
     def __init__(self, user: User, new: New) -> None:
         """A process that was made for this user in the world's beginning, by `User.spawn`, a fork or THR_NEW."""
-        self.uid, self.pid, self.tid = user.uid, new.pid, new.tid
+        self.uid, self.pid, self.lwp = user.uid, new.pid, new.lwp
+
+    @property
+    def tid(self) -> int:
+        """As `lwp`."""
+        return self.lwp
 
     def __repr__(self) -> str:
-        return f"Process({self.pid} of {self.uid}, LWP {self.tid})"
+        return f"Process({self.pid} of {self.uid}, LWP {self.lwp})"
 
     def wait4(self, which: int = -1, options: WaitOption = WaitOption(0)) -> Step[Waited]:
         """wait4(2). It waits for news, except with `WaitOption.WNOHANG`. With -1 any process that has news may be reported."""
@@ -281,9 +286,9 @@ class Process:
 
         def make(host: Explored, _: int) -> Turned:
             if when is not None and not host.looked_at(when):
-                raise Blocked if any(row.lwp == self.tid for row in host._rows(self.uid)[1]) else Gone
+                raise Blocked if any(row.lwp == self.lwp for row in host._rows(self.uid)[1]) else Gone
             try:
-                return host.user(self.uid).turn(self.tid, act() if callable(act) else act)
+                return host.user(self.uid).turn(self.lwp, act() if callable(act) else act)
             except ProcessLookupError:
                 raise Gone from None
 

@@ -37,9 +37,9 @@ def describe(value: object) -> str:
     if isinstance(value, Caught):
         return f"caught {value.signal.name}"
     if isinstance(value, New):
-        return f"new process {value.pid}, LWP {value.tid}"
+        return f"new process {value.pid}, LWP {value.lwp}"
     if isinstance(value, Stopped):
-        return f"LWP {value.tid} stopped {value.signal.name}, {field_text('flags', value.flags)}"
+        return f"LWP {value.lwp} stopped {value.signal.name}, {field_text('flags', value.flags)}"
     if isinstance(value, (LwpInfo, Handled)):
         fields = ", ".join(f"{name}={field_text(name, field)}" for name, field in value._asdict().items())
         return f"{type(value).__name__}({fields})"

@@ -72,7 +72,7 @@ class Debugging(RuleBasedStateMachine):
         made = self.user.spawn()
         self.debugger = self.user.process(made)
         """The process of the debugger."""
-        self.debugger_lwp = made.tid
+        self.debugger_lwp = made.lwp
         self.pids: list[int] = []
         """The processes that `new_process` has made."""
         self.lwps: list[int] = []
@@ -99,7 +99,7 @@ class Debugging(RuleBasedStateMachine):
     def new_process(self) -> None:
         new = self.user.spawn()
         self.pids.append(new.pid)
-        self.lwps.append(new.tid)
+        self.lwps.append(new.lwp)
         self.process_made(new)
 
     @rule()
