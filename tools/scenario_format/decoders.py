@@ -92,7 +92,7 @@ PYTHON_TYPES = {
     "flags": "StopFlag",
     "signals": "frozenset[Signal]",
     "events": "EventMask",
-    "handler": "Optional[int]",
+    "handler": "int | None",
     "decision": "Decision",
     "list": "tuple[int, ...]",
     "error": "NoReturn",
@@ -126,7 +126,7 @@ def python_class(reply: Reply) -> str:
         name, *more = python_names(reply, field)
         text += f"    {name}: {PYTHON_TYPES[field.kind]}\n"
         if field.kind == "decision":
-            text += "    pass_signal: Optional[int]\n"
+            text += "    pass_signal: int | None\n"
         if field.doc:
             text += f'    """{field.doc}"""\n'
         for other in more:
@@ -151,7 +151,8 @@ def struct_reader(reply: Reply) -> str:
     head = f"def _read_{reply.name}(reply: Reply) -> {kind}:\n"
     if kind == "NoReturn":
         return f"{head}    {values[0]}\n\n\n"
-    short = f"    return {made(reply)}({', '.join(values)})\n" if made(reply) else f"    return {values[0]}\n"
+    one = values[0] + "," * (len(values) == 1)
+    short = f"    return _new({made(reply)}, ({', '.join([one, *values[1:]])}))\n" if made(reply) else f"    return {values[0]}\n"
     if len(short) <= WIDTH:
         return f"{head}{short}\n\n"
     return f"{head}    return {made(reply)}(\n" + "".join(f"        {value},\n" for value in values) + "    )\n\n\n"

@@ -5,6 +5,7 @@ from __future__ import annotations
 import os
 import pathlib
 import re
+import subprocess
 import sys
 import unittest
 from ctypes import byref, c_size_t
@@ -38,6 +39,33 @@ from tracehost import (
 from tracehost.library import ANSWERED, CLwp, CProcess, CRule, Reply, Session, Words, find
 
 NONE: frozenset[Signal] = frozenset()
+
+
+PLAIN = """
+import sys; sys.path.insert(0, sys.argv[1])
+from tracehost import Host, Request
+with Host() as host:
+    user = host.user(1001)
+    debugger, target = user.process(user.spawn()), user.spawn()
+    debugger.ptrace(Request.PT_ATTACH, target.pid)
+    print(*debugger.wait4(), debugger.ptrace(Request.PT_LWPINFO, target.pid).pl_lwpid)
+print(*sys.modules)
+"""
+
+
+class Imports(unittest.TestCase):
+    @unittest.skipIf(sys.version_info < (3, 10), "there typing makes the unions of types")
+    def test_what_a_plain_session_imports(self) -> None:
+        """Modules that take long, and that most tests need not, are imported with what needs them."""
+        package = pathlib.Path(__file__).resolve().parents[1]
+        command = [sys.executable, "-I", "-S", "-c", PLAIN, str(package)]
+        environment = {**os.environ, "TRACEHOST_LIBRARY": find().path}
+        done = subprocess.run(command, env=environment, capture_output=True, text=True, check=True)
+        answered, modules = done.stdout.splitlines()
+        self.assertEqual(answered, "1001 4479 100001")
+        later = {"typing", "re", "json", "dataclasses", "difflib", "hashlib", "inspect", "pathlib", "subprocess", "warnings"}
+        later |= {f"tracehost.{name}" for name in ("naming", "recording", "refusals", "rows", "viewing")}
+        self.assertEqual(later & {*modules.split()}, set())
 
 
 class Views(unittest.TestCase):

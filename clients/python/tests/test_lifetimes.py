@@ -27,6 +27,7 @@ import pytest
 
 sys.path.insert(0, str(pathlib.Path(__file__).resolve().parents[1]))
 from tracehost import Host, New, Request, SessionBusy, SessionClosed
+from tracehost.host import Process
 
 SCALE = int(os.environ.get("TRACEHOST_TEST_SCALE", "1"))
 Call = Callable[[], object]
@@ -221,29 +222,75 @@ def test_a_call_of_a_signal_handler_says_busy() -> None:
         assert host.user(1001).spawn() == New(1002, 100002)
 
 
-def test_an_interrupt_before_the_call_is_taken_away() -> None:
+def test_a_call_during_a_plain_call_says_busy() -> None:
+    with Host() as host:
+        debugger, target = two_processes(host)
+        plain, said = host._calls.c_ptrace, []
+
+        def interrupted(*words: Any) -> int:
+            with pytest.raises(SessionBusy) as caught:
+                debugger.wait4(target)
+            said.append(str(caught.value))
+            return plain(*words)
+
+        host._calls.c_ptrace = interrupted
+        debugger.ptrace(Request.PT_ATTACH, target)
+        host._calls.c_ptrace = plain
+        assert said == ["the session is busy: this thread is in a call of it already"]
+        assert debugger.wait4(target).pid == target
+        in_thread(lambda: debugger.ptrace(Request.PT_DETACH, target))
+
+
+def in_thread(function: Callable[[], Any]) -> None:
+    """Another thread gets the lock, which this one has given back."""
+    thread = threading.Thread(target=function, daemon=True)
+    thread.start()
+    thread.join(60)
+    assert not thread.is_alive()
+
+
+def two_processes(host: Host) -> tuple[Process, int]:
+    user = host.user(1001)
+    return user.process(user.spawn()), user.spawn().pid
+
+
+def test_numbers_that_are_kept_for_calls() -> None:
+    """They are the right ones, and not without end."""
+    with Host() as host:
+        debugger, target = two_processes(host)
+        for which in (*range(2000, 12000), 1000, target):
+            with pytest.raises(ChildProcessError):
+                debugger.wait4(which)
+        debugger.ptrace(Request.PT_ATTACH, target)
+        assert debugger.wait4(-1) == (target, 4479) and len(host._calls.c_numbers) < 5000
+
+
+@pytest.mark.parametrize(("method", "call"), [(Host._alone, "list"), (Host._plain, "wait4")])
+def test_an_interrupt_before_the_call_is_taken_away(method: Any, call: str) -> None:
     """As Python 3.9 may raise it: the next call isn't told that the session is busy."""
-    body = inspect.getsource(Host._alone).splitlines()
-    first = Host._alone.__code__.co_firstlineno
+    body = inspect.getsource(method).splitlines()
+    first = method.__code__.co_firstlineno
     last = next(number for number, line in enumerate(body) if "self._call_in = None" in line)
 
     def trace(frame: FrameType, event: str, argument: object) -> Any:
-        if frame.f_code is not Host._alone.__code__:
+        if frame.f_code is not method.__code__:
             return None
         if event == "line" and frame.f_lineno == first + last:
             raise KeyboardInterrupt
         return trace
 
     with Host() as host:
-        user, before = host.user(1001), sys.gettrace()
+        (process, pid), before = two_processes(host), sys.gettrace()
+        process.ptrace(Request.PT_ATTACH, pid)
         sys.settrace(trace)
         try:
             with pytest.raises(KeyboardInterrupt):
-                user.spawn()
+                getattr(process, call)()
         finally:
             sys.settrace(before)
         assert host._call_in is not None
-        assert user.spawn() == New(1001, 100001)
+        assert host.user(1001).spawn() == New(1002, 100002)
+        in_thread(process.list)
 
 
 @pytest.mark.parametrize("copied", [copy.copy, copy.deepcopy, pickle.dumps])

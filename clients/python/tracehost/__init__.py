@@ -33,14 +33,13 @@ Signals and the codes of system calls have FreeBSD's numbers, whatever the machi
 
 from __future__ import annotations
 
-from typing import TYPE_CHECKING
-
 from .errors import Held, RecordingFailed, RefusedStep, SessionBusy, SessionClosed
 from .host import Host, Process, User
 from .names import Action, Call, Decision, EventMask, LwpEvent, Request, Signal, StopFlag, WaitOption
 from .replies import Caught, Ended, Handled, LwpInfo, New, Stopped, Turned, Waited
 from .steps import Act, Block, Compute, Enter, Leave, Raise, Rule
 
+TYPE_CHECKING = False  # as typing has it, which takes long to import
 if TYPE_CHECKING:
     from .naming import describe
     from .rows import DueStop, LwpMode, LwpRow, ProcessRow, ProcessState, View

@@ -7,10 +7,13 @@ import threading
 import time
 from collections import defaultdict
 from collections.abc import Callable, Sequence
-from types import FrameType
-from typing import Any, Optional
+from types import CodeType, FrameType
 
-from .errors import hides_from_pytest
+from .errors import SessionBusy, hides_from_pytest
+
+TYPE_CHECKING = False
+if TYPE_CHECKING:
+    from typing import Any, Optional
 
 __tracebackhide__ = hides_from_pytest
 
@@ -24,6 +27,8 @@ class Progress:
         self._sleepers = 0
         self._closed = False
         self._turns: Turns | None = None
+        self.is_watched = False
+        """Whether somebody has ever slept, or was about to: before that nobody asks for counts."""
 
     def note(self, uid: int) -> None:
         """Counts a step of the user that may have changed something. One thread at a time calls it."""
@@ -139,9 +144,13 @@ class Turns:
         self._changed.notify_all()
 
 
-def is_running(frame: FrameType) -> bool:
-    """Whether this thread is in a call with this frame."""
-    at: Optional[FrameType] = sys._getframe(1)
-    while at is not None and at is not frame:
+def check_is_alone(methods: Sequence[CodeType], own: object) -> None:
+    """Raises SessionBusy if this thread is in a method of the object with one of these codes, beside the one that calls.
+
+    Python 3.9 may raise KeyboardInterrupt before a method has noted its end, so the thread's frames are looked at.
+    """
+    at: Optional[FrameType] = sys._getframe(2)
+    while at is not None:
+        if at.f_code in methods and at.f_locals["self"] is own:
+            raise SessionBusy
         at = at.f_back
-    return at is not None

@@ -4,11 +4,10 @@ from __future__ import annotations
 
 import functools
 import os
-from typing import Optional
 
 
 @functools.lru_cache(maxsize=None)
-def answer_of(tool: str) -> Optional[str]:
+def answer_of(tool: str) -> str | None:
     """What ``tools/program`` or ``tools/library`` prints, a path; None outside a checkout.
 
     They compare digests of the sources and of the files. Raises FileNotFoundError with what they say if neither what

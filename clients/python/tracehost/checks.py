@@ -5,15 +5,18 @@ from __future__ import annotations
 import enum
 import operator
 from collections.abc import Mapping
-from typing import Any, TypeVar
 
 from .errors import hides_from_pytest
 from .names import Request, Signal
 from .replies import New
 
-__tracebackhide__ = hides_from_pytest
+TYPE_CHECKING = False
+if TYPE_CHECKING:
+    from typing import Any, TypeVar
 
-_Kind = TypeVar("_Kind")
+    _Kind = TypeVar("_Kind")
+
+__tracebackhide__ = hides_from_pytest
 
 
 def whole(name: str, value: object, kind: type[enum.Enum] = Signal) -> int:
@@ -49,6 +52,16 @@ def of_kind(name: str, kind: type[_Kind], value: Any) -> _Kind:
         foreign = f" of {type(value).__name__}" if isinstance(value, enum.Enum) else ""
         raise TypeError(f"{name}: expected {kind.__name__}, got {value!r}{foreign}{_hint_of_kind(kind, value)}")
     return value
+
+
+def check_timeout(block: bool, timeout: float | None) -> None:
+    """A timeout is a number of seconds, and only for calls that block."""
+    if timeout is None:
+        return
+    if not block:
+        raise ValueError("timeout: it goes with block=True")
+    if not isinstance(timeout, (int, float)):
+        raise TypeError(f"timeout: expected seconds, got {timeout!r}")
 
 
 def without_foreign_signals(step: Mapping[str, Any]) -> Mapping[str, Any]:

@@ -4,14 +4,16 @@ from __future__ import annotations
 
 import os
 import weakref
-from typing import Protocol
 
+TYPE_CHECKING = False
+if TYPE_CHECKING:
+    from typing import Protocol
 
-class Inherited(Protocol):
-    """What a forked child has a copy of."""
+    class Inherited(Protocol):
+        """What a forked child has a copy of."""
 
-    def in_child(self) -> None:
-        """Called in the child, which has only the thread that called fork."""
+        def in_child(self) -> None:
+            """Called in the child, which has only the thread that called fork."""
 
 
 _all: weakref.WeakSet[Inherited] = weakref.WeakSet()

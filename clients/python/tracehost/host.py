@@ -4,26 +4,27 @@ from __future__ import annotations
 
 import errno
 import os
-import sys
 import threading
 import time
 from collections.abc import Callable, Iterable, Mapping, Sequence
-from types import FrameType, TracebackType
-from typing import TYPE_CHECKING, Any, Literal, NoReturn, Optional, TypeVar, overload
+from types import TracebackType
 
 from . import forks
-from .blocking import Progress, is_running
-from .checks import number_of_process, of_kind, whole, without_foreign_signals, word
-from .errors import Held, RecordingFailed, SessionBusy, hides_from_pytest
+from .blocking import Progress, check_is_alone
+from .checks import check_timeout, number_of_process, of_kind, whole, without_foreign_signals, word
+from .errors import Held, RecordingFailed, hides_from_pytest
 from .library import RawRows, Session, find
 from .lines import line_of, raise_answer, reason_in
 from .names import ALL_EVENTS, CALLER_OPS, OPTIONS, Action, Decision, EventMask, Request, WaitOption, names_of
 from .replies import NOTHING, Answered, Handled, LwpInfo, New, Turned, Waited
 from .steps import Act, Rule, check_act
-from .typed import NotTyped, TypedCalls
+from .typed import NotTyped, TypedCalls, numbers_in
 from .verdicts import REQUESTS, Verdict, verdict
 
+TYPE_CHECKING = False
 if TYPE_CHECKING:
+    from typing import Any, Literal, NoReturn, Optional, TypeVar, overload
+
     from typing_extensions import ParamSpec
 
     from .recording import Recording
@@ -31,10 +32,12 @@ if TYPE_CHECKING:
     from .rows import View
 
     _Arguments = ParamSpec("_Arguments")
+    _Result = TypeVar("_Result")
+else:
+    from .plain_typing import overload
 
 __tracebackhide__ = hides_from_pytest
 
-_Result = TypeVar("_Result")
 _SET_EVENT_MASK, _NO_OPTION, _WNOHANG = Request.PT_SET_EVENT_MASK, WaitOption(0), WaitOption.WNOHANG
 
 
@@ -74,14 +77,19 @@ class Host:
         self._explains = explain
         self._progress = Progress()
         # a signal handler and a ``__del__`` run in the thread of a call, which a plain lock would stop for ever
-        self._lock = threading.RLock()
-        self._call_in: Optional[FrameType] = None
+        self._new_lock()
         self._calls = TypedCalls(session, self._progress, recording)
+        self._is_plain = recording is None and type(self) is Host
         forks.tell(self)
+
+    def _new_lock(self) -> None:
+        self._lock = threading.RLock()
+        self._acquire, self._release = self._lock.acquire, self._lock.release
+        self._call_in: Optional[Callable[..., Any]] = None
 
     def in_child(self) -> None:
         """After fork(2), in the child: it has a copy of the session, which isn't recorded."""
-        self._lock, self._call_in = threading.RLock(), None
+        self._new_lock()
         self._progress.in_child()
         if self._recording is not None:
             self._recording.in_child()
@@ -174,11 +182,10 @@ class Host:
         Raises SessionBusy, and as Held and OSError what was answered, with the condition that held.
         """
         with self._lock:
-            # Python 3.9 may raise KeyboardInterrupt before the frame is taken away, so one that has ended is none
-            if self._call_in is not None and is_running(self._call_in):
-                raise SessionBusy
+            if self._call_in is not None:
+                check_is_alone(_CALLS, self)
             try:
-                self._call_in = sys._getframe()
+                self._call_in = function
                 return function(*arguments)
             except (Answered, Held, NotTyped) as refusal:
                 raise self._explained(refusal, function, arguments) from None
@@ -187,6 +194,30 @@ class Host:
                 raise
             finally:
                 self._call_in = None
+
+    def _plain(self, op: str, function: Callable[..., int], words: tuple[Any, ...]) -> Any:
+        """As `_alone` of the call with this name, faster: for a plain host, and words that fit, all that the library gets."""
+        reply = self._calls.reply
+        try:  # `with` takes twice the time
+            self._acquire()
+            if self._call_in is not None:
+                check_is_alone(_CALLS, self)
+            try:
+                self._call_in = function
+                code = function(*words)
+                if code or self._progress.is_watched:
+                    return self._calls._made(code, words[1])
+                kind = reply.kind
+                return self._calls.readers[kind][1](reply) if kind else None
+            except (Answered, Held, NotTyped) as refusal:
+                raise self._explained(refusal, getattr(self._calls, op), numbers_in(words)) from None
+            finally:
+                self._call_in = None
+        finally:
+            try:
+                self._release()
+            except RuntimeError:  # interrupted as it waited for the lock
+                pass
 
     def _explained(self, refusal: Exception, function: Callable[..., Any], arguments: Sequence[Any]) -> Exception:
         """What is raised for the refusal of a call of `TypedCalls`."""
@@ -235,6 +266,7 @@ class Host:
 
     def _call_and_see(self, quiet: object, call: Callable[..., Any], *arguments: Any) -> tuple[Any, int]:
         """The result of a call, Held if that is quiet, and how many steps its user has had until then."""
+        self._progress.is_watched = True
         try:
             result = call(*arguments)
         except Held:
@@ -280,15 +312,6 @@ class Host:
         return self._session.rows(uid)
 
 
-def _check_timeout(block: bool, timeout: float | None) -> None:
-    if timeout is None:
-        return
-    if not block:
-        raise ValueError("timeout: it goes with block=True")
-    if not isinstance(timeout, (int, float)):
-        raise TypeError(f"timeout: expected seconds, got {timeout!r}")
-
-
 class User:
     """What a user does without a caller: new processes, and the turns of LWPs."""
 
@@ -316,7 +339,7 @@ class User:
         If it doesn't run, raises Held. With `block` the call sleeps instead until another thread lets the LWP go on,
         and raises TimeoutError after `timeout` seconds.
         """
-        _check_timeout(block, timeout)
+        check_timeout(block, timeout)
         host, number = self.host, word("lwp", lwp)
         if block:
             return host._news(Held, timeout, f"turn of {lwp}", host._calls.turn, self.uid, number, check_act(act))
@@ -368,27 +391,24 @@ class Process:
         PT_TRACE_ME ignores both. PT_LWPINFO returns an `LwpInfo`, PT_GET_EVENT_MASK an `EventMask`, PT_GETNUMLWPS a number, PT_GETLWPLIST the
         numbers of LWPs in order of birth, and every other request None. docs/ERRNOS.md explains each errno.
         """
+        user, pid = self.user, self.pid
+        host, uid = user.host, user.uid
         if type(request) is not Request:
             of_kind("request", Request, request)
-        elif request is _SET_EVENT_MASK and whole("data", data, EventMask) & ~ALL_EVENTS:
+        elif host._is_plain and request is not _SET_EVENT_MASK and type(target) is type(data) is int:
+            if not (uid | pid | target | data) >> 32:
+                calls = host._calls
+                return host._plain("ptrace", calls.c_ptrace, (calls.c_session, uid, pid, request, target, data, calls.c_reply))
+        if request is _SET_EVENT_MASK and whole("data", data, EventMask) & ~ALL_EVENTS:
             # bits without a name, which no line has: the model is asked for what it refuses first, and EINVAL comes last
             self.ptrace(Request.PT_GET_EVENT_MASK, target)
             from .refusals import Asked
 
-            asked = Asked("ptrace", self.user.uid, self.pid, (request, target, data))
-            raise self.user.host._refusal(Answered("EINVAL"), asked)
-        user = self.user
-        calls = user.host._calls
-        pid = word("pid", self.pid)
-        return user.host._alone(calls.ptrace, user.uid, pid, request, word("target", target), word("data", data))
+            raise host._refusal(Answered("EINVAL"), Asked("ptrace", uid, pid, (request, target, data)))
+        return host._alone(host._calls.ptrace, uid, word("pid", pid), request, word("target", target), word("data", data))
 
     def wait4(
-        self,
-        which: int = -1,
-        options: WaitOption = _NO_OPTION,
-        *,
-        block: bool = False,
-        timeout: float | None = None,
+        self, which: int = -1, options: WaitOption = _NO_OPTION, *, block: bool = False, timeout: float | None = None
     ) -> Waited:
         """wait4(2): the status of a child or tracee, `which` by number or -1 for any; ``Waited(0, 0)`` for nothing.
 
@@ -396,17 +416,23 @@ class Process:
         something to collect. It raises TimeoutError after `timeout` seconds, or at once if nothing could end it. ECHILD
         if the caller has none that `which` names; EINVAL if `which` is 0 or below -1.
         """
-        asked = 0
+        user, pid = self.user, self.pid
+        host, uid, asked = user.host, user.uid, 0
         if options is not _NO_OPTION:
             asked = whole("options", options, WaitOption)
             names_of(asked, OPTIONS)  # ValueError if a bit has no name
-        user, pid, number = self.user, word("pid", self.pid), whole("which", which)
-        host, call = user.host, user.host._calls.wait4
+        elif host._is_plain and not block and timeout is None and type(which) is int:
+            if not (uid | pid) >> 32 and -1 <= which < 1 << 32:
+                calls = host._calls
+                words = calls.c_session, uid, pid, calls.c_numbers[which], 0, calls.c_reply
+                return host._plain("wait4", calls.c_wait4, words) or NOTHING
+        pid, number = word("pid", pid), whole("which", which)
+        call = host._calls.wait4
         if block or timeout is not None:
-            _check_timeout(block, timeout)
+            check_timeout(block, timeout)
             if not asked & _WNOHANG:
-                return host._news(NOTHING, timeout, f"wait4 of {self.pid}", call, user.uid, pid, number, asked)
-        return host._alone(call, user.uid, pid, number, asked)
+                return host._news(NOTHING, timeout, f"wait4 of {self.pid}", call, uid, pid, number, asked)
+        return host._alone(call, uid, pid, number, asked)
 
     def kill(self, which: int, signal: int) -> None:
         """kill(2): posts a signal (0 for none) to a process, or with -1 to all others of the user."""
@@ -440,7 +466,7 @@ class Process:
 
         `block` and `timeout` are as for `wait4`.
         """
-        _check_timeout(block, timeout)
+        check_timeout(block, timeout)
         host, uid, pid = self.user.host, self.user.uid, word("pid", self.pid)
         if block:
             return host._news(None, timeout, f"handle of {self.pid}", host._calls.handle, uid, pid)
@@ -464,3 +490,6 @@ class Process:
             self.ptrace(request, handled.pid, passed)
         passes = decision in (Decision.CONTINUE, Decision.DETACH)
         return handled._replace(handler=None, decision=decision, pass_signal=passed if passes else None)
+
+
+_CALLS = (Host._alone.__code__, Host._plain.__code__)

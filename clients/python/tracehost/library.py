@@ -7,12 +7,15 @@ import functools
 import os
 from collections.abc import Callable
 from ctypes import POINTER, Array, byref, c_bool, c_char_p, c_size_t, c_uint32, c_uint64
-from typing import Any, Optional
 
 from . import checkout, packaged
 from .errors import SessionClosed, hides_from_pytest
 from .names import MOST_LWPS as MOST_LWPS
 from .names import MOST_PROCESSES as MOST_PROCESSES
+
+TYPE_CHECKING = False
+if TYPE_CHECKING:
+    from typing import Any, Optional
 
 __tracebackhide__ = hides_from_pytest
 

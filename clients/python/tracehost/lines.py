@@ -2,14 +2,17 @@
 
 from __future__ import annotations
 
-import re
 from collections.abc import Callable, Iterable, Sequence
-from typing import Any, Optional
 
 from .errors import Held, RefusedStep, hides_from_pytest
 from .names import EVENTS, OPTIONS, Action, Request, names_of
 from .replies import Answered
-from .steps import Act, Rule
+
+TYPE_CHECKING = False
+if TYPE_CHECKING:
+    from typing import Any, Optional
+
+    from .steps import Act, Rule
 
 __tracebackhide__ = hides_from_pytest
 
@@ -33,6 +36,8 @@ def user_changed(answer: str) -> Optional[int]:
 
 def reason_in(explained: str) -> str:
     """The reason in what `Session.explain` says of one line, without the line's number."""
+    import re
+
     return re.sub(r"^\s*line \d+(?:: |, )", "", explained, flags=re.MULTILINE).strip()
 
 

@@ -4,13 +4,12 @@ from __future__ import annotations
 
 import functools
 import os
-from typing import Optional
 
 _SUMS = "SHA256SUMS"
 
 
 @functools.lru_cache(maxsize=None)
-def file_of(name: str) -> Optional[str]:
+def file_of(name: str) -> str | None:
     """The path of the package's file of this name; None if it has none.
 
     Raises FileNotFoundError, with the reason, if it isn't the file that the package was built with. The package has the

@@ -1,10 +1,17 @@
 """What is answered: the values of replies."""
 
-# no annotations of __future__: a named tuple would compile each one
+from __future__ import annotations
+
 import os
-from typing import NamedTuple, NoReturn, Optional, Union
+import sys
 
 from .names import Decision, LwpEvent, Signal, StopFlag
+
+TYPE_CHECKING = False
+if TYPE_CHECKING:
+    from typing import NamedTuple, NoReturn
+else:
+    from .plain_typing import NamedTuple
 
 # the word of a process that was continued, and the status in which this system's os.WIFCONTINUED sees it
 _CONTINUED_WORD = 0x13
@@ -112,10 +119,10 @@ class Handled(NamedTuple):
     flags: StopFlag
     child: int
     code: int
-    handler: Optional[int]
+    handler: int | None
     """Which of the caller's handlers decided, from 0; None if all declined."""
     decision: Decision
-    pass_signal: Optional[int]
+    pass_signal: int | None
     """The signal that the process goes on with, 0 for none; None except for `Decision.CONTINUE` and `Decision.DETACH`."""
 
     @property
@@ -192,7 +199,12 @@ class Ended(NamedTuple):
 # end
 
 
-Turned = Union[None, New, Stopped, Caught, Ended]
+if sys.version_info >= (3, 10):
+    Turned = New | Stopped | Caught | Ended | None
+else:
+    from typing import Union
+
+    Turned = Union[None, New, Stopped, Caught, Ended]
 
 
 NOTHING = Waited(0, 0)

@@ -1,12 +1,19 @@
 """What is sent: the acts of an LWP at its turn, and the rules of a stop handler."""
 
-# no annotations of __future__: a named tuple would compile each one
+from __future__ import annotations
+
+import sys
 from collections.abc import Iterable
-from typing import NamedTuple, Optional, Union
 
 from .checks import of_kind, whole, word
 from .errors import hides_from_pytest
 from .names import STOP_FLAGS, Call, Decision, StopFlag, names_of
+
+TYPE_CHECKING = False
+if TYPE_CHECKING:
+    from typing import NamedTuple
+else:
+    from .plain_typing import NamedTuple
 
 __tracebackhide__ = hides_from_pytest
 
@@ -40,7 +47,7 @@ class Enter(NamedTuple):
     """The LWP enters a system call. `code` is the exit code of `Call.EXIT`, and the number of `Call.OTHER`."""
 
     call: Call
-    code: Optional[int] = None
+    code: int | None = None
 
     def _keys(self) -> str:
         code = "" if self.code is None else f',"code":{whole("code", self.code)}'
@@ -54,7 +61,12 @@ class Leave(NamedTuple):
         return '"act":"leave"'
 
 
-Act = Union[Compute, Raise, Block, Enter, Leave]
+if sys.version_info >= (3, 10):
+    Act = Compute | Raise | Block | Enter | Leave
+else:
+    from typing import Union
+
+    Act = Union[Compute, Raise, Block, Enter, Leave]
 
 
 def check_act(act: Act) -> Act:
@@ -70,9 +82,9 @@ class Rule(NamedTuple):
     """A rule of a stop handler: it fits a stop with this signal (any, if it is None) that has all these flags."""
 
     decision: Decision
-    signal: Optional[int] = None
+    signal: int | None = None
     flags: StopFlag = StopFlag(0)
-    pass_signal: Optional[int] = None
+    pass_signal: int | None = None
     """The signal that the process goes on with, only for `Decision.CONTINUE` and `Decision.DETACH`."""
 
     def _object(self) -> str:

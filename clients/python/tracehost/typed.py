@@ -7,7 +7,6 @@ import functools
 import os
 from collections.abc import Callable, Iterable, Sequence
 from ctypes import byref, c_int64, c_size_t
-from typing import TYPE_CHECKING, Any, NoReturn, Optional
 
 from .blocking import Progress
 from .checks import of_kind, whole, word
@@ -30,7 +29,10 @@ from .replies import (
 )
 from .steps import Act, Block, Compute, Enter, Raise, Rule
 
+TYPE_CHECKING = False
 if TYPE_CHECKING:
+    from typing import Any, NoReturn, Optional
+
     from .recording import Recording
 
 __tracebackhide__ = hides_from_pytest
@@ -45,7 +47,8 @@ _NUMBER_OF_ACTION = {action: number for number, action in enumerate(Action)}
 _DECISIONS: tuple[Decision, ...] = tuple(Decision)
 _PASSING = (Decision.CONTINUE, Decision.DETACH)
 _FLAGS: tuple[StopFlag, ...] = tuple(StopFlag)
-_ANY = c_int64(-1)
+_MOST_KEPT = 1 << 12
+_new = tuple.__new__  # a named tuple's own takes three times as long
 
 
 class NotTyped(Exception):
@@ -123,58 +126,59 @@ class TypedCalls:
         self._session = session
         self._progress = progress
         self._recording = recording
-        self._reply = Reply()
-        library, self._handle, self._into = session.library, session.handle, byref(self._reply)
-        self._spawn, self._turn, self._ptrace = library["spawn"], library["turn"], library["ptrace"]
-        self._wait4, self._kill, self._sigaction = library["wait4"], library["kill"], library["sigaction"]
+        self.reply = Reply()
+        library, self.c_session, self.c_reply = session.library, session.handle, byref(self.reply)
+        self._spawn, self._turn, self.c_ptrace = library["spawn"], library["turn"], library["ptrace"]
+        self.c_wait4, self._kill, self._sigaction = library["wait4"], library["kill"], library["sigaction"]
         self._list, self._install, self._handles = library["list"], library["install"], library["handle"]
-        self._readers = self._table()
+        self.c_numbers = _Numbers()
+        self.readers = self._table()
 
     def spawn(self, uid: int) -> New:
         _check_words(uid)
-        new: New = self._made(self._spawn(self._handle, uid, self._into), uid)
+        new: New = self._made(self._spawn(self.c_session, uid, self.c_reply), uid)
         return new
 
     def turn(self, uid: int, lwp: int, act: Act) -> Turned:
         number, call, argument = _act_numbers(act)
         _check_words(uid | lwp | argument)
-        turned: Turned = self._made(self._turn(self._handle, uid, lwp, number, call, argument, self._into), uid)
+        turned: Turned = self._made(self._turn(self.c_session, uid, lwp, number, call, argument, self.c_reply), uid)
         return turned
 
     def ptrace(self, uid: int, pid: int, request: Request, target: int, data: int) -> Any:
         if (uid | pid | target | data) >> 32:
             raise NotTyped
-        return self._made(self._ptrace(self._handle, uid, pid, request, target, data, self._into), uid)
+        return self._made(self.c_ptrace(self.c_session, uid, pid, request, target, data, self.c_reply), uid)
 
     def wait4(self, uid: int, pid: int, which: int, options: int) -> Waited:
         if (uid | pid | options) >> 32:
             raise NotTyped
-        code = self._wait4(self._handle, uid, pid, _ANY if which == -1 else _number(which), options, self._into)
+        code = self.c_wait4(self.c_session, uid, pid, _number(which), options, self.c_reply)
         waited: Waited | None = self._made(code, uid)
         return NOTHING if waited is None else waited
 
     def kill(self, uid: int, pid: int, which: int, signal: int) -> None:
         _check_words(uid | pid | signal)
-        self._made(self._kill(self._handle, uid, pid, _number(which), signal, self._into), uid)
+        self._made(self._kill(self.c_session, uid, pid, _number(which), signal, self.c_reply), uid)
 
     def sigaction(self, uid: int, pid: int, signal: int, action: Action) -> None:
         _check_words(uid | pid | signal)
-        self._made(self._sigaction(self._handle, uid, pid, signal, _NUMBER_OF_ACTION[action], self._into), uid)
+        self._made(self._sigaction(self.c_session, uid, pid, signal, _NUMBER_OF_ACTION[action], self.c_reply), uid)
 
     def list(self, uid: int, pid: int) -> tuple[int, ...]:
         _check_words(uid | pid)
-        pids: tuple[int, ...] = self._made(self._list(self._handle, uid, pid, self._into), uid)
+        pids: tuple[int, ...] = self._made(self._list(self.c_session, uid, pid, self.c_reply), uid)
         return pids
 
     def install(self, uid: int, pid: int, rules: Iterable[Rule]) -> None:
         _check_words(uid | pid)
         made = [_c_rule(rule) for rule in rules]
         array = (CRule * len(made))(*made)
-        self._made(self._install(self._handle, uid, pid, array, c_size_t(len(made)), self._into), uid)
+        self._made(self._install(self.c_session, uid, pid, array, c_size_t(len(made)), self.c_reply), uid)
 
     def handle(self, uid: int, pid: int) -> None | Waited | Handled:
         _check_words(uid | pid)
-        handled: None | Waited | Handled = self._made(self._handles(self._handle, uid, pid, self._into), uid)
+        handled: None | Waited | Handled = self._made(self._handles(self.c_session, uid, pid, self.c_reply), uid)
         return handled
 
     def line(self, text: str) -> str:
@@ -182,7 +186,7 @@ class TypedCalls:
         answer = self._session.exchange(text)
         if self._recording is not None:
             self._recording.add(text, answer)
-        uid = user_changed(answer)
+        uid = user_changed(answer) if self._progress.is_watched else None
         if uid is not None:
             self._progress.note(uid)
         return answer
@@ -193,11 +197,11 @@ class TypedCalls:
             if code == INVALID:
                 raise NotTyped
             self._session.check(code)
-        reply = self._reply
+        reply = self.reply
         if self._recording is not None:
             self._record(self._recording)
-        changes, reader = self._readers[reply.kind]
-        if changes:
+        changes, reader = self.readers[reply.kind]
+        if changes and self._progress.is_watched:
             self._progress.note(uid)
         return reader(reply)
 
@@ -252,6 +256,21 @@ def _number(which: int) -> c_int64:
     return c_int64(which)
 
 
+class _Numbers(dict[int, c_int64]):
+    """Numbers of 64 bits with a sign as C gets them, which take long to make."""
+
+    def __missing__(self, number: int) -> c_int64:
+        if len(self) == _MOST_KEPT:
+            self.clear()
+        made = self[number] = c_int64(number)
+        return made
+
+
+def numbers_in(words: tuple[Any, ...]) -> tuple[int, ...]:
+    """The arguments of a call of `TypedCalls`, from what the library's function gets for it."""
+    return tuple(word.value if isinstance(word, c_int64) else word for word in words[1:-1])
+
+
 def _nothing(reply: Reply) -> None:
     return None
 
@@ -268,7 +287,7 @@ def _decision(reply: Reply) -> tuple[Decision, int | None]:
 
 # tools/format readers
 def _read_new(reply: Reply) -> New:
-    return New(reply.pid, reply.lwp)
+    return _new(New, (reply.pid, reply.lwp))
 
 
 def _read_number(reply: Reply) -> int:
@@ -276,7 +295,7 @@ def _read_number(reply: Reply) -> int:
 
 
 def _read_status(reply: Reply) -> Waited:
-    return Waited(reply.pid, status_of(reply.status))
+    return _new(Waited, (reply.pid, status_of(reply.status)))
 
 
 def _read_info(reply: Reply) -> LwpInfo:
@@ -310,15 +329,15 @@ def _read_handled(reply: Reply) -> Handled:
 
 
 def _read_stopped(reply: Reply) -> Stopped:
-    return Stopped(reply.lwp, Signal(reply.signal), flags_of(reply.flags))
+    return _new(Stopped, (reply.lwp, Signal(reply.signal), flags_of(reply.flags)))
 
 
 def _read_caught(reply: Reply) -> Caught:
-    return Caught(Signal(reply.signal))
+    return _new(Caught, (Signal(reply.signal),))
 
 
 def _read_ended(reply: Reply) -> Ended:
-    return Ended(status_of(reply.status))
+    return _new(Ended, (status_of(reply.status),))
 
 
 def _read_error(reply: Reply) -> NoReturn:

@@ -2,12 +2,17 @@
 
 from __future__ import annotations
 
-from typing import Union
+import sys
 
 from .checks import of_kind, word
 from .names import Decision, Request
 
-Verdict = Union[Decision, tuple[Decision, int]]
+if sys.version_info >= (3, 10):
+    Verdict = Decision | tuple[Decision, int]
+else:
+    from typing import Union
+
+    Verdict = Union[Decision, tuple[Decision, int]]
 """What a function of `Process.handle_with` returns."""
 REQUESTS = {
     Decision.CONTINUE: Request.PT_CONTINUE,
