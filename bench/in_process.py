@@ -6,13 +6,13 @@
 FOLDER is that of libtracehost.a (default: the release's, or $TRACEHOST_LIB_DIR). A debugger attaches to a process, waits for
 it and detaches, again and again; in one row a process forks, and waits for its child's end. Printed is for each way the best
 of N runs (default 9), in nanoseconds a step; the runs of the ways take turns. Instructions are counted by valgrind's
-callgrind, as the difference of two runs; `-` if there is no valgrind, and for Python. The clients in C and Python make typed
-calls. Without cargo or c++ their rows are left out. Then come the instructions of one tracehost_view of a user, by the number
-of other users with 250 processes and 1,000 LWPs each, and those of copying a session and closing the copy, of opening and
-closing one, and of copying one over another, by the number of its processes; the last one also after 8,000 processes that
-have ended, and beside 63 users with 250 processes each. With --baseline columns have the instructions of the library by hand
-in bench/baseline, which cargo builds, for the calls that it has, and how many times as many the first one takes; its copies
-follow.
+callgrind, as the difference of two runs; `-` if there is no valgrind. The clients in C and Python make typed calls. Without
+cargo or c++ their rows are left out. Then come the instructions of `import tracehost` and of Python that imports nothing,
+once bytecode is there, and those of one tracehost_view of a user, by the number of other users with 250 processes and 1,000
+LWPs each, and those of copying a session and closing the copy, of opening and closing one, and of copying one over another,
+by the number of its processes; the last one also after 8,000 processes that have ended, and beside 63 users with 250
+processes each. With --baseline columns have the instructions of the library by hand in bench/baseline, which cargo builds,
+for the calls that it has, and how many times as many the first one takes; its copies follow.
 """
 
 from __future__ import annotations
@@ -25,6 +25,7 @@ import platform
 import re
 import shutil
 import subprocess
+import sys
 import tempfile
 from collections.abc import Sequence
 from typing import NamedTuple
@@ -110,9 +111,10 @@ def nanoseconds(way: list[str], steps: int) -> float:
 
 
 def instructions(run: list[str], *options: str) -> int:
-    """What callgrind collects in a run of this command."""
+    """What callgrind collects in a run of this command. Python's sets have one order, and its bytecode is kept."""
     words = ["valgrind", "--tool=callgrind", "--callgrind-out-file=/dev/null", *options, *run]
-    ran = subprocess.run(words, check=True, capture_output=True, text=True, timeout=SECONDS)
+    environment = {**os.environ, "PYTHONHASHSEED": "0", "PYTHONDONTWRITEBYTECODE": ""}
+    ran = subprocess.run(words, check=True, capture_output=True, text=True, timeout=SECONDS, env=environment)
     counted = COUNTED.search(ran.stderr)
     if counted is None:
         raise RuntimeError(ran.stderr)
@@ -120,9 +122,18 @@ def instructions(run: list[str], *options: str) -> int:
 
 
 def instructions_a_step(way: list[str]) -> float | None:
-    if way[0].endswith(".py") or not shutil.which("valgrind"):
+    if not shutil.which("valgrind"):
         return None
+    if way[0].endswith(".py"):
+        way = [sys.executable, *way]
+        return (instructions([*way, "9000"]) - instructions([*way, "3000"])) / 6000
     return (instructions(command(way, 60000)) - instructions(command(way, 30000))) / 30000
+
+
+def instructions_of_python(code: str) -> int:
+    run = [sys.executable, "-c", f"import sys; sys.path.insert(0, {str(TOP / 'clients/python')!r}); {code}"]
+    instructions(run)  # writes the bytecode
+    return instructions(run)
 
 
 def compile_views(room: pathlib.Path, library: pathlib.Path) -> pathlib.Path:
@@ -169,6 +180,8 @@ def main() -> None:
         other = by_hand() if options.baseline else None
         print_steps(ways(room, library), other and compile_without_client(room, other), options)
         if shutil.which("valgrind"):
+            for code in ("pass", "import tracehost"):
+                print(f"{'Python: ' + code:30} {'':>10}{instructions_of_python(code):14,}")
             print_views(compile_views(room, library))
             for one in (Library(library), *([other] if other else [])):
                 print_copies(one.archive.stem, compile_copies(room, one))
