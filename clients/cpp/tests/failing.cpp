@@ -7,6 +7,7 @@
 
 #include "failing.hpp"
 
+#include <atomic>
 #include <functional>
 #include <iostream>
 #include <map>
@@ -127,23 +128,33 @@ int is_signalled(const std::string &name)
     return 0;
 }
 
-// So many tests, in threads. The test many.N makes 1 to 5 steps, and fails if N is even, or if $ALL_FAIL is set.
+// Which tests fail, by $FAILING: all, none, or those with an even number.
+bool is_to_fail(int number)
+{
+    const char *failing = std::getenv("FAILING");
+    return failing == nullptr ? number % 2 == 0 : std::string(failing) == "all";
+}
+
+// So many tests, in threads. The test many.N makes 1 to 5 steps.
 int many(const std::string &count)
 {
     std::vector<std::thread> all;
+    std::atomic<bool> failed{false};
     for (int first = 0; first < 8; first++)
-        all.emplace_back([first, count = std::stoi(count)] {
+        all.emplace_back([first, count = std::stoi(count), &failed] {
             for (int number = first; number < count; number += 8) {
                 tracehost_test test("many." + std::to_string(number));
                 for (int step = 0; step <= number % 5; step++)
                     test.call(tracehost_spawn, 1001);
-                if (number % 2 == 0 || std::getenv("ALL_FAIL") != nullptr)
-                    test.fail("it is to fail");
+                if (!is_to_fail(number))
+                    continue;
+                test.fail("it is to fail");
+                failed = true;
             }
         });
     for (std::thread &thread : all)
         thread.join();
-    return 1;
+    return failed;
 }
 
 int no_step(const std::string &name)

@@ -182,7 +182,12 @@ fn dies() {
     std::process::abort();
 }
 
-/// The test `$PREFIX.NAME` makes 1 to 5 steps, and fails if its number is even, or if `$ALL_FAIL` is set.
+/// Which tests fail, by `$FAILING`: all, none, or those with an even number.
+fn is_to_fail(number: usize) -> bool {
+    std::env::var("FAILING").map_or(number % 2 == 0, |failing| failing == "all")
+}
+
+/// The test `$PREFIX.NUMBER` makes 1 to 5 steps.
 fn numbered(number: usize) -> Result<(), Error> {
     let prefix = std::env::var("PREFIX").unwrap_or_default();
     let name = format!("{prefix}.{number}");
@@ -194,7 +199,7 @@ fn numbered(number: usize) -> Result<(), Error> {
     for _ in 0..number % 5 {
         session.spawn(USER)?;
     }
-    if number % 2 == 0 || std::env::var_os("ALL_FAIL").is_some() {
+    if is_to_fail(number) {
         assert_eq!(number % 4, 0, "it is to fail");
         session.ptrace(caller, Request::Continue(None), 4711)?;
     }
