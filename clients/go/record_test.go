@@ -2,12 +2,12 @@ package tracehost
 
 import (
 	"os"
-	"os/exec"
 	"path/filepath"
 	"strconv"
 	"strings"
 	"syscall"
 	"testing"
+	"time"
 )
 
 func content(t *testing.T, path string) string {
@@ -124,11 +124,25 @@ func TestATestThatPassesRemovesWhatItLeft(t *testing.T) {
 	name := filepath.Join(folder, stemOf(passing.name))
 	for _, end := range []string{".json", ".out", ".html", ".json.1", "-2.out.1", ".txt", "x.json"} {
 		is(t, os.WriteFile(name+end, nil, 0o666), nil)
-		is(t, exec.Command("touch", "-d", "2020-01-01", name+end).Run(), nil)
 	}
+	before := began
+	began = time.Now().Add(time.Second) // they are older than the process
+	defer func() { began = before }()
 	must(OpenTest(passing).User(1001).Spawn())(t)
 	passing.end()
 	same(t, passing.left(folder), "STEM.txt STEMx.json")
+}
+
+func TestATestThatPassesLeavesWhatItsProcessKept(t *testing.T) {
+	folder := t.TempDir()
+	t.Setenv("TRACEHOST_ARTIFACTS", folder)
+	t.Setenv("TRACEHOST", "/none")
+	for _, failed := range []bool{true, false} {
+		again := &standIn{T: t, name: "TestAgain", failed: failed}
+		must(OpenTest(again).User(1001).Spawn())(t)
+		again.end()
+		same(t, again.left(folder), "STEM.json STEM.out")
+	}
 }
 
 func TestATestWithoutAFolder(t *testing.T) {
@@ -169,6 +183,19 @@ func TestFails(t *testing.T) {
 
 func TestPasses(t *testing.T) {
 	stopsBy(t, SIGSEGV)
+}
+
+// TestSteps makes the steps of the lines of the file STEPS, and fails, for tests/python/test_faults_in_suites.py.
+func TestSteps(t *testing.T) {
+	name, isSet := os.LookupEnv("STEPS")
+	if !isSet {
+		t.Skip("tests/python/test_faults_in_suites.py sets STEPS")
+	}
+	s := OpenTest(t)
+	for _, line := range strings.Split(strings.TrimSpace(content(t, name)), "\n") {
+		must(s.Line(line))(t)
+	}
+	t.Fatal("after all steps")
 }
 
 // TestSideBySide has so many tests as TRACEHOST_COUNT says, for tests/python/test_records_at_once.py: the Nth makes 1 to 5 steps.

@@ -22,7 +22,7 @@ from stranger import block
 
 __all__ = ["words"]  # a fixture
 PAGE = (TOP / "docs/CLIENTS.md").read_text(encoding="utf-8")
-GIVEN_MORE = ("TestFails", "TestPasses", "TestSideBySide", "TestScenarios", "TestCodes")
+GIVEN_MORE = ("TestFails", "TestPasses", "TestSideBySide", "TestSteps", "TestScenarios", "TestCodes")
 
 pytestmark = needs("go", "gcc", "pkg-config")
 

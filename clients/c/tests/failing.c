@@ -210,6 +210,23 @@ static int many(const char *count)
     return failed;
 }
 
+/* Makes the steps of the lines of the file $STEPS, and fails. */
+static int steps(const char *name)
+{
+    char line[4096], answer[4096];
+    FILE *file = fopen(getenv("STEPS"), "r");
+    th_host *h = begin(name);
+    while (file != NULL && fgets(line, sizeof line, file) != NULL) {
+        line[strcspn(line, "\n")] = '\0';
+        if (th_step_text(h, line, answer, sizeof answer) < 0)
+            abort();
+    }
+    if (file != NULL)
+        fclose(file);
+    int failed = th_test_end(h, TH_EXPECT(h, file == NULL));
+    return th_close(h) != 0 || failed;
+}
+
 static int closes(const char *name)
 {
     th_host *h = begin(name);
@@ -262,7 +279,7 @@ int main(int argc, char **argv)
         int (*run)(const char *name);
     } cases[] = {{"passes", passes}, {"fails", fails}, {"twice", twice}, {"threads", threads}, {"forks", forks},
         {"forks_and_aborts", forks_and_aborts}, {"aborts", aborts}, {"aborts_elsewhere", aborts_elsewhere},
-        {"handles_abort", handles_abort}, {"is_signalled", is_signalled}, {"one", one}, {"many", many}, {"closes", closes},
+        {"handles_abort", handles_abort}, {"is_signalled", is_signalled}, {"one", one}, {"many", many}, {"steps", steps}, {"closes", closes},
         {"closes_files", closes_files}, {"no_step", no_step}, {"misuse", misuse}};
     for (size_t i = 0; argc > 1 && i < sizeof cases / sizeof cases[0]; i++)
         if (strcmp(cases[i].name, argv[1]) == 0)

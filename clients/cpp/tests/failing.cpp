@@ -157,6 +157,13 @@ int many(const std::string &count)
     return failed;
 }
 
+int steps(const std::string &name)
+{
+    tracehost_test test(name);
+    test.fail("after " + std::to_string(make_steps(test)) + " steps");
+    return 1;
+}
+
 int no_step(const std::string &name)
 {
     tracehost_test test(name);
@@ -170,6 +177,6 @@ int main(int argc, char **argv)
 {
     const std::map<std::string, std::function<int(const std::string &)>> cases = {{"passes", passes}, {"fails", fails},
         {"twice", twice}, {"throws", throws}, {"threads", threads}, {"forks", forks}, {"no_step", no_step},
-        {"aborts", aborts}, {"many", many}, {"is_signalled", is_signalled}, {"closes_files", closes_files}, {"loses_standard_error", loses_standard_error}};
+        {"aborts", aborts}, {"many", many}, {"steps", steps}, {"is_signalled", is_signalled}, {"closes_files", closes_files}, {"loses_standard_error", loses_standard_error}};
     return argc < 2 ? 2 : cases.at(argv[1])(argv[argc > 2 ? 2 : 1]);
 }

@@ -182,6 +182,18 @@ fn dies() {
     std::process::abort();
 }
 
+/// It makes the steps of the lines of the file `$STEPS`, and fails.
+#[test]
+#[ignore = "tests/python/test_faults_in_suites.py runs it"]
+fn steps() {
+    let lines = std::fs::read_to_string(std::env::var("STEPS").expect("a file")).expect("steps");
+    let mut session = begin();
+    for line in lines.lines() {
+        session.line(line).expect("an answer");
+    }
+    assert_eq!(lines.lines().count(), 0);
+}
+
 /// Which tests fail, by `$FAILING`: all, none, or those with an even number.
 fn is_to_fail(number: usize) -> bool {
     std::env::var("FAILING").map_or(number % 2 == 0, |failing| failing == "all")
