@@ -45,7 +45,11 @@ func (s *Session) RecordTest(t TB) {
 	files, err := newArtifacts(t.Name())
 	if err == nil {
 		err = files.whileLocked(func() error {
-			files.findEarlier()
+			for _, path := range files.earlier() {
+				if strings.Contains(filepath.Base(path), ".json.") && isLeft(path) {
+					say("left by a test that ended its process: %s", path)
+				}
+			}
 			return s.recordInto(files.now("json"), files.now("out"), syscall.O_NOFOLLOW, lost)
 		})
 	}
@@ -57,8 +61,7 @@ func (s *Session) RecordTest(t TB) {
 	}
 }
 
-// on standard error: a test's log is printed only if it fails
-var say = log.New(os.Stderr, "tracehost: ", 0).Printf
+var say = log.New(os.Stderr, "tracehost: ", 0).Printf // a test's log is printed only if it fails
 
 // isFree locks a file while it is open; false if it is locked otherwise.
 func isFree(file *os.File) bool {
@@ -69,14 +72,13 @@ func isFree(file *os.File) bool {
 type artifacts struct {
 	folder, stem, name string
 	isOwn              bool // the folder
-	earlier            []string
 }
 
 var (
-	namesInUse sync.Map
-	notPlain   = regexp.MustCompile(`[^A-Za-z0-9_.-]`)
-	ofATest    = regexp.MustCompile(`^(-\d+)?\.(json|out|html)(\.\d+)?$`)
-	began      = time.Now().Add(-20 * time.Millisecond) // a file's time may be so much behind
+	namesInUse, foundIn sync.Map
+	notPlain            = regexp.MustCompile(`[^A-Za-z0-9_.-]`)
+	ofATest             = regexp.MustCompile(`^(.+-[0-9a-f]{12})(-\d+)?\.(json|out|html)(\.\d+)?$`)
+	began               = time.Now().Add(-20 * time.Millisecond) // a file's time may be so much behind
 )
 
 // stemOf is PROGRAM.TEST-DIGEST. A package's tests run in its folder, from a program that go test has made somewhere.
@@ -122,19 +124,20 @@ func (a *artifacts) whileLocked(run func() error) error {
 	return run()
 }
 
-// findEarlier finds what runs before this process have left of the test, and tells of those that died.
-func (a *artifacts) findEarlier() {
-	entries, _ := os.ReadDir(a.folder)
-	for _, entry := range entries {
-		path, rest := filepath.Join(a.folder, entry.Name()), strings.TrimPrefix(entry.Name(), a.stem)
-		if rest == entry.Name() || !ofATest.MatchString(rest) || !isLeft(path) {
-			continue
+// earlier is what runs before this process have left of the test, as the process's first test in the folder finds it.
+func (a *artifacts) earlier() []string {
+	found, isRead := foundIn.Load(a.folder)
+	if !isRead {
+		paths := map[string][]string{}
+		entries, _ := os.ReadDir(a.folder)
+		for _, entry := range entries {
+			if parts := ofATest.FindStringSubmatch(entry.Name()); parts != nil {
+				paths[parts[1]] = append(paths[parts[1]], filepath.Join(a.folder, entry.Name()))
+			}
 		}
-		a.earlier = append(a.earlier, path)
-		if strings.Contains(rest, ".json.") {
-			say("left by a test that ended its process: %s", path)
-		}
+		found, _ = foundIn.LoadOrStore(a.folder, paths)
 	}
+	return found.(map[string][]string)[a.stem]
 }
 
 // isLeft tells whether a file is of a run before this process, and nobody has locked the scenario that it belongs to.
@@ -142,7 +145,7 @@ func isLeft(path string) bool {
 	var status syscall.Stat_t
 	file, err := os.OpenFile(strings.Replace(path, ".out.", ".json.", 1), syscall.O_NOFOLLOW|syscall.O_NONBLOCK, 0)
 	defer file.Close()
-	return (err != nil || isFree(file)) && syscall.Lstat(path, &status) == nil && time.Unix(status.Ctim.Unix()).Before(began)
+	return syscall.Lstat(path, &status) == nil && time.Unix(status.Ctim.Unix()).Before(began) && (err != nil || isFree(file))
 }
 
 func (a *artifacts) now(kind string) string {
@@ -173,7 +176,7 @@ func (a *artifacts) leave(failed bool) (err error) {
 			os.Remove(a.now(kind))
 		}
 	}
-	for _, path := range a.earlier {
+	for _, path := range a.earlier() {
 		if isLeft(path) {
 			os.Remove(path)
 		}
@@ -205,8 +208,13 @@ func (a *artifacts) leaveTrace(folder string) {
 
 // told is what a failed test logs: its files, and the session's story, which ends with the command that goes on.
 func (a *artifacts) told(t TB, steps int) string {
-	page, at := a.last("html"), fmt.Sprintf("--at=%d", steps)
-	if err := a.makePage(t.Name(), at); err != nil {
+	page, at, name := a.last("html"), fmt.Sprintf("--at=%d", steps), t.Name()
+	trace, err := printed("TRACEHOST", "tracehost", nil, "--json=trace+rows", "--", a.now("json"))
+	if err == nil {
+		_, err = printed("TRACEHOST_VIEW", "tracehost-view", trace, "--output="+a.now("html"), "--title="+name, "--failed="+name,
+			"--message=the test has failed", at, "-")
+	}
+	if err != nil {
 		page = fmt.Sprintf("none: %v", err)
 	}
 	story, err := printed("TRACEHOST_DEBUG", "tracehost-debug", nil, "--story", "--called="+a.last("json"), at, "--", a.now("json"))
@@ -215,15 +223,6 @@ func (a *artifacts) told(t TB, steps int) string {
 	}
 	return fmt.Sprintf("\ntracehost: scenario: %s\ntracehost: lines:    %s\ntracehost: page:     %s\n%s",
 		a.last("json"), a.last("out"), page, bytes.TrimSpace(story))
-}
-
-func (a *artifacts) makePage(test, at string) error {
-	trace, err := printed("TRACEHOST", "tracehost", nil, "--json=trace+rows", "--", a.now("json"))
-	if err == nil {
-		_, err = printed("TRACEHOST_VIEW", "tracehost-view", trace, "--output="+a.now("html"), "--title="+test, "--failed="+test,
-			"--message=the test has failed", at, "-")
-	}
-	return err
 }
 
 // printed returns what a command prints, whose name the environment may have.
