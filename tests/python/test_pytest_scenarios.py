@@ -51,11 +51,11 @@ def test_the_examples_pass(folder: Path, program: Path) -> None:
 
 def test_beside_the_fixtures(folder: Path, program: Path) -> None:
     """A clone's page names only this plugin. An installed package names both, which is one plugin of a name."""
-    both = ["-p", "tracehost.pytest_scenarios"]
-    for words in ([], both, ["-p", "no:tracehost.pytest_scenarios"]):
+    for words in ((), ("-p", "tracehost.pytest_scenarios")):
         done = run(folder, program, *words, plugin="plugin")
-        assert (done.returncode == 0) == (words != ["-p", "no:tracehost.pytest_scenarios"]), done.stdout
-        assert outcomes(done) == (dict.fromkeys(EXAMPLES, "PASSED") if done.returncode == 0 else {})
+        assert done.returncode == 0 and outcomes(done) == dict.fromkeys(EXAMPLES, "PASSED"), done.stdout
+    done = run(folder, program, "-p", "no:tracehost.pytest_scenarios", plugin="plugin")
+    assert done.returncode == 4 and outcomes(done) == {}
 
 
 def test_other_json_files_are_no_tests(folder: Path, program: Path, tmp_path: Path) -> None:

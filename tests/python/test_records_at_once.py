@@ -18,7 +18,7 @@ from typing import NamedTuple
 
 import pytest
 from checking import TOP, needs, run
-from failing_programs import Failing, in_c, in_cpp, in_go, in_rust, stem_of
+from failing_programs import Failing, Make, in_c, in_cpp, in_go, in_rust, stem_of
 from tracehost import records
 
 pytest.importorskip("xdist")
@@ -156,7 +156,7 @@ def suites(made: dict[str, Failing], room: Path) -> dict[str, Program]:
 
 @pytest.fixture(scope="module")
 def made(library: Path, room: Path) -> dict[str, Failing]:
-    ways = {"c": in_c, "cpp": in_cpp, "rust": in_rust, "go": in_go}
+    ways: dict[str, Make] = {"c": in_c, "cpp": in_cpp, "rust": in_rust, "go": in_go}
     return {name: way(room, library) for name, way in ways.items()}
 
 

@@ -279,8 +279,8 @@ int main(int argc, char **argv)
         int (*run)(const char *name);
     } cases[] = {{"passes", passes}, {"fails", fails}, {"twice", twice}, {"threads", threads}, {"forks", forks},
         {"forks_and_aborts", forks_and_aborts}, {"aborts", aborts}, {"aborts_elsewhere", aborts_elsewhere},
-        {"handles_abort", handles_abort}, {"is_signalled", is_signalled}, {"one", one}, {"many", many}, {"steps", steps}, {"closes", closes},
-        {"closes_files", closes_files}, {"no_step", no_step}, {"misuse", misuse}};
+        {"handles_abort", handles_abort}, {"is_signalled", is_signalled}, {"one", one}, {"many", many}, {"steps", steps},
+        {"closes", closes}, {"closes_files", closes_files}, {"no_step", no_step}, {"misuse", misuse}};
     for (size_t i = 0; argc > 1 && i < sizeof cases / sizeof cases[0]; i++)
         if (strcmp(cases[i].name, argv[1]) == 0)
             return cases[i].run(argc > 2 ? argv[2] : argv[1]);
