@@ -6,6 +6,7 @@ import (
 	"errors"
 	"fmt"
 	"hash/fnv"
+	"log"
 	"os"
 	"os/exec"
 	"path/filepath"
@@ -26,8 +27,8 @@ type TB interface {
 }
 
 // OpenTest opens a session of a test, which closes it at its end. If the test fails, it leaves PROGRAM.TEST-DIGEST.json, a
-// scenario, .out, its lines, and .html, a page, in the folder $TRACEHOST_ARTIFACTS, else in that for temporary files. Its log
-// tells them, and the command that goes on. What can't be recorded is told, and fails nothing.
+// scenario, .out, its lines, and .html, a page, in the folder $TRACEHOST_ARTIFACTS, else in a new temporary one. Its log tells
+// them, and the command that goes on. If $TRACEHOST_TRACES names a folder, each test leaves its scenario there.
 func OpenTest(t TB) *Session {
 	s, err := Open()
 	if err != nil {
@@ -40,25 +41,27 @@ func OpenTest(t TB) *Session {
 
 // RecordTest makes a session that was opened otherwise one of a test. It comes before the first step.
 func (s *Session) RecordTest(t TB) {
-	lost := func(err error) { t.Logf("tracehost: %s: not recorded: %v", t.Name(), err) }
-	files, err := newArtifacts(t)
+	lost := func(err error) { say("%s: not recorded: %v", t.Name(), err) }
+	files, err := newArtifacts(t.Name())
 	if err == nil {
 		err = files.whileLocked(func() error {
-			files.findDead(t)
+			for _, path := range files.earlier() {
+				if strings.Contains(filepath.Base(path), ".json.") && isLeft(path) {
+					say("left by a test that ended its process: %s", path)
+				}
+			}
 			return s.recordInto(files.now("json"), files.now("out"), syscall.O_NOFOLLOW, lost)
 		})
 	}
-	if err != nil {
+	if record := s.record; err == nil {
+		t.Cleanup(func() { files.end(t, record) })
+	} else {
 		lost(err)
-		return
+		files.leave(false)
 	}
-	record := s.record
-	t.Cleanup(func() {
-		if err := files.end(t, record); err != nil {
-			t.Logf("tracehost: the record stays %s: %v", files.now("json"), err)
-		}
-	})
 }
+
+var say = log.New(os.Stderr, "tracehost: ", 0).Printf // a test's log is printed only if it fails
 
 // isFree locks a file while it is open; false if it is locked otherwise.
 func isFree(file *os.File) bool {
@@ -68,14 +71,14 @@ func isFree(file *os.File) bool {
 // artifacts are the files of a test. While it runs, the process's number ends their names.
 type artifacts struct {
 	folder, stem, name string
-	began              time.Time
-	dead               []string // what processes that have died have left of this test
+	isOwn              bool // the folder
 }
 
 var (
-	namesInUse sync.Map
-	notPlain   = regexp.MustCompile(`[^A-Za-z0-9_.-]`)
-	ofARunning = regexp.MustCompile(`^(-\d+)?\.(json|out|html)\.\d+$`)
+	namesInUse, foundIn sync.Map
+	notPlain            = regexp.MustCompile(`[^A-Za-z0-9_.-]`)
+	ofATest             = regexp.MustCompile(`^(.+-[0-9a-f]{12})(-\d+)?\.(json|out|html)(\.\d+)?$`)
+	began               = time.Now().Add(-20 * time.Millisecond) // a file's time may be so much behind
 )
 
 // stemOf is PROGRAM.TEST-DIGEST. A package's tests run in its folder, from a program that go test has made somewhere.
@@ -84,25 +87,28 @@ func stemOf(test string) string {
 	path, _ := filepath.Abs(program)
 	digest := fnv.New64a()
 	fmt.Fprintf(digest, "%s\x00%s\x00", path, test)
-	return fmt.Sprintf("%s-%012x", notPlain.ReplaceAllString(fmt.Sprintf("%.30s.%.50s", program, test), "_"), digest.Sum64()&(1<<48-1))
+	return fmt.Sprintf("%s.%s-%012x", plain(program, 30), plain(test, 50), digest.Sum64()&(1<<48-1))
 }
 
-func newArtifacts(t TB) (*artifacts, error) {
-	folder, stem := os.Getenv("TRACEHOST_ARTIFACTS"), stemOf(t.Name())
-	if folder == "" {
-		folder = os.TempDir()
-	}
-	folder, err := filepath.Abs(folder)
-	if err := first(err, os.MkdirAll(folder, 0o777)); err != nil {
-		return nil, err
-	}
-	made := &artifacts{folder: folder, stem: stem, name: stem, began: time.Now()}
-	_, isUsed := namesInUse.LoadOrStore(made.name, true)
+// plain is at most so many characters of a name, with plain ones only.
+func plain(name string, most int) string {
+	return notPlain.ReplaceAllString(fmt.Sprintf("%.*s", most, name), "_")
+}
+
+func newArtifacts(test string) (a *artifacts, err error) {
+	stem := stemOf(test)
+	a = &artifacts{folder: os.Getenv("TRACEHOST_ARTIFACTS"), stem: stem, name: stem}
+	_, isUsed := namesInUse.LoadOrStore(a.name, true)
 	for nth := 2; isUsed; nth++ {
-		made.name = fmt.Sprintf("%s-%d", stem, nth)
-		_, isUsed = namesInUse.LoadOrStore(made.name, true)
+		a.name = fmt.Sprintf("%s-%d", stem, nth)
+		_, isUsed = namesInUse.LoadOrStore(a.name, true)
 	}
-	return made, nil
+	if a.isOwn = a.folder == ""; a.isOwn {
+		a.folder, err = os.MkdirTemp("", "tracehost-"+plain(test, 50)+"-")
+	} else if a.folder, err = filepath.Abs(a.folder); err == nil {
+		err = os.MkdirAll(a.folder, 0o777)
+	}
+	return a, err
 }
 
 // whileLocked runs a function while no other process begins or ends a record in the folder, or looks for dead ones.
@@ -118,23 +124,28 @@ func (a *artifacts) whileLocked(run func() error) error {
 	return run()
 }
 
-// findDead tells of the scenarios that nobody has locked though their names end by a process's number.
-func (a *artifacts) findDead(t TB) {
-	entries, _ := os.ReadDir(a.folder)
-	for _, entry := range entries {
-		path, rest := filepath.Join(a.folder, entry.Name()), strings.TrimPrefix(entry.Name(), a.stem)
-		if rest != entry.Name() && ofARunning.MatchString(rest) && isDead(path) {
-			a.dead = append(a.dead, path)
-			t.Logf("tracehost: left by a test that ended its process: %s", path)
+// earlier is what runs before this process have left of the test, as the process's first test in the folder finds it.
+func (a *artifacts) earlier() []string {
+	found, isRead := foundIn.Load(a.folder)
+	if !isRead {
+		paths := map[string][]string{}
+		entries, _ := os.ReadDir(a.folder)
+		for _, entry := range entries {
+			if parts := ofATest.FindStringSubmatch(entry.Name()); parts != nil {
+				paths[parts[1]] = append(paths[parts[1]], filepath.Join(a.folder, entry.Name()))
+			}
 		}
+		found, _ = foundIn.LoadOrStore(a.folder, paths)
 	}
+	return found.(map[string][]string)[a.stem]
 }
 
-// isDead tells whether nobody has locked the scenario that a file belongs to.
-func isDead(path string) bool {
-	file, err := os.Open(strings.Replace(path, ".out.", ".json.", 1))
+// isLeft tells whether a file is of a run before this process, and nobody has locked the scenario that it belongs to.
+func isLeft(path string) bool {
+	var status syscall.Stat_t
+	file, err := os.OpenFile(strings.Replace(path, ".out.", ".json.", 1), syscall.O_NOFOLLOW|syscall.O_NONBLOCK, 0)
 	defer file.Close()
-	return err != nil || isFree(file)
+	return syscall.Lstat(path, &status) == nil && time.Unix(status.Ctim.Unix()).Before(began) && (err != nil || isFree(file))
 }
 
 func (a *artifacts) now(kind string) string {
@@ -145,52 +156,65 @@ func (a *artifacts) last(kind string) string {
 	return filepath.Join(a.folder, a.name+"."+kind)
 }
 
-// end keeps the files of a test that has failed, else removes them and what earlier runs have left of it.
-func (a *artifacts) end(t TB, record *recording) error {
-	if err := a.leaveTrace(); err != nil {
-		t.Logf("tracehost: no trace is left: %v", err)
+// end keeps the files of a test that has failed, else removes them.
+func (a *artifacts) end(t TB, record *recording) {
+	a.leaveTrace(os.Getenv("TRACEHOST_TRACES"))
+	if t.Failed() {
+		defer t.Logf("%s", a.told(t, record.steps))
 	}
-	if !t.Failed() {
-		return a.whileLocked(func() error { a.remove(); return nil })
+	if err := a.whileLocked(func() error { return a.leave(t.Failed()) }); err != nil {
+		say("the record stays %s: %v", a.now("json"), err)
 	}
-	defer t.Logf("%s", a.told(t, record.steps))
-	return a.whileLocked(func() error {
-		os.Remove(a.last("html")) // of an earlier run
-		os.Rename(a.now("html"), a.last("html"))
-		return first(os.Rename(a.now("out"), a.last("out")), os.Rename(a.now("json"), a.last("json")))
-	})
 }
 
-func (a *artifacts) remove() {
+// leave gives the files their last names, or removes them; what earlier runs have left of the test goes.
+func (a *artifacts) leave(failed bool) (err error) {
 	for _, kind := range []string{"html", "out", "json"} {
-		os.Remove(a.now(kind))
-		if status, err := os.Lstat(a.last(kind)); err == nil && status.ModTime().Before(a.began) {
-			os.Remove(a.last(kind))
+		if failed {
+			err = os.Rename(a.now(kind), a.last(kind)) // at the end that of the scenario
+		} else {
+			os.Remove(a.now(kind))
 		}
 	}
-	for _, path := range a.dead {
-		if isDead(path) { // its number may be another process's by now
+	for _, path := range a.earlier() {
+		if isLeft(path) {
 			os.Remove(path)
 		}
 	}
-	namesInUse.Delete(a.name)
+	if !failed {
+		namesInUse.Delete(a.name)
+	}
+	if a.isOwn {
+		os.Remove(a.folder) // unless a file is in it
+	}
+	return err
 }
 
-// leaveTrace copies the scenario to the folder $TRACEHOST_TRACES, if it is set.
-func (a *artifacts) leaveTrace() error {
-	folder := os.Getenv("TRACEHOST_TRACES")
+// leaveTrace copies the scenario to a new file of the folder, if one is named.
+func (a *artifacts) leaveTrace(folder string) {
 	if folder == "" {
-		return nil
+		return
 	}
+	path := fmt.Sprintf("%s/%s.%d-%d.json", folder, a.stem, os.Getpid(), time.Now().UnixNano())
 	scenario, err := os.ReadFile(a.now("json"))
-	name := fmt.Sprintf("%s.%d.json", a.name, os.Getpid())
-	return first(err, os.MkdirAll(folder, 0o777), os.WriteFile(filepath.Join(folder, name), scenario, 0o666))
+	if err = first(err, os.MkdirAll(folder, 0o777)); err == nil {
+		err = os.WriteFile(path, scenario, 0o666)
+	}
+	if err != nil {
+		os.Remove(path)
+		say("no trace is left in %s: %v", folder, err)
+	}
 }
 
 // told is what a failed test logs: its files, and the session's story, which ends with the command that goes on.
 func (a *artifacts) told(t TB, steps int) string {
-	page, at := a.last("html"), fmt.Sprintf("--at=%d", steps)
-	if err := a.makePage(t.Name(), at); err != nil {
+	page, at, name := a.last("html"), fmt.Sprintf("--at=%d", steps), t.Name()
+	trace, err := printed("TRACEHOST", "tracehost", nil, "--json=trace+rows", "--", a.now("json"))
+	if err == nil {
+		_, err = printed("TRACEHOST_VIEW", "tracehost-view", trace, "--output="+a.now("html"), "--title="+name, "--failed="+name,
+			"--message=the test has failed", at, "-")
+	}
+	if err != nil {
 		page = fmt.Sprintf("none: %v", err)
 	}
 	story, err := printed("TRACEHOST_DEBUG", "tracehost-debug", nil, "--story", "--called="+a.last("json"), at, "--", a.now("json"))
@@ -201,15 +225,6 @@ func (a *artifacts) told(t TB, steps int) string {
 		a.last("json"), a.last("out"), page, bytes.TrimSpace(story))
 }
 
-func (a *artifacts) makePage(test, at string) error {
-	trace, err := printed("TRACEHOST", "tracehost", nil, "--json=trace+rows", "--", a.now("json"))
-	if err == nil {
-		_, err = printed("TRACEHOST_VIEW", "tracehost-view", trace, "--output="+a.now("html"), "--title="+test, "--failed="+test,
-			"--message=the test has failed", at, "-")
-	}
-	return err
-}
-
 // printed returns what a command prints, whose name the environment may have.
 func printed(variable, name string, input []byte, words ...string) ([]byte, error) {
 	if other, isSet := os.LookupEnv(variable); isSet {
@@ -218,11 +233,10 @@ func printed(variable, name string, input []byte, words ...string) ([]byte, erro
 	limited, cancel := context.WithTimeout(context.Background(), 5*time.Minute)
 	defer cancel()
 	command := exec.CommandContext(limited, name, words...)
-	var errs bytes.Buffer
-	command.Stdin, command.Stderr = bytes.NewReader(input), &errs
+	command.Stdin = bytes.NewReader(input)
 	output, err := command.Output()
-	if err != nil && errs.Len() > 0 {
-		return nil, errors.New(strings.TrimSpace(errs.String()))
+	if failed, _ := err.(*exec.ExitError); failed != nil && len(failed.Stderr) > 0 {
+		return nil, errors.New(strings.TrimSpace(string(failed.Stderr)))
 	}
 	return output, err
 }

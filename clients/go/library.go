@@ -30,13 +30,7 @@ func (c Code) Error() string {
 
 // Is reports whether the target is what package os calls such an error.
 func (c Code) Is(target error) bool {
-	switch target {
-	case fs.ErrClosed:
-		return c == ErrNotOpen
-	case fs.ErrInvalid:
-		return c == ErrInvalid
-	}
-	return false
+	return target == fs.ErrClosed && c == ErrNotOpen || target == fs.ErrInvalid && c == ErrInvalid
 }
 
 // check returns the error for a code of the library.

@@ -18,9 +18,7 @@ func (p Process) step(make func(c call) C.uint32_t) (Reply, error) {
 
 // List returns the user's processes, zombies too, by rising number.
 func (p Process) List() ([]uint32, error) {
-	reply, err := as[Pids](p.step(func(c call) C.uint32_t {
-		return C.tracehost_list(c.h, c.user, c.caller, c.reply)
-	}))
+	reply, err := as[Pids](p.step(func(c call) C.uint32_t { return C.tracehost_list(c.h, c.user, c.caller, c.reply) }))
 	return reply.Pids, err
 }
 
@@ -84,9 +82,7 @@ func (p Process) Install(rules ...Rule) error {
 
 // Handle waits for any child, and gives a trace stop to the process's handlers. The reply is [Handled], [Status] or [Nothing].
 func (p Process) Handle() (Reply, error) {
-	return p.step(func(c call) C.uint32_t {
-		return C.tracehost_handle(c.h, c.user, c.caller, c.reply)
-	})
+	return p.step(func(c call) C.uint32_t { return C.tracehost_handle(c.h, c.user, c.caller, c.reply) })
 }
 
 // HandleWith is Handle; if the process's rules leave or decline the stop, the function decides. Then its request is made, which

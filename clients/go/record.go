@@ -64,8 +64,7 @@ func (s *Session) Record(scenario, lines string) error {
 }
 
 func (s *Session) recordInto(scenario, lines string, flags int, lost func(error)) error {
-	s.mutex.Lock()
-	defer s.mutex.Unlock()
+	defer s.locked()()
 	if line, err := s.lastLine(false); err != nil {
 		return err
 	} else if line != "" || s.record != nil {

@@ -2,11 +2,12 @@ package tracehost
 
 import (
 	"os"
-	"os/exec"
 	"path/filepath"
+	"strconv"
 	"strings"
 	"syscall"
 	"testing"
+	"time"
 )
 
 func content(t *testing.T, path string) string {
@@ -123,11 +124,25 @@ func TestATestThatPassesRemovesWhatItLeft(t *testing.T) {
 	name := filepath.Join(folder, stemOf(passing.name))
 	for _, end := range []string{".json", ".out", ".html", ".json.1", "-2.out.1", ".txt", "x.json"} {
 		is(t, os.WriteFile(name+end, nil, 0o666), nil)
-		is(t, exec.Command("touch", "-d", "2020-01-01", name+end).Run(), nil)
 	}
+	before := began
+	began = time.Now().Add(time.Second) // they are older than the process
+	defer func() { began = before }()
 	must(OpenTest(passing).User(1001).Spawn())(t)
 	passing.end()
 	same(t, passing.left(folder), "STEM.txt STEMx.json")
+}
+
+func TestATestThatPassesLeavesWhatItsProcessKept(t *testing.T) {
+	folder := t.TempDir()
+	t.Setenv("TRACEHOST_ARTIFACTS", folder)
+	t.Setenv("TRACEHOST", "/none")
+	for _, failed := range []bool{true, false} {
+		again := &standIn{T: t, name: "TestAgain", failed: failed}
+		must(OpenTest(again).User(1001).Spawn())(t)
+		again.end()
+		same(t, again.left(folder), "STEM.json STEM.out")
+	}
 }
 
 func TestATestWithoutAFolder(t *testing.T) {
@@ -139,10 +154,12 @@ func TestATestWithoutAFolder(t *testing.T) {
 	passing.end()
 }
 
-// TestFails fails as the same test does in other languages, for tests/python/test_go.py.
-func TestFails(t *testing.T) {
+// stopsBy is a debugger that takes the signal of a stop for the end of a PT_STEP, if SIGTRAP is wanted. It is the session of the
+// same tests in other languages.
+func stopsBy(t *testing.T, wanted Signal) {
+	t.Helper()
 	if os.Getenv("TRACEHOST_FAILS") == "" {
-		t.Skip("tests/python/test_go.py sets TRACEHOST_FAILS")
+		t.Skip("tests/python/failing_programs.py sets TRACEHOST_FAILS")
 	}
 	user := OpenTest(t).User(1001)
 	debugger, target := traced(t, user)
@@ -155,7 +172,50 @@ func TestFails(t *testing.T) {
 	is(t, debugger.PtraceStep(target.Pid, 0), nil)
 	must(user.Turn(target.Lwp, Raise(SIGSEGV)))(t)
 	must(user.Turn(target.Lwp, Compute))(t)
-	if _, status, err := debugger.Wait4(Any, 0); status.StopSignal() != SIGTRAP || err != nil {
+	if _, status, err := debugger.Wait4(Any, 0); status.StopSignal() != wanted || err != nil {
 		t.Fatal(status, err)
+	}
+}
+
+func TestFails(t *testing.T) {
+	stopsBy(t, SIGTRAP)
+}
+
+func TestPasses(t *testing.T) {
+	stopsBy(t, SIGSEGV)
+}
+
+// TestSteps makes the steps of the lines of the file STEPS, and fails, for tests/python/test_faults_in_suites.py.
+func TestSteps(t *testing.T) {
+	name, isSet := os.LookupEnv("STEPS")
+	if !isSet {
+		t.Skip("tests/python/test_faults_in_suites.py sets STEPS")
+	}
+	s := OpenTest(t)
+	for _, line := range strings.Split(strings.TrimSpace(content(t, name)), "\n") {
+		must(s.Line(line))(t)
+	}
+	t.Fatal("after all steps")
+}
+
+// TestSideBySide has so many tests as TRACEHOST_COUNT says, for tests/python/test_records_at_once.py: the Nth makes 1 to 5 steps.
+// FAILING says which fail: all, none, or those with an even number.
+func TestSideBySide(t *testing.T) {
+	count, err := strconv.Atoi(os.Getenv("TRACEHOST_COUNT"))
+	if err != nil {
+		t.Skip("tests/python/test_records_at_once.py sets TRACEHOST_COUNT")
+	}
+	for n := 0; n < count; n++ {
+		n := n
+		t.Run(strconv.Itoa(n), func(t *testing.T) {
+			t.Parallel()
+			user := OpenTest(t).User(1001)
+			for i := 0; i <= n%5; i++ {
+				must(user.Spawn())(t)
+			}
+			if failing, isSet := os.LookupEnv("FAILING"); failing == "all" || !isSet && n%2 == 0 {
+				t.Fatal("it is to fail")
+			}
+		})
 	}
 }

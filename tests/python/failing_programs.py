@@ -1,4 +1,4 @@
-"""Test programs in C, C++ and Rust whose tests fail, or pass, in the ways that their names say; and what they leave."""
+"""Test programs in C, C++, Rust and Go whose tests fail, or pass, in the ways that their names say; and what they leave."""
 
 from __future__ import annotations
 
@@ -16,6 +16,7 @@ import pytest
 from c_programs import HEADERS, NONE, STRICT, WARNINGS, compiled, output, sanitized
 from checking import TOP, Word
 from client_programs import CLIENT, SOURCE
+from golang import Go
 
 CPP = TOP / "clients/cpp/tests"
 SECONDS = 300
@@ -131,6 +132,16 @@ def in_rust(room: Path, library: Path) -> Failing:
     return Failing("rust", program, lambda case, named: [made, "--ignored", "--exact", case])
 
 
+def in_go(room: Path, library: Path) -> Failing:
+    (room / "go").mkdir()
+    made = Go(library, room / "go").test_program(room / "go.test")
+
+    def command(case: str, named: str | None) -> list[str]:
+        return ["env", "TRACEHOST_FAILS=1", str(made), f"-test.run=^{case}$"]
+
+    return Failing("go", TOP / made.name, command)  # a package's tests are known by the folder that they run in
+
+
 Make = Callable[[Path, Path], Failing]  # of a folder and the library
 MADE: dict[str, Make] = {
     "c": in_c,
@@ -138,17 +149,20 @@ MADE: dict[str, Make] = {
     "gtest": in_gtest,
     "catch2": in_catch2,
     "rust": in_rust,
+    "go": in_go,
 }
+COMMANDS = {"rust": ["cargo"], "go": ["go", "pkg-config"]}  # that making needs
+CASES = {"gtest": "debugger.{}", "go": "Test{}"}
 
 
 def passes(failing: Failing) -> str:
     """Its case that passes."""
-    return "debugger.passes" if failing.name == "gtest" else "passes"
+    return CASES.get(failing.name, "{}").format("Passes" if failing.name == "go" else "passes")
 
 
 def fails(failing: Failing) -> str:
     """Its case that fails."""
-    return "debugger.fails" if failing.name == "gtest" else "fails"
+    return CASES.get(failing.name, "{}").format("Fails" if failing.name == "go" else "fails")
 
 
 class Programs:
@@ -162,8 +176,9 @@ class Programs:
         self._programs: dict[str, Failing] = {}
 
     def __getitem__(self, language: str) -> Failing:
-        if language == "rust" and shutil.which("cargo") is None:
-            pytest.skip("not installed: cargo")
+        for command in COMMANDS.get(language, []):
+            if shutil.which(command) is None:
+                pytest.skip(f"not installed: {command}")
         if language not in self._programs:
             self._programs[language] = self._made[language](self._room, self._library)
             self._programs[language].environment = self._environment

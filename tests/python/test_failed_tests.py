@@ -40,6 +40,12 @@ __all__ = ["failing"]  # a fixture
 pytestmark = [needs("cc"), needs("c++")]
 VIEWER = TOP / "viewer/make"
 TICK = 0.05  # seconds, by which a file's time may be behind
+# what the page says of a failure; else the assertion
+SAID = {
+    "c": "TH_WSTOPSIG(status) == wanted",
+    "rust": "assertion `left == right` failed",
+    "go": "the test has failed",  # the package testing tells no more
+}
 
 
 @pytest.fixture(scope="module")
@@ -86,13 +92,11 @@ def test_one_that_fails(failing: Failing, tmp_path: Path, program: Path) -> None
     stem = failing.stem(case)
     assert ran.status != 0 and ran.left == files(stem), ran.said
     check_record(folder, stem, program)
-    said = {"c": "TH_WSTOPSIG(status) == wanted", "rust": "assertion `left == right` failed"}.get(
-        key(failing), "signal_after_step(test)"
-    )
-    check_page(folder, stem, case, said)
+    check_page(folder, stem, case, SAID.get(key(failing), "signal_after_step(test)"))
     for file in ran.left:
         assert str(folder / file) in ran.said
-    assert f"\n{STORY}\n" in ran.said and ran.said.count("to go on from here: ") == 1
+    indent = " " * 8 if failing.name == "go" else ""  # of go test's logs
+    assert f"\n{indent}{STORY}\n" in ran.said and ran.said.count("to go on from here: ") == 1
 
 
 @languages(*MADE)

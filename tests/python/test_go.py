@@ -8,42 +8,23 @@ import os
 import re
 import shutil
 import subprocess
-from collections.abc import Mapping
 from pathlib import Path
 from typing import Any
 
 import pytest
-from c_programs import HEADERS, NONE, output
-from checking import TOP, Checks, Word, needs, run
+from c_programs import HEADERS, output
+from checking import TOP, Checks, needs, run
 from client_programs import FILES, words
-from failing_programs import STEPS, STORY, page_of
+from failing_programs import STEPS, STORY, WITH_COMMANDS, page_of
+from golang import MODULE, Go
 from row_files import Located
 from stranger import block
 
 __all__ = ["words"]  # a fixture
-MODULE = TOP / "clients/go"
 PAGE = (TOP / "docs/CLIENTS.md").read_text(encoding="utf-8")
-OWN = {"PATH": f"{TOP / 'bin'}:{os.environ['PATH']}"}
+GIVEN_MORE = ("TestFails", "TestPasses", "TestSideBySide", "TestSteps", "TestScenarios", "TestCodes")
 
 pytestmark = needs("go", "gcc", "pkg-config")
-
-
-class Go:
-    """The go command, over the library to test, without a network."""
-
-    def __init__(self, library: Path, room: Path) -> None:
-        pc = (TOP / "include/tracehost.pc").read_text().replace("${pcfiledir}/..", str(TOP))
-        (room / "tracehost.pc").write_text(pc.replace("${top}/release/x86_64-linux", str(library)))
-        # go's own cache doesn't notice another library
-        self.environment = {
-            "PKG_CONFIG_PATH": str(room),
-            "GOCACHE": str(room / "cache"),
-            "GOPROXY": "off",
-            "GOFLAGS": "-mod=readonly",
-        }
-
-    def __call__(self, *command: Word, cwd: Path = MODULE, environment: Mapping[str, str] = NONE, status: int = 0) -> str:
-        return output("go", *command, cwd=cwd, environment={**self.environment, **OWN, **environment}, status=status)
 
 
 @pytest.fixture(scope="module")
@@ -70,7 +51,7 @@ def test_its_own_tests(go: Go, program: Path, checks: Checks) -> None:
     for result, name in re.findall(
         r"^--- (\w+): (\w+)", go("test", "-v", ".", environment={"TRACEHOST": str(program)}), re.MULTILINE
     ):
-        checks.check(result == "PASS" or name in ("TestFails", "TestScenarios", "TestCodes"), name)
+        checks.check(result == "PASS" or name in GIVEN_MORE, name)
 
 
 def test_its_pointers(go: Go) -> None:
@@ -146,7 +127,7 @@ def test_processes_at_once(go: Go, program: Path, tmp_path: Path) -> None:
     go("test", "-c", "-o", tmp_path / "debugger.test")
     environment = {
         **os.environ,
-        **OWN,
+        **WITH_COMMANDS,
         "TRACEHOST_ARTIFACTS": str(tmp_path / "left"),
         "TRACEHOST": "/none",
         "TRACEHOST_DEBUG": "/none",

@@ -26,9 +26,9 @@ def folder(tmp_path: Path) -> Path:
     return made
 
 
-def run(folder: Path, program: Path, *words: object) -> subprocess.CompletedProcess[str]:
+def run(folder: Path, program: Path, *words: object, plugin: str = "scenarios") -> subprocess.CompletedProcess[str]:
     environment = {**os.environ, "PYTHONPATH": str(TOP / "clients/python"), "TRACEHOST": str(program)}
-    command = [sys.executable, "-m", "pytest", "-p", "tracehost.pytest_scenarios", "-p", "no:cacheprovider", "-q", "-rA"]
+    command = [sys.executable, "-m", "pytest", "-p", f"tracehost.pytest_{plugin}", "-p", "no:cacheprovider", "-q", "-rA"]
     command += [f"--tracehost-scenarios={folder.parent}", *map(str, words)]
     return subprocess.run(command, cwd=folder.parent.parent, env=environment, stdout=subprocess.PIPE, text=True, check=False)
 
@@ -47,6 +47,15 @@ def test_the_examples_pass(folder: Path, program: Path) -> None:
     assert done.returncode == 0 and outcomes(done) == dict.fromkeys(EXAMPLES, "PASSED"), done.stdout
     cases = ElementTree.parse(report).getroot().findall(".//testcase")
     assert len(cases) == len(EXAMPLES) and not any(list(case) for case in cases)
+
+
+def test_beside_the_fixtures(folder: Path, program: Path) -> None:
+    """A clone's page names only this plugin. An installed package names both, which is one plugin of a name."""
+    for words in ((), ("-p", "tracehost.pytest_scenarios")):
+        done = run(folder, program, *words, plugin="plugin")
+        assert done.returncode == 0 and outcomes(done) == dict.fromkeys(EXAMPLES, "PASSED"), done.stdout
+    done = run(folder, program, "-p", "no:tracehost.pytest_scenarios", plugin="plugin")
+    assert done.returncode == 4 and outcomes(done) == {}
 
 
 def test_other_json_files_are_no_tests(folder: Path, program: Path, tmp_path: Path) -> None:

@@ -1,12 +1,14 @@
 """Failing and passing tests of all languages side by side, on one folder: each failed test has its own record, and no other has one.
 
-All tests fail first, then half of them pass; each leaves its trace then. There are 200; TRACEHOST_TEST_SCALE multiplies them.
+All tests fail first; then half of them pass; then two programs have tests of the same names at once, and those of one fail.
+There are 240 tests of a program, and each leaves its trace; TRACEHOST_TEST_SCALE multiplies them.
 """
 
 from __future__ import annotations
 
 import json
 import os
+import shutil
 import subprocess
 import sys
 from collections.abc import Callable
@@ -16,10 +18,11 @@ from typing import NamedTuple
 
 import pytest
 from checking import TOP, needs, run
-from failing_programs import Failing, in_c, in_cpp, in_rust
+from failing_programs import Failing, Make, in_c, in_cpp, in_go, in_rust, stem_of
+from tracehost import records
 
 pytest.importorskip("xdist")
-pytestmark = [needs("cc"), needs("c++"), needs("cargo"), needs("ctest")]
+pytestmark = [needs("cc"), needs("c++"), needs("cargo"), needs("ctest"), needs("go", "pkg-config")]
 COUNT = 40 * int(os.environ.get("TRACEHOST_TEST_SCALE", "1"))
 OF_A_RUN = 20  # tests of the program in Rust
 SECONDS = 3600
@@ -31,7 +34,8 @@ import pytest
 def test_one(tracehost, number):
     for _ in range(number % 5 + 1):
         tracehost.user(1001).spawn()
-    assert number % 2 and "ALL_FAIL" not in os.environ
+    failing = os.environ.get("FAILING")
+    assert number % 2 if failing is None else failing != "all"
 """
 
 
@@ -43,15 +47,19 @@ class Program(NamedTuple):
 
 
 def ends(words: list[str], environment: dict[str, str], cwd: Path, status: int) -> str:
+    """What a command prints. It has to end with this status; with 0 and without a word of ours if no test is to fail."""
+    passes = environment.get("FAILING") == "none"
     ran = subprocess.run(
         words, env={**os.environ, **environment}, cwd=cwd, stdin=subprocess.DEVNULL, stdout=subprocess.PIPE,
         stderr=subprocess.STDOUT, text=True, errors="replace", timeout=SECONDS, check=False,
     )  # fmt: skip
-    assert ran.returncode == status, ran.stdout[-5000:]
+    assert ran.returncode == (0 if passes else status), ran.stdout[-5000:]
+    assert not passes or "tracehost:" not in ran.stdout, ran.stdout[-5000:]
     return ran.stdout
 
 
 def by_pytest(room: Path) -> Program:
+    room.mkdir()
     (room / "test_many.py").write_text(IN_PYTHON)
     words = [
         sys.executable,
@@ -72,8 +80,7 @@ def by_pytest(room: Path) -> Program:
         ends([*words, f"--basetemp={room / 'base'}", "test_many.py"], {**environment, **path}, room, 1)
 
     def stem(number: int) -> str:
-        (found,) = {path.name.rsplit(".", 1)[0] for path in (room / "left").glob(f"test_many.test_one_{number}_-*.json")}
-        return found
+        return records.stem_of("test_many", f"test_one[{number}]", f"{room}/test_many.py::test_one[{number}]")
 
     return Program(run_all, stem)
 
@@ -98,8 +105,8 @@ def by_ctest(failing: Failing, room: Path) -> Program:
 
 def by_cargo(failing: Failing, room: Path) -> Program:
     """The threads of libtest, in several runs of the program."""
-    program = failing.command("side_by_side")[0]
-    words = [program, "--ignored", "side_by_side", "--test-threads=4", "-q"]
+    made = failing.command("side_by_side")[0]
+    words = [made, "--ignored", "side_by_side", "--test-threads=4", "-q"]
 
     def run_all(environment: dict[str, str]) -> None:
         for part in range(COUNT // OF_A_RUN):
@@ -108,21 +115,61 @@ def by_cargo(failing: Failing, room: Path) -> Program:
     return Program(run_all, lambda number: failing.stem(f"part_{number // OF_A_RUN}.{number % OF_A_RUN}"))
 
 
+def by_go(failing: Failing, room: Path) -> Program:
+    """The goroutines of a package's tests."""
+    made = failing.command("SideBySide")[2]
+    words = [made, "-test.run=^TestSideBySide$", "-test.parallel=4"]
+
+    def run_all(environment: dict[str, str]) -> None:
+        ends(words, {**environment, "TRACEHOST_COUNT": str(COUNT)}, room, 1)
+
+    return Program(run_all, lambda number: stem_of(room / Path(made).name, f"TestSideBySide/{number}"))
+
+
 @pytest.fixture(scope="module")
 def room(tmp_path_factory: pytest.TempPathFactory) -> Path:
     return tmp_path_factory.mktemp("at_once")
 
 
-@pytest.fixture(scope="module")
-def programs(library: Path, program: Path, room: Path) -> dict[str, Program]:
-    c = in_c(room, library)
+def copied(failing: Failing, room: Path) -> Failing:
+    """The same program in another folder."""
+    command = failing.command("")
+    made = next(Path(word) for word in command if word.startswith("/"))
+    shutil.copy(made, room)
+    return Failing(
+        failing.name,
+        room / failing.program.name,
+        lambda case, named: [word.replace(str(made), str(room / made.name)) for word in failing.command(case)],
+    )
+
+
+def suites(made: dict[str, Failing], room: Path) -> dict[str, Program]:
     return {
-        "pytest -n4": by_pytest(room),
-        "threads in C": by_threads(c, room),
-        "threads in C++": by_threads(in_cpp(room, library), room),
-        "ctest -j4": by_ctest(c, room),
-        "cargo test": by_cargo(in_rust(room, library), room),
+        "pytest -n4": by_pytest(room / "pytest"),
+        "threads in C": by_threads(made["c"], room),
+        "threads in C++": by_threads(made["cpp"], room),
+        "ctest -j4": by_ctest(made["c"], room),
+        "cargo test": by_cargo(made["rust"], room),
+        "go test": by_go(made["go"], room),
     }
+
+
+@pytest.fixture(scope="module")
+def made(library: Path, room: Path) -> dict[str, Failing]:
+    ways: dict[str, Make] = {"c": in_c, "cpp": in_cpp, "rust": in_rust, "go": in_go}
+    return {name: way(room, library) for name, way in ways.items()}
+
+
+@pytest.fixture(scope="module")
+def programs(made: dict[str, Failing], room: Path) -> dict[str, Program]:
+    return suites(made, room)
+
+
+@pytest.fixture(scope="module")
+def others(made: dict[str, Failing], room: Path) -> dict[str, Program]:
+    """Programs in another folder, whose tests have the same names."""
+    (room / "others").mkdir()
+    return suites({name: copied(one, room / "others") for name, one in made.items()}, room / "others")
 
 
 def stems_of(programs: dict[str, Program], has: Callable[[int], bool]) -> dict[str, int]:
@@ -162,20 +209,42 @@ def check(programs: dict[str, Program], folder: Path, program: Path, fails: Call
     return len(stems)
 
 
-def test_side_by_side(programs: dict[str, Program], room: Path, library: Path, program: Path) -> None:
-    left = room / "left"
-    environment = {"TRACEHOST_ARTIFACTS": str(left), "TRACEHOST": "/nowhere/tracehost", "TRACEHOST_VIEW": "/bin/false"}
-    environment["TRACEHOST_LIBRARY"] = str(library / "libtracehost.so")
+class Together:
+    """Runs programs at once, whose tests leave their records in one folder, and their traces in another."""
 
-    def run_all(more: dict[str, str]) -> None:
-        with ThreadPoolExecutor(len(programs)) as pool:
-            begun = [pool.submit(each.run, {**environment, **more}) for each in programs.values()]
+    def __init__(self, room: Path, library: Path) -> None:
+        self.left, self.traces = room / "left", room / "traces"
+        self._environment = {
+            "TRACEHOST_ARTIFACTS": str(self.left),
+            "TRACEHOST_TRACES": str(self.traces),
+            "TRACEHOST": "/nowhere/tracehost",
+            "TRACEHOST_DEBUG": "",
+            "TRACEHOST_VIEW": "/bin/false",
+            "TRACEHOST_LIBRARY": str(library / "libtracehost.so"),
+        }
+
+    def __call__(self, *runs: tuple[dict[str, Program], dict[str, str]]) -> None:
+        """Each program leaves its traces anew."""
+        shutil.rmtree(self.traces, ignore_errors=True)
+        with ThreadPoolExecutor(sum(len(programs) for programs, _ in runs)) as pool:
+            begun = [pool.submit(each.run, {**self._environment, **more}) for programs, more in runs for each in programs.values()]
         for ended in begun:
             ended.result()
 
-    run_all({"ALL_FAIL": "1"})
-    assert check(programs, left, program, lambda number: True) == COUNT * len(programs)
-    stems = stems_of(programs, lambda number: True)
-    run_all({"TRACEHOST_TRACES": str(room / "traces")})
-    check_traces(room / "traces", stems)
-    assert check(programs, left, program, lambda number: number % 2 == 0) == COUNT * len(programs) // 2
+
+def test_side_by_side(programs: dict[str, Program], others: dict[str, Program], room: Path, library: Path, program: Path) -> None:
+    together, count = Together(room, library), COUNT * len(programs)
+
+    def all_fail(number: int) -> bool:
+        return True
+
+    together((programs, {"FAILING": "all"}))
+    assert check(programs, together.left, program, all_fail) == count
+    check_traces(together.traces, stems_of(programs, all_fail))
+    together((programs, {}))
+    assert check(programs, together.left, program, lambda number: number % 2 == 0) == count // 2
+    check_traces(together.traces, stems_of(programs, all_fail))
+    for failing, passing in ((programs, others), (others, programs)):
+        together((failing, {"FAILING": "all"}), (passing, {"FAILING": "none"}))
+        assert check(failing, together.left, program, all_fail) == count
+        check_traces(together.traces, {**stems_of(failing, all_fail), **stems_of(passing, all_fail)})

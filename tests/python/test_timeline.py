@@ -393,6 +393,24 @@ def test_shorter_by_a_reply() -> None:
         shrink(noisy(1), Keep.of("reply=fly"))
 
 
+def test_shorter_by_what_to_look_at(tmp_path: Path) -> None:
+    """The signal that isn't passed on: no step of the nine can be missed."""
+    file, out = tmp_path / "long.json", tmp_path / "short.json"
+    session = noisy(1)
+    steps = [{**step, "data": 0} if step.get("data") == 15 else step for step in session.steps]
+    file.write_text(session._replace(steps=steps).text())
+    done = command(file, "--shrink", out, "--keep", "notice=drops its SIGTERM")
+    assert done.returncode == 0 and done.stdout.startswith(f"9 of {len(steps)} steps keep PT_CONTINUE of "), done.stderr
+    found = Timeline(json.loads(out.read_text())["steps"]).steps
+    assert [step.words() for step in found[2:]] == [
+        "ptrace 1000 PT_ATTACH 1001 -> ok", "wait4 1000 -> 1001 stopped SIGSTOP", "kill 1000 1001 SIGTERM -> ok",
+        "ptrace 1000 PT_CONTINUE 1001 -> ok", "turn 100001 compute -> LWP 100001 stopped SIGTERM, no flags",
+        "wait4 1000 -> 1001 stopped SIGTERM", "ptrace 1000 PT_CONTINUE 1001 -> ok",
+    ]  # fmt: skip
+    done = command(file, "--shrink", out, "--keep", "notice=fly")
+    assert done.returncode == 1 and "nothing to look at has the words fly; PT_CONTINUE of " in done.stderr
+
+
 def test_shorter_by_a_command(tmp_path: Path) -> None:
     """Its status stays: that of grep for the numbers of the shorter session's run."""
     file, out = tmp_path / "long.json", tmp_path / "short.json"
@@ -421,7 +439,7 @@ def test_shorter_by_its_fault(tmp_path: Path) -> None:
     assert (done.returncode, done.stderr) == (1, "tracehost-debug: vfork_and_exec: the program takes it\n")
 
 
-@pytest.mark.parametrize("words", [["--keep", "x"], ["--keep", "reply="], ["--keep", "last=3"]])
+@pytest.mark.parametrize("words", [["--keep", "x"], ["--keep", "reply="], ["--keep", "notice"], ["--keep", "last=3"]])
 def test_what_cannot_be_kept(words: list[str], tmp_path: Path) -> None:
     assert command(VFORK, "--shrink", tmp_path / "out", *words).returncode == 2
     assert not (tmp_path / "out").exists()

@@ -34,7 +34,7 @@ def with_the_cure(debugger: str) -> str:
 @needs("python3")
 def test_the_tutorial(clone: pathlib.Path, tmp_path: pathlib.Path) -> None:
     reader = Reader(clone, tmp_path)
-    activated, first, passing, failing, cured = shown(f"docs/{PAGE}")
+    activated, first, passing, failing, back, cured = shown(f"docs/{PAGE}")
     assert activated == Shown(". ./activate", "")
     reader.types(activated.command)
     assert reader.has(*first).status == 0
@@ -52,8 +52,8 @@ def test_the_tutorial(clone: pathlib.Path, tmp_path: pathlib.Path) -> None:
     made = pathlib.Path(page[1])
     assert made.read_text(encoding="utf-8").rstrip().endswith("</html>")
     replayed = reader.types(f"tracehost {made.with_suffix('.json')} --expect {made.with_suffix('.out')}")
-    back = reader.types(f"tracehost-debug {made.with_suffix('.json')} --batch 'reverse is new'")
-    assert "process 1002 is new: parent 1001, state runs\n" in back.text
+    assert f"to go on from here: tracehost-debug {made.with_suffix('.json')}\n" in printed.text
+    assert reader.has(back.command.replace("..json", str(made.with_suffix(".json"))), back.text).status == 0
     assert (replayed.status, replayed.text) == (0, "")
 
     debugger.write_text(with_the_cure(file(0)))

@@ -159,7 +159,14 @@ static int is_signalled(const char *name)
     return th_close(h) != 0 || failed;
 }
 
-/* The test PREFIX.N makes 1 to 5 steps, and fails if N is even, or if $ALL_FAIL is set. */
+/* Which tests fail, by $FAILING: all, none, or those with an even number. */
+static int is_to_fail(int number)
+{
+    const char *failing = getenv("FAILING");
+    return failing == NULL ? number % 2 == 0 : strcmp(failing, "all") == 0;
+}
+
+/* The test PREFIX.N makes 1 to 5 steps. */
 static int numbered(const char *prefix, int number)
 {
     char name[64];
@@ -167,21 +174,21 @@ static int numbered(const char *prefix, int number)
     th_host *h = begin(name);
     for (int i = 0; i <= number % 5; i++)
         th_spawn(h, USER, NULL, NULL);
-    int failed = th_test_end(h, number % 2 != 0 && getenv("ALL_FAIL") == NULL);
+    int failed = th_test_end(h, !is_to_fail(number));
     return th_close(h) != 0 || failed;
 }
 
 static int one(const char *number) { return numbered("one", atoi(number)); }
 
 struct share {
-    int first, count;
+    int first, count, failed;
 };
 
 static void *run_share(void *given)
 {
-    const struct share *share = given;
+    struct share *share = given;
     for (int i = share->first; i < share->count; i += THREADS)
-        numbered("many", i);
+        share->failed |= numbered("many", i);
     return NULL;
 }
 
@@ -190,14 +197,34 @@ static int many(const char *count)
 {
     pthread_t all[THREADS];
     struct share shares[THREADS];
+    int failed = 0;
     for (int i = 0; i < THREADS; i++) {
-        shares[i] = (struct share){i, atoi(count)};
+        shares[i] = (struct share){i, atoi(count), 0};
         if (pthread_create(&all[i], NULL, run_share, &shares[i]) != 0)
             abort();
     }
-    for (int i = 0; i < THREADS; i++)
+    for (int i = 0; i < THREADS; i++) {
         pthread_join(all[i], NULL);
-    return 1;
+        failed |= shares[i].failed;
+    }
+    return failed;
+}
+
+/* Makes the steps of the lines of the file $STEPS, and fails. */
+static int steps(const char *name)
+{
+    char line[4096], answer[4096];
+    FILE *file = fopen(getenv("STEPS"), "r");
+    th_host *h = begin(name);
+    while (file != NULL && fgets(line, sizeof line, file) != NULL) {
+        line[strcspn(line, "\n")] = '\0';
+        if (th_step_text(h, line, answer, sizeof answer) < 0)
+            abort();
+    }
+    if (file != NULL)
+        fclose(file);
+    int failed = th_test_end(h, TH_EXPECT(h, file == NULL));
+    return th_close(h) != 0 || failed;
 }
 
 static int closes(const char *name)
@@ -252,8 +279,8 @@ int main(int argc, char **argv)
         int (*run)(const char *name);
     } cases[] = {{"passes", passes}, {"fails", fails}, {"twice", twice}, {"threads", threads}, {"forks", forks},
         {"forks_and_aborts", forks_and_aborts}, {"aborts", aborts}, {"aborts_elsewhere", aborts_elsewhere},
-        {"handles_abort", handles_abort}, {"is_signalled", is_signalled}, {"one", one}, {"many", many}, {"closes", closes},
-        {"closes_files", closes_files}, {"no_step", no_step}, {"misuse", misuse}};
+        {"handles_abort", handles_abort}, {"is_signalled", is_signalled}, {"one", one}, {"many", many}, {"steps", steps},
+        {"closes", closes}, {"closes_files", closes_files}, {"no_step", no_step}, {"misuse", misuse}};
     for (size_t i = 0; argc > 1 && i < sizeof cases / sizeof cases[0]; i++)
         if (strcmp(cases[i].name, argv[1]) == 0)
             return cases[i].run(argc > 2 ? argv[2] : argv[1]);

@@ -7,6 +7,7 @@
 
 #include "failing.hpp"
 
+#include <atomic>
 #include <functional>
 #include <iostream>
 #include <map>
@@ -127,22 +128,39 @@ int is_signalled(const std::string &name)
     return 0;
 }
 
-// So many tests, in threads. The test many.N makes 1 to 5 steps, and fails if N is even, or if $ALL_FAIL is set.
+// Which tests fail, by $FAILING: all, none, or those with an even number.
+bool is_to_fail(int number)
+{
+    const char *failing = std::getenv("FAILING");
+    return failing == nullptr ? number % 2 == 0 : std::string(failing) == "all";
+}
+
+// So many tests, in threads. The test many.N makes 1 to 5 steps.
 int many(const std::string &count)
 {
     std::vector<std::thread> all;
+    std::atomic<bool> failed{false};
     for (int first = 0; first < 8; first++)
-        all.emplace_back([first, count = std::stoi(count)] {
+        all.emplace_back([first, count = std::stoi(count), &failed] {
             for (int number = first; number < count; number += 8) {
                 tracehost_test test("many." + std::to_string(number));
                 for (int step = 0; step <= number % 5; step++)
                     test.call(tracehost_spawn, 1001);
-                if (number % 2 == 0 || std::getenv("ALL_FAIL") != nullptr)
-                    test.fail("it is to fail");
+                if (!is_to_fail(number))
+                    continue;
+                test.fail("it is to fail");
+                failed = true;
             }
         });
     for (std::thread &thread : all)
         thread.join();
+    return failed;
+}
+
+int steps(const std::string &name)
+{
+    tracehost_test test(name);
+    test.fail("after " + std::to_string(make_steps(test)) + " steps");
     return 1;
 }
 
@@ -159,6 +177,6 @@ int main(int argc, char **argv)
 {
     const std::map<std::string, std::function<int(const std::string &)>> cases = {{"passes", passes}, {"fails", fails},
         {"twice", twice}, {"throws", throws}, {"threads", threads}, {"forks", forks}, {"no_step", no_step},
-        {"aborts", aborts}, {"many", many}, {"is_signalled", is_signalled}, {"closes_files", closes_files}, {"loses_standard_error", loses_standard_error}};
+        {"aborts", aborts}, {"many", many}, {"steps", steps}, {"is_signalled", is_signalled}, {"closes_files", closes_files}, {"loses_standard_error", loses_standard_error}};
     return argc < 2 ? 2 : cases.at(argv[1])(argv[argc > 2 ? 2 : 1]);
 }

@@ -1,6 +1,20 @@
-// What the tests that fail, or pass, do: a debugger that takes a SIGSEGV of its target for the end of a PT_STEP.
+// What the tests that fail, or pass, do.
 #include <cstdint>
+#include <cstdlib>
+#include <fstream>
+#include <string>
 
+// Makes the steps of the lines of the file $STEPS: how many there are.
+template <typename Session> int make_steps(Session &session)
+{
+    std::ifstream file(std::getenv("STEPS"));
+    int count = 0;
+    for (std::string line; std::getline(file, line); count++)
+        session.line(line);
+    return count;
+}
+
+// A debugger that takes a SIGSEGV of its target for the end of a PT_STEP:
 // the signal of its second stop
 template <typename Session> std::uint32_t signal_after_step(Session &session)
 {

@@ -56,3 +56,9 @@ TEST_CASE("may fail")
     tracehost_catch2 test;
     CHECK_NOFAIL(signal_after_step(test) == sigtrap);
 }
+
+TEST_CASE("steps")
+{
+    tracehost_catch2 test;
+    CHECK(make_steps(test) == 0);
+}

@@ -89,6 +89,12 @@ TEST(debugger, fails_in_a_thread)
     other.join();
 }
 
+TEST(debugger, steps)
+{
+    tracehost_gtest test;
+    EXPECT_EQ(make_steps(test), 0);
+}
+
 class numbered : public testing::TestWithParam<int> {};
 
 TEST_P(numbered, fails)

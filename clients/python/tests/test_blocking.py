@@ -136,6 +136,12 @@ elif sys.argv[2] == "thread":
 elif sys.argv[2] == "raw thread":
     import _thread
     _thread.start_new_thread(lambda: (time.sleep(0.2), goes_on()), ())
+elif sys.argv[2] == "plugin":
+    begun = threading.Event()
+    of_plugin = {"__name__": "pytest_rerunfailures", "begun": begun, "time": time}
+    exec("def run_server():\\n begun.set()\\n time.sleep(1000)", of_plugin)
+    threading.Thread(target=of_plugin["run_server"], daemon=True).start()
+    begun.wait()
 try:
     if sys.argv[1] == "knows":
         print(describe(debugger.wait4(block=True)))
@@ -155,9 +161,10 @@ class OnlyThread(unittest.TestCase):
         return subprocess.run(command, env=environment, stdout=subprocess.PIPE, text=True, timeout=300, check=True).stdout
 
     def test_nobody_can_wake_it(self) -> None:
-        said = self.said("knows", "nobody")
         endless = "deadlock: it would sleep for ever, as there is no other thread"
-        self.assertEqual(said, f"wait4 of 1000: {endless}; 1001 is stopped by SIGSTOP, which 1000 knows\n")
+        for nobody in ("nobody", "plugin"):
+            said = self.said("knows", nobody)
+            self.assertEqual(said, f"wait4 of 1000: {endless}; 1001 is stopped by SIGSTOP, which 1000 knows\n")
         said = self.said("", "nobody")
         self.assertEqual(said, f"turn of 100001: {endless}; 1001 is stopped by SIGSTOP, which 1000 does not know yet\n")
 

@@ -8,23 +8,26 @@ import sys
 import threading
 from collections.abc import Iterable
 from types import FrameType
+from typing import Optional
 
 from .rows import ProcessRow, ProcessState
+
+_PLUGINS = ("execnet", "pytest_rerunfailures")  # the first is pytest-xdist's
 
 
 def is_alone() -> bool:
     """Whether no other thread, and no handler of a signal, can make a step.
 
-    Threads of execnet, which pytest-xdist has, make none. With greenlets it can't be said.
+    Those of pytest's plugins make none. With greenlets it can't be said.
     """
-    if threading.active_count() > 1 or {"gevent", "eventlet"} & {*sys.modules} or any(map(_has_handler, signal.valid_signals())):
+    if {"gevent", "eventlet"} & {*sys.modules} or any(map(_has_handler, signal.valid_signals())):
         return False
     frames = [frame for thread, frame in sys._current_frames().items() if thread != threading.get_ident()]
     try:
         threads = len(os.listdir("/proc/self/task"))  # also those that Python doesn't know yet
     except OSError:
         return False
-    return threads == 1 + len(frames) and all(map(_is_of_execnet, frames))
+    return threads == 1 + len(frames) and all(map(_is_of_a_plugin, frames))
 
 
 def _has_handler(number: int) -> bool:
@@ -32,10 +35,14 @@ def _has_handler(number: int) -> bool:
     return callable(handler) and handler is not signal.default_int_handler
 
 
-def _is_of_execnet(frame: FrameType) -> bool:
-    while frame.f_back is not None:
-        frame = frame.f_back
-    return str(frame.f_globals.get("__name__", "")).partition(".")[0] == "execnet"
+def _is_of_a_plugin(frame: FrameType) -> bool:
+    """Whether the frame's thread runs a function of such a plugin."""
+    callers: list[str] = []
+    caller: Optional[FrameType] = frame
+    while caller is not None:
+        callers.append(str(caller.f_globals.get("__name__", "")).partition(".")[0])
+        caller = caller.f_back
+    return next((name for name in reversed(callers) if name != "threading"), "") in _PLUGINS
 
 
 def sentence(processes: Iterable[ProcessRow]) -> str:

@@ -77,8 +77,9 @@ def _options() -> argparse.ArgumentParser:
         "--keep",
         default="last",
         metavar="WHAT",
-        help="last: the last step and its reply (the default); reply=TEXT: a reply with these words; fault: the fault of a "
-        "refused scenario; status=COMMAND: the status of a shell's command, in which {} is the scenario",
+        help="last: the last step and its reply (the default); notice=TEXT: what --story says to look at with these words; "
+        "reply=TEXT: a reply with these words; fault: the fault of a refused scenario; status=COMMAND: the status of a shell's "
+        "command, in which {} is the scenario",
     )
     parser.add_argument("--program", help="the program that runs scenarios; else $TRACEHOST, else the package's own")
     parser.add_argument("--kill-on-debugger-exit", choices=("0", "1"), help="of a new session, as for tracehost --lines")

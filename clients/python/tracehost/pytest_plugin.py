@@ -42,6 +42,8 @@ if TYPE_CHECKING:
 
 __all__ = ["Explore", "NewHost", "explore", "new_tracehost", "tracehost"]
 
+pytest_plugins = ["tracehost.pytest_scenarios"]  # with -p; an installed package names it too
+
 _Hook = TypeVar("_Hook", bound=Callable[..., Generator[None, Any, None]])
 _wrapper: Callable[[_Hook], _Hook] = pytest.hookimpl(hookwrapper=True)  # untyped in some versions of pytest
 

@@ -160,7 +160,13 @@ class Folder:
                         unlink(kept.scenario.with_suffix(end))
 
     def left_by_the_dead(self) -> list[Path]:
-        """The scenarios of tests that a process hadn't ended when it ended itself."""
+        """The scenarios of tests that a process hadn't ended when it ended itself.
+
+        A process that is alive may just have made a record, or be about to remove it, and it isn't locked.
+        """
+        return [scenario for scenario in self._unlocked() if not _is_alive(scenario.suffix[1:])]
+
+    def _unlocked(self) -> list[Path]:
         left: list[Path] = []
         with suppress(OSError), scandir(self.path) as entries:
             for entry in entries:
@@ -172,7 +178,7 @@ class Folder:
     def adopt(self, stem: str) -> list[Path]:
         """Gives the records of this test whose process has ended their last names. Raises OSError."""
         adopted: list[Path] = []
-        for scenario in self.left_by_the_dead():
+        for scenario in self._unlocked():
             if _test_of(scenario.name) != stem:
                 continue
             last = scenario.with_suffix("")
@@ -225,6 +231,14 @@ def is_in_use(file: Path) -> bool:
     finally:
         close(number)
     return False
+
+
+def _is_alive(number: str) -> bool:
+    """Whether there is a process of this number, and no zombie."""
+    try:
+        return Path("/proc", number, "stat").read_bytes().rpartition(b")")[2].split()[0] not in (b"Z", b"X")
+    except (OSError, IndexError):
+        return False
 
 
 def _lock(number: int) -> None:

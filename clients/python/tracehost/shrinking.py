@@ -15,6 +15,7 @@ from pathlib import Path
 from typing import Any, NamedTuple, Optional
 
 from . import library
+from .notices import Notice, nearest_first, notices_of
 from .saving import Session
 from .timeline import Refused, Step, Timeline, answer_text, lines_of
 
@@ -34,10 +35,10 @@ class Keep(NamedTuple):
 
     @classmethod
     def of(cls, text: str) -> Keep:
-        """Of "last", "fault", "reply=TEXT" or "status=COMMAND". Raises ValueError."""
+        """Of "last", "fault", "notice=TEXT", "reply=TEXT" or "status=COMMAND". Raises ValueError."""
         kind, _, words = text.partition("=")
-        if kind not in ("last", "fault", "reply", "status") or (kind in ("reply", "status")) != bool(words):
-            raise ValueError(f"--keep {text}: it is last, fault, reply=TEXT or status=COMMAND")
+        if kind not in ("last", "fault", "notice", "reply", "status") or (kind not in ("last", "fault")) != bool(words):
+            raise ValueError(f"--keep {text}: it is last, fault, notice=TEXT, reply=TEXT or status=COMMAND")
         return cls(kind, words)
 
 
@@ -124,6 +125,10 @@ def shrink(session: Session, keep: Keep, program: Optional[str] = None) -> Short
         command = _Command(session, keep.words)
         kept = _fewest(list(range(len(timeline))), 0, lambda steps: _is_made(replay(steps), command.is_alike))
         words = f"status {command.wanted} of {keep.words}"
+    elif keep.kind == "notice":
+        notice = _Named(session, keep.words, timeline)
+        kept = _fewest(list(range(len(timeline))), 0, lambda steps: _is_made(replay(steps), notice.is_alike))
+        words = notice.wanted.text
     else:
         last, text = _last_of(keep, timeline)
         kept = _fewest(list(range(last)), 1, lambda steps: _is_made(replay(steps), lambda made: text(made.replies[-1])))
@@ -167,6 +172,26 @@ def _last_of(keep: Keep, timeline: Timeline) -> tuple[int, Callable[[str], bool]
     if found is None:
         raise Refused(f"no reply has the words {keep.words}")
     return found, lambda words: keep.words in words
+
+
+class _Named:
+    """What a story says to look at. Its processes and LWPs may have other numbers, and be others."""
+
+    def __init__(self, session: Session, words: str, timeline: Timeline) -> None:
+        self._session = session
+        found = [notice for notice, _ in nearest_first(notices_of(timeline.steps), len(timeline), timeline.steps[-1].user)]
+        wanted = next((notice for notice in found if words in notice.text), None)
+        if wanted is None:
+            raise Refused(f"nothing to look at has the words {words}{''.join(f'; {notice.text}' for notice in found)}")
+        self.wanted = wanted
+
+    def is_alike(self, made: Made) -> bool:
+        steps = Timeline(made.steps, self._session.kill_on_debugger_exit).steps
+        return self._shape(self.wanted) in map(self._shape, notices_of(steps))
+
+    @staticmethod
+    def _shape(notice: Notice) -> tuple[str, str]:
+        return notice.kind, re.sub(r"\b[0-9]+\b", "#", notice.text)
 
 
 class _Command:

@@ -182,7 +182,24 @@ fn dies() {
     std::process::abort();
 }
 
-/// The test `$PREFIX.NAME` makes 1 to 5 steps, and fails if its number is even, or if `$ALL_FAIL` is set.
+/// It makes the steps of the lines of the file `$STEPS`, and fails.
+#[test]
+#[ignore = "tests/python/test_faults_in_suites.py runs it"]
+fn steps() {
+    let lines = std::fs::read_to_string(std::env::var("STEPS").expect("a file")).expect("steps");
+    let mut session = begin();
+    for line in lines.lines() {
+        session.line(line).expect("an answer");
+    }
+    assert_eq!(lines.lines().count(), 0);
+}
+
+/// Which tests fail, by `$FAILING`: all, none, or those with an even number.
+fn is_to_fail(number: usize) -> bool {
+    std::env::var("FAILING").map_or(number % 2 == 0, |failing| failing == "all")
+}
+
+/// The test `$PREFIX.NUMBER` makes 1 to 5 steps.
 fn numbered(number: usize) -> Result<(), Error> {
     let prefix = std::env::var("PREFIX").unwrap_or_default();
     let name = format!("{prefix}.{number}");
@@ -194,7 +211,7 @@ fn numbered(number: usize) -> Result<(), Error> {
     for _ in 0..number % 5 {
         session.spawn(USER)?;
     }
-    if number % 2 == 0 || std::env::var_os("ALL_FAIL").is_some() {
+    if is_to_fail(number) {
         assert_eq!(number % 4, 0, "it is to fail");
         session.ptrace(caller, Request::Continue(None), 4711)?;
     }
