@@ -143,10 +143,7 @@ CHECKS: dict[str, tuple[str, str, str, str]] = {
         "!take_number(&at, &a[1]) || ",
         "hello -1 $T 0 0",
     ),
-    "hello's process": ("questions.c", "!take_number(&at, &a[0]) || ", "(take_number(&at, &a[0]), false) || ", "hello x $T 0 0"),
-    "hello's thread": ("questions.c", "!take_number(&at, &a[1]) || ", "(take_number(&at, &a[1]), false) || ", "hello $P x 0 0"),
     "hello's space": ("questions.c", " || *at++ != ' ' || ", " || at++ == NULL || ", "hello $P $T.0 0"),
-    "hello's base": ("questions.c", " || !take_hex(&at, &base))", " || (take_hex(&at, &base), false))", "hello $P $T x 0"),
     "hello's last number": (
         "questions.c",
         "return take_number(&at, &a[3]) && a[3] >= 0",
