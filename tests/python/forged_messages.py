@@ -50,7 +50,9 @@ CASES: dict[str, tuple[str, int, str]] = {  # what is said, the status, and what
     "more_to_the_server": (hexed(("control_later 100000", "swept more")) + "rest 500\n", 3, OTHER),
     "the_first_word_of_the_server": (hexed(("control", "x")) + "control_end 0\n", 3, OTHER),
     "unread_orders": (hexed(("control", "ready"), ("control_on 1000", "swept more")), 3, OTHER),
-    "answers_without_end": (hexed(("control", "ready"), ("control_answers 50100", "swept more")), 3, OTHER),
+    "answers_without_end": (
+        hexed(("control", "ready"), ("control_answers 50100", "swept more")) + "control_end 0\n", 3, OTHER,
+    ),
     "an_outsider_for_the_server": (hexed(("control_outside", "ready")) + "control_end 0\n", 3, OTHER),
     "an_outsider_says_hello": (hexed(("ask", "0 exec"), ("outside", "0 hello 0 0 0 0")), 3, BEGINS),
     "an_answer_of_the_server": (hexed(("control_later 1", "swept 1:0 more")), 3, OTHER),

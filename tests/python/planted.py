@@ -233,12 +233,6 @@ CHECKS: dict[str, tuple[str, str, str, str]] = {
         "\t\tTAKE_OUT(&l->process->lists.watched, place);\n",
         "numbers_of_nobody",
     ),
-    "a signal": (
-        "signal_calls.c",
-        "\tif (signal < 0 || signal > 31)\n\t\treturn EINVAL;\n",
-        "",
-        "signals_of_no_number",
-    ),
     "the server's first word": (
         "program.c",
         '\tif (strncmp(line, "ready", 5) != 0)\n\t\tbroken("control");\n',
