@@ -111,7 +111,8 @@ def test_a_fifo(program: Path, tmp_path: Path) -> None:
 def test_odd_words(program: Path, tmp_path: Path) -> None:
     """A name that is no text, and 100,000 words, are no command line. Without any word it reads its standard input."""
     (tmp_path / "a\udcff.json").write_bytes(FOUR)
-    for words in ([tmp_path / "a\udcff.json"], [str(number) for number in range(100000)]):
+    many: list[list[Path | str]] = [[tmp_path / "a\udcff.json"], [str(number) for number in range(100000)]]
+    for words in many:
         ended = run(program, *words)
         assert (ended.status, ended.out) == (2, "") and ended.err
     without_words = "import ctypes, sys; ctypes.CDLL(None).execve(sys.argv[1].encode(), (ctypes.c_char_p * 1)(None), None)"

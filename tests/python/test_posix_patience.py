@@ -157,6 +157,10 @@ STOLEN: dict[str, tuple[list[Plant], Plant]] = {
 """How it is taken away; and a change of the rule that then is seen."""
 
 
+PROGRAMS: dict[str, list[str]] = {"tests/events_test.c": ["exec_leaves_one_lwp"], "races/stop_lost_at_detach.c": []}
+"""Those that don't spin, with their words."""
+
+
 def with_changed_runtime(plants: list[Plant], room: Path) -> Path:
     """A tracehost-cc whose runtime has these changes."""
     for top, folder in ((TOP, room), (TOP / "clients", room / "clients")):
@@ -183,7 +187,7 @@ def test_time_that_a_host_takes_away_changes_no_schedule(posix: Posix, tmp_path:
     printed: dict[Path, list[str]] = {}
     for compiler in (CC, changed):
         printed[compiler] = []
-        for source, case in (("tests/events_test.c", ["exec_leaves_one_lwp"]), ("races/stop_lost_at_detach.c", [])):
+        for source, case in PROGRAMS.items():
             program = tmp_path / "program"
             done = posix.execute(compiler, "-g", "-w", "-DRIGHT", "-o", program, POSIX / source, seconds=1200)
             assert done.returncode == 0, done.stderr
