@@ -48,6 +48,13 @@ CASES: dict[str, tuple[str, int, str]] = {  # what is said, the status, and what
     "to_the_server": (hexed(("control", "x")), 3, OTHER),
     "nothing_to_the_server": (hexed(("control", "")), 3, OTHER),
     "more_to_the_server": (hexed(("control_later 100000", "swept more")) + "rest 500\n", 3, OTHER),
+    "the_first_word_of_the_server": (hexed(("control", "x")) + "control_end 0\n", 3, OTHER),
+    "unread_orders": (hexed(("control", "ready"), ("control_on 1000", "swept more")), 3, OTHER),
+    "answers_without_end": (
+        hexed(("control", "ready"), ("control_answers 50100", "swept more")) + "control_end 0\n", 3, OTHER,
+    ),
+    "an_outsider_for_the_server": (hexed(("control_outside", "ready")) + "control_end 0\n", 3, OTHER),
+    "an_outsider_says_hello": (hexed(("ask", "0 exec"), ("outside", "0 hello 0 0 0 0")), 3, BEGINS),
     "an_answer_of_the_server": (hexed(("control_later 1", "swept 1:0 more")), 3, OTHER),
     "a_closed_socket": ("close\ncall 0\n", 1, "has ended, or closed its socket"),
 }  # fmt: skip
@@ -59,14 +66,17 @@ _WRITTEN = {  # what the runtime never says
     "behind_the_numbers": b"0 call 20 x",
     "no_digits": b"0 call ",
     "again_without_a_word": b"0 again  5",
+    "again_without_a_number": b"0 again read",
     "again_with_another_word": b"0 again re_ad 5",
     "behind_again": b"0 again poll 1 2 x",
     "enter_without_a_word": b"0 enter 3  5",
     "enter_without_a_code": b"0 enter read 5",
+    "enter_without_a_number": b"0 enter 3 read",
     "behind_enter": b"0 enter 3 read 5 x",
     "behind_handled": b"0 handled x",
     "a_remark_of_two_lines": b"0 remark a\nb",
     "a_remark_without_text": b"0 remark ",
+    "a_remark_without_a_space": b"0 remark: a",
 }
 _NOBODY = (-1, 0, 999, 2000, 2**31, 2**32 + 1000, 2**63 - 1)
 _ABOUT = (

@@ -158,6 +158,12 @@ HELLOS = {  # what a new image says, and whether it is refused
     "$P $T 0 2": True,
     "-1 $T 0 0": True,
     "$P -1 0 0": True,
+    "x $T 0 0": True,
+    "$P x 0 0": True,
+    "$P $T.0 0": True,
+    "$P $T x 0": True,
+    "$P $T 0": True,
+    "$P $T 0 0 x": True,
     f"$P {2**31} 0 0": False,
     f"0 {2**63 - 1} ffffffffffffffff 1": False,
 }

@@ -9,12 +9,14 @@ import json
 import os
 import random
 import re
+import socket
 import subprocess
 import sys
 import tempfile
+import threading
 import time
 from collections.abc import Callable, Iterator
-from contextlib import suppress
+from contextlib import contextmanager, suppress
 from pathlib import Path
 from typing import NamedTuple
 
@@ -250,14 +252,55 @@ def _end_all() -> None:
         time.sleep(0.02)
 
 
+class Outside:
+    """Says messages on the sockets that it is given with them, by a process that the run's namespace doesn't have."""
+
+    within = ["unshare", "--pid", "--fork", "--kill-child", "--mount-proc"]
+    """The words before the run's command."""
+
+    def __init__(self, path: Path) -> None:
+        self._listener = socket.socket(socket.AF_UNIX, socket.SOCK_SEQPACKET)
+        self._listener.bind(str(path))
+        self._listener.listen()
+        threading.Thread(target=self._say_all, daemon=True).start()
+
+    def _say_all(self) -> None:
+        with suppress(OSError):  # it is closed
+            while True:
+                peer, _ = self._listener.accept()
+                with peer:
+                    text, given, _, _ = socket.recv_fds(peer, LONGEST, 1)
+                    with socket.socket(fileno=given[0]) as own:
+                        own.send(text)
+                    peer.send(b"x")
+
+    def close(self) -> None:
+        self._listener.shutdown(socket.SHUT_RDWR)
+        self._listener.close()
+
+
+@contextmanager
+def outside(text: str, path: Path) -> Iterator[list[str]]:
+    """The words before the command that runs this script."""
+    if "outside " not in text:
+        yield []
+        return
+    path.unlink(missing_ok=True)
+    listener = Outside(path)
+    try:
+        yield listener.within
+    finally:
+        listener.close()
+
+
 def ended(command: list[str], number: int, text: str, room: Path) -> Ended:
     """Runs a script."""
-    folder = room / "tmp"
+    folder, script = room / "tmp", room / "script"
     folder.mkdir(exist_ok=True)
-    (room / "script").write_text(text)
+    script.write_text(text)
     began, status = time.monotonic(), None
-    with open(room / "said", "wb+") as said:
-        words = [*command, str(room / "script")]
+    with open(room / "said", "wb+") as said, outside(text, room / "script.outside") as within:
+        words = [*within, *command, str(script)]
         environment = {**os.environ, "TMPDIR": str(folder)}
         process = subprocess.Popen(words, stdin=subprocess.DEVNULL, stdout=subprocess.DEVNULL, stderr=said, env=environment)
         with suppress(subprocess.TimeoutExpired):

@@ -49,6 +49,7 @@ CHECKS: dict[str, tuple[str, str, str, str]] = {
         "(reading != ASKS || q.sender <= 0)",
         "no_hello",
     ),
+    "who says hello, by the kernel": ("hearing.c", " || q.sender <= 0", "", "an_outsider_says_hello"),
     "handled in no handler": (
         "hearing.c",
         '\t\t\tbroken("begins %d handled", l->process->pid);',
@@ -105,6 +106,12 @@ CHECKS: dict[str, tuple[str, str, str, str]] = {
         "",
         "again_without_a_word",
     ),
+    "again's number": (
+        "questions.c",
+        "take_number(&end, &q->arguments[1]) && (*end",
+        "(take_number(&end, &q->arguments[1]), true) && (*end",
+        "again_without_a_number",
+    ),
     "again's end": (
         "questions.c",
         "take_number(&end, &q->arguments[2])) && *end == 0;",
@@ -116,6 +123,12 @@ CHECKS: dict[str, tuple[str, str, str, str]] = {
         "return end != at + 1 && memchr(at, '_', end - at) == NULL && take_number",
         "return take_number",
         "enter_without_a_word",
+    ),
+    "enter's number": (
+        "questions.c",
+        " && take_number(&end, &number) && *end == 0;",
+        " && (take_number(&end, &number), *end == 0);",
+        "enter_without_a_number",
     ),
     "enter's end": ("questions.c", "take_number(&end, &number) && *end == 0;", "take_number(&end, &number);", "behind_enter"),
     "enter's code": (
@@ -130,6 +143,14 @@ CHECKS: dict[str, tuple[str, str, str, str]] = {
         "!take_number(&at, &a[1]) || ",
         "hello -1 $T 0 0",
     ),
+    "hello's space": ("questions.c", " || *at++ != ' ' || ", " || at++ == NULL || ", "hello $P $T.0 0"),
+    "hello's last number": (
+        "questions.c",
+        "return take_number(&at, &a[3]) && a[3] >= 0",
+        "return (take_number(&at, &a[3]), true) && a[3] >= 0",
+        "hello $P $T 0",
+    ),
+    "hello's end": ("questions.c", "a[3] <= 1 && *at == 0;", "a[3] <= 1;", "hello $P $T 0 0 x"),
     "hello's landing": (
         "questions.c",
         "take_number(&at, &a[3]) && a[3] >= 0 && a[3] <= 1 && *at == 0",
@@ -148,6 +169,7 @@ CHECKS: dict[str, tuple[str, str, str, str]] = {
         "*name_end == ' ' && strchr",
         "a_remark_without_text",
     ),
+    "a text's space": ("questions.c", "return *name_end == ' ' && name_end[1]", "return name_end[1]", "a_remark_without_a_space"),
     "why it pokes": ("questions.c", " && q->arguments[0] >= COMPUTES && q->arguments[0] <= SPINS ?", " ?", "poke -1"),
     "handled's end": (
         "questions.c",
@@ -210,6 +232,25 @@ CHECKS: dict[str, tuple[str, str, str, str]] = {
         "\tif (place >= 0)\n\t\tTAKE_OUT(&l->process->lists.watched, place);\n",
         "\t\tTAKE_OUT(&l->process->lists.watched, place);\n",
         "numbers_of_nobody",
+    ),
+    "the server's first word": (
+        "program.c",
+        '\tif (strncmp(line, "ready", 5) != 0)\n\t\tbroken("control");\n',
+        "",
+        "the_first_word_of_the_server",
+    ),
+    "who is outside": ("program.c", "if (is_said && (from", "if (from.pid != 0 && (from", "an_outsider_for_the_server"),
+    "orders aren't waited for": (
+        "program.c",
+        "MSG_NOSIGNAL | MSG_DONTWAIT) < 0)\n\t\tbroken",
+        "MSG_NOSIGNAL) < 0)\n\t\tbroken",
+        "unread_orders",
+    ),
+    "answers have an end": (
+        "program.c",
+        '\n\t\tif (answers == MOST)\n\t\t\tbroken("control");',
+        ";",
+        "answers_without_end",
     ),
     "who talks to the server": ("program.c", "from.pid != server || ", "", "an_answer_of_the_server"),
     "nothing to the server": ("program.c", "got == 0 || message.msg_flags", "message.msg_flags", "nothing_to_the_server"),

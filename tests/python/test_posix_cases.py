@@ -13,7 +13,7 @@ from posix_kit import POSIX, SCALE, Posix, cases
 
 SEEDS = 50 * SCALE
 CASES = cases()
-PREEMPTED = ["resuming_test.address_0_after_PT_ATTACH"]
+PREEMPTED = ["resuming_test.address_0_after_PT_ATTACH", "signals_test.alarm_taken_back"]
 """Their errors need two preemptions at certain places, which few seeds make."""
 DIFFERENCES = {
     ".".join(found) for found in re.findall(r"^([a-z]\w*) (\w+)$", (POSIX / "tests/DIFFERENCES.txt").read_text(), re.MULTILINE)

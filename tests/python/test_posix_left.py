@@ -114,6 +114,25 @@ def test_a_signal_ends_all(odd: Odd, name: str, word: str, options: str) -> None
         assert not odd.left_in_time()
 
 
+def test_an_interrupt_is_seen_at_once(odd: Odd) -> None:
+    """A run that never pauses ends within the time of a short run, from its start to its end."""
+    words = ["env", "--default-signal=INT", sys.executable, str(RUN), "--no-record", "--limit", "100000000", str(odd.program)]
+    short, interrupted = [], []
+    for _ in range(5):
+        began = time.monotonic()
+        subprocess.run([*words, "closes"], stdin=subprocess.DEVNULL, capture_output=True, check=True)
+        short.append(time.monotonic() - began)
+        with subprocess.Popen(
+            [*words, "asks"], stdin=subprocess.DEVNULL, stdout=subprocess.DEVNULL, stderr=subprocess.DEVNULL
+        ) as run:
+            time.sleep(0.5)
+            began = time.monotonic()
+            run.send_signal(signal.SIGINT)
+            run.wait(60)
+        interrupted.append(time.monotonic() - began)
+    assert sorted(interrupted)[2] < 2 * sorted(short)[2], (interrupted, short)
+
+
 WAYS: list[list[str]] = [
     [],
     ["--schedules", "50"],

@@ -1,8 +1,10 @@
-"""When a thread that makes no call hangs: by what it has had of a processor, or slept. How busy the host is doesn't matter."""
+"""When a thread that makes no call hangs, or is made to ask: by what it has had of a processor, or slept. How busy the host is
+doesn't matter, nor what a virtual machine's host takes away of its time."""
 
 from __future__ import annotations
 
 import os
+import re
 import shutil
 import subprocess
 import sys
@@ -12,7 +14,8 @@ from contextlib import contextmanager
 from pathlib import Path
 
 import pytest
-from posix_kit import CC, RUN, Done, Posix
+from checking import TOP
+from posix_kit import CC, POSIX, RUN, Done, Posix
 
 COMPUTES = "#include <time.h>\nint main(void) { while (clock() < 1.5 * CLOCKS_PER_SEC) ; return 0; }\n"
 EXECUTES = (
@@ -124,3 +127,104 @@ def test_one_that_sleeps_for_another_that_is_held_up_is_not_asked(room: Path) ->
         assert time.monotonic() - began > milliseconds / 1e3
         runs.append((done.returncode, done.stdout, done.stderr))
     assert runs[0] == runs[1] and runs[0][0] == 0, runs
+
+
+# ---- a host that takes processors away from a virtual machine: its kernel counts that as the thread's time
+
+Plant = tuple[str, str, str]
+"""A file of broker or runtime, a text that it has once, and what is there instead."""
+SET_TICK = "\t{ struct itimerspec t = {{0, %d000}, {0, %d000}}; timer_settime(own.tick, 0, &t, NULL); }\n"
+
+
+def ticks_each(microseconds: int) -> list[Plant]:
+    """A thread has a tick so often by the clock, while it doesn't wait for an answer: the time before is taken away from it."""
+    asks, goes_on = "\town.questions++;\n", "\ttracehost_go_on(steps, lands);\n"
+    return [
+        ("runtime/ticks.c", "timer_create(CLOCK_THREAD_CPUTIME_ID", "timer_create(CLOCK_MONOTONIC"),
+        ("runtime/ticks.c", "every = {{0, TICK_MS * 1000000}, {0, TICK_MS * 1000000}}", "every = {{0, 0}, {0, 0}}"),
+        ("runtime/link.c", asks, asks + SET_TICK % (0, 0)),
+        ("runtime/link.c", goes_on, goes_on + SET_TICK % (microseconds, microseconds)),
+    ]
+
+
+SECONDS_ARE_TAKEN: Plant = (
+    "runtime/ticks.c", "return used.tv_sec * 1000 + used.tv_nsec / 1000000;", "static __thread long taken; return 1000 * ++taken + used.tv_sec;",
+)  # fmt: skip
+STOLEN: dict[str, tuple[list[Plant], Plant]] = {
+    "often at one place": (ticks_each(20), ("runtime/ticks.c", "begin_steps(general(context));", 'return "poke 2";')),
+    "for long": ([*ticks_each(500), SECONDS_ARE_TAKEN], ("runtime/ticks.c", "had < LATEST_MS ? had : LATEST_MS", "had")),
+}
+"""How it is taken away; and a change of the rule that then is seen."""
+
+
+PROGRAMS: dict[str, list[str]] = {"tests/events_test.c": ["exec_leaves_one_lwp"], "races/stop_lost_at_detach.c": []}
+"""Those that don't spin, with their words."""
+
+
+def changed_files(plants: list[Plant], room: Path) -> Path:
+    """A folder as clients/posix, with these changes."""
+    for top, folder in ((TOP, room), (TOP / "clients", room / "clients")):
+        folder.mkdir(exist_ok=True)
+        for path in top.iterdir():
+            if not path.name.startswith(".") and path not in (TOP / "clients", POSIX):
+                (folder / path.name).symlink_to(path)
+    made = Path(shutil.copytree(POSIX, room / "clients" / "posix", symlinks=True))
+    for name, old, new in plants:
+        source = made / name
+        text = source.read_text()
+        assert text.count(old) == 1, f"{name} has no {old!r} any more"
+        source.write_text(text.replace(old, new))
+    return made
+
+
+@pytest.mark.parametrize("is_seen", [False, True], ids=["as it is", "another rule"])
+@pytest.mark.parametrize("how", STOLEN)
+def test_time_that_a_host_takes_away_changes_no_schedule(posix: Posix, tmp_path: Path, how: str, is_seen: bool) -> None:
+    """And what is taken away here is enough for a rule that believes the host's kernel to change some."""
+    posix.compiled("examples/traced.c")  # the runtime is built
+    plants, other_rule = STOLEN[how]
+    changed = changed_files([*plants, *([other_rule] if is_seen else [])], tmp_path / "changed") / CC.name
+    printed: dict[Path, list[str]] = {}
+    for compiler in (CC, changed):
+        printed[compiler] = []
+        for source, case in PROGRAMS.items():
+            program = tmp_path / "program"
+            done = posix.execute(compiler, "-g", "-w", "-DRIGHT", "-o", program, POSIX / source, seconds=1200)
+            assert done.returncode == 0, done.stderr
+            done = posix.run("--digest", "--schedules", 20, program, *case)
+            assert done.returncode == 0, done.stderr
+            printed[compiler] += re.findall(r"^(?:plain|\d+) [0-9a-f]{16}$", done.stdout, re.MULTILINE)
+    assert len(printed[CC]) == len(printed[changed]) == 2 * 21
+    assert (printed[CC] != printed[changed]) == is_seen
+
+
+COMPUTES_SHORTLY = "#include <unistd.h>\nint main(void) { for (volatile long i = 0; i < 15000000; i++) ; return getppid() == 0; }\n"
+"""For less than the time after which it would be made to ask."""
+TOLD_AS_ASLEEP: Plant = (
+    "broker/watch.c",
+    "\tif (letter == 'D' &&",
+    "\tif (letter == 'R')\n\t\tletter = 'S';\n\tif (letter == 'D' &&",
+)
+"""As a kernel tells a thread that loses its processor in the midst of wait4(2)."""
+BELIEVED: Plant = (
+    "broker/watch.c",
+    "if (letter == 'S' && !sleeps_somewhere(pid, tid))",
+    "if (false && !sleeps_somewhere(pid, tid))",
+)
+
+
+@pytest.mark.parametrize("is_seen", [False, True], ids=["as it is", "another rule"])
+def test_one_without_a_processor_that_is_told_as_asleep_is_not_asked(posix: Posix, tmp_path: Path, is_seen: bool) -> None:
+    posix.compiled("examples/traced.c")  # the runtime is built
+    changed = changed_files([TOLD_AS_ASLEEP, *([BELIEVED] if is_seen else [])], tmp_path / "changed")
+    (tmp_path / "computes.c").write_text(COMPUTES_SHORTLY)
+    done = posix.execute(changed / CC.name, "-O0", "-o", tmp_path / "computes", tmp_path / "computes.c", seconds=1200)
+    assert done.returncode == 0, done.stderr
+    quiet = posix.run("--digest", tmp_path / "computes")
+    with busy(8) as processor:
+        told = subprocess.run(
+            ["taskset", "-c", str(processor), sys.executable, str(changed / RUN.name), "--no-record", "--digest", tmp_path / "computes"],
+            stdin=subprocess.DEVNULL, capture_output=True, text=True, timeout=600, check=False,
+        )  # fmt: skip
+    assert (told.returncode, quiet.returncode) == (0, 0), told.stderr
+    assert (told.stdout != quiet.stdout) == is_seen

@@ -262,7 +262,7 @@ static int real_of(const struct question *hello)
 	int64_t process = hello->arguments[0], thread = hello->arguments[1];
 	if (thread == process)
 		return hello->sender;
-	return process == hello->sender && thread > 0 && thread <= INT32_MAX ? (int)thread : 0;
+	return process == hello->sender && thread <= INT32_MAX ? (int)thread : 0;
 }
 
 /* A new thread, or image, says hello. */

@@ -29,8 +29,6 @@ reply look(struct step s)
 	case SIGACTION: code = tracehost_sigaction(&model, USER, s.actor, s.a, s.b, &r); break;
 	default: code = tracehost_list(&model, USER, s.actor, &r);
 	}
-	if (code == TRACEHOST_INVALID && run.current != NULL)
-		foreign_question(run.current);
 	if (code != TRACEHOST_ANSWERED)
 		broken("the model doesn't answer: %s", tracehost_strerror(code));
 	touch_step(&s, &r);

@@ -79,15 +79,17 @@ static ssize_t hear_server(char *line, size_t room, int *given)
 	do {
 		struct msghdr message = {.msg_iov = &part, .msg_iovlen = 1, .msg_control = u.space, .msg_controllen = sizeof u.space};
 		struct ucred from = {0};
+		bool is_said = false; /* an end of the socket is said by nobody; who is outside of this namespace has the number 0 */
 		ssize_t got = recvmsg(control, &message, MSG_CMSG_CLOEXEC);
 		for (struct cmsghdr *header = got >= 0 ? CMSG_FIRSTHDR(&message) : NULL; header != NULL;
 			 header = CMSG_NXTHDR(&message, header)) {
-			if (header->cmsg_type == SCM_CREDENTIALS)
+			if (header->cmsg_type == SCM_CREDENTIALS) {
 				memcpy(&from, CMSG_DATA(header), sizeof from);
-			else
+				is_said = true;
+			} else
 				take_given(header, given);
 		}
-		if (from.pid != 0 && (from.pid != server || got == 0 || message.msg_flags & MSG_TRUNC)) /* no end of the socket */
+		if (is_said && (from.pid != server || got == 0 || message.msg_flags & MSG_TRUNC))
 			broken("control");
 		if (got >= 0 || (errno != EAGAIN && errno != EINTR))
 			return got;
@@ -217,8 +219,8 @@ static bool hear_ends(const char *order)
 {
 	char line[4097];
 	int real, status, length;
-	if (send(control, order, strlen(order), MSG_NOSIGNAL) < 0)
-		broken("server");
+	if (send(control, order, strlen(order), MSG_NOSIGNAL | MSG_DONTWAIT) < 0)
+		broken(errno == EAGAIN ? "control" : "server"); /* the runtime reads an order before it answers */
 	ssize_t got = hear_server(line, sizeof line - 1, NULL);
 	if (got <= 0)
 		broken("server");

@@ -125,6 +125,7 @@ enum { ARGUMENTS = 6, ASKED = 520 };
 struct lwp {
 	struct process *process;
 	int tid, real, fd; /* fd: -1 for a timer, and before its socket is given out */
+	bool rings; /* a timer whose time has come, and whose signal isn't sent yet */
 	bool is_timer, alive; /* alive: one of its process's */
 	bool in_table; /* it has said hello */
 	signals mask, former, accepting; /* former: before ppoll(2); accepting: by its sigwait(2), in place of a handler */

@@ -125,6 +125,19 @@ static int64_t wait_until_met(struct lwp *timer, int64_t until)
 	}
 }
 
+/* Its time has come; `l` sends the signal: the timer itself, or who takes it back. */
+static void post_ring(struct lwp *l, struct lwp *timer)
+{
+	struct process *p = timer->process;
+	if (timer->signal == 0)
+		return;
+	step_of_call(l, (struct step){.op = SEND, .actor = p->pid, .a = timer->signal, .which = p->pid}, true);
+	timer->rings = false;
+	send_info(p, (struct info){.signal = timer->signal, .code = timer->number != 0 ? BSD_SI_TIMER : BSD_SI_KERNEL});
+	count_signal(p, timer->signal);
+	nudge(p, timer->signal);
+}
+
 /* The life of a timer. */
 void ring(struct lwp *timer)
 {
@@ -134,13 +147,9 @@ void ring(struct lwp *timer)
 			await(timer, until, 0, NULL);
 		if (!p->live)
 			return;
+		timer->rings = true;
 		count_ring(timer);
-		if (timer->signal != 0) {
-			step_of_call(timer, (struct step){.op = SEND, .actor = p->pid, .a = timer->signal, .which = p->pid}, true);
-			send_info(p, (struct info){.signal = timer->signal, .code = timer->number != 0 ? BSD_SI_TIMER : BSD_SI_KERNEL});
-			count_signal(p, timer->signal);
-			nudge(p, timer->signal);
-		}
+		post_ring(timer, timer);
 		if (timer->every == 0)
 			return;
 		if (timer->number != 0 && timer->signal != 0)
@@ -171,6 +180,7 @@ BODY(timer_call)
 	enter(l, number == 0 ? SETITIMER : TIMER_SETTIME, NULL);
 	struct left left = left_of(p, number);
 	struct lwp *old = timer_of(p, number);
+	bool is_over = old != NULL && (old->rings || (old->until != NEVER && old->until <= now()));
 	for (size_t i = p->lists.rung.count; i-- > 0;)
 		if (p->lists.rung.at[i].number == number)
 			TAKE_OUT(&p->lists.rung, i);
@@ -178,6 +188,8 @@ BODY(timer_call)
 		out_of_table(old);
 		retire(old);
 	}
+	if (is_over) /* nothing is left of its time, and nobody else would send its signal */
+		post_ring(l, old);
 	if (arguments[2] != 0)
 		start_timer(p, number, (int)signal, arguments[2], arguments[3]);
 	finish(l);

@@ -14,7 +14,7 @@
 #include <unistd.h>
 #include "run.h"
 
-enum { LONGEST = 10 }; /* one without a processor is waited for so many times longer */
+enum { LONGEST = 10 }; /* one without a processor, or that may have none, is waited for so many times longer */
 enum { OTHERS = 256 }; /* of so many threads the host is asked */
 
 static const double of_a_look = LOOK_MS / 1e3;
@@ -24,25 +24,42 @@ void watch_begin(struct watch *w, double patience) { *w = (struct watch){.left =
 
 /* What the host's kernel says of threads: a letter of proc(5), and their processor time in the kernel's ticks. */
 struct seen {
-	char letter; /* Z: there is none */
+	char letter; /* Z: there is none; Q: it is told as asleep, and may wait for a processor */
 	long used;
 };
 
-static struct seen look_at(int pid, int tid)
+static ssize_t read_of(int pid, int tid, const char *name, char *text, size_t room)
 {
-	char path[64], text[1024], letter = 'Z';
-	long user = 0, system = 0;
-	snprintf(path, sizeof path, "/proc/%d/task/%d/stat", pid, tid);
+	char path[64];
+	snprintf(path, sizeof path, "/proc/%d/task/%d/%s", pid, tid, name);
 	int fd = open(path, O_RDONLY | O_CLOEXEC);
-	ssize_t got = fd < 0 ? 0 : read(fd, text, sizeof text - 1);
+	ssize_t got = fd < 0 ? -1 : read(fd, text, room - 1);
 	if (fd >= 0)
 		close(fd);
 	text[got > 0 ? got : 0] = 0;
+	return got;
+}
+
+/* A thread that loses its processor in wait4(2), or as it is about to sleep, is told as asleep, but has no place where it does;
+ * nor has one that the broker may not look into. */
+static bool sleeps_somewhere(int pid, int tid)
+{
+	char text[128];
+	return read_of(pid, tid, "wchan", text, sizeof text) < 0 || strcmp(text, "0") != 0;
+}
+
+static struct seen look_at(int pid, int tid)
+{
+	char text[1024], letter = 'Z';
+	long user = 0, system = 0;
+	read_of(pid, tid, "stat", text, sizeof text);
 	const char *name_end = strrchr(text, ')');
 	if (name_end != NULL)
 		sscanf(name_end + 1, " %c %*d %*d %*d %*d %*d %*u %*u %*u %*u %*u %ld %ld", &letter, &user, &system);
 	if (letter == 'D' && awaits_answer(tid))
 		letter = 'S';
+	else if (letter == 'S' && !sleeps_somewhere(pid, tid))
+		letter = 'Q';
 	return (struct seen){letter, user + system};
 }
 
@@ -75,7 +92,7 @@ static void add_process(struct seen *all, int pid, int but, int *left)
 		--*left;
 		struct seen seen = tid == but ? (struct seen){'S', 0} : look_at(pid, tid);
 		all->used += seen.used;
-		if (goes_on(seen.letter))
+		if (goes_on(seen.letter) || (seen.letter == 'Q' && !goes_on(all->letter)))
 			all->letter = seen.letter;
 		add_children(all, pid, tid, but, left);
 	}
@@ -102,8 +119,10 @@ bool watch_look(struct watch *w, int real, int thread)
 	else {
 		add_process(&others, program_server(), thread, &left);
 		had = goes_on(others.letter) ? had_since(w->others, others.used) : of_a_look;
+		if (self.letter == 'Q' || others.letter == 'Q')
+			had /= LONGEST;
 	}
-	w->asleep = self.letter == 'S' ? w->asleep + had : 0;
+	w->asleep = self.letter == 'S' || self.letter == 'Q' ? w->asleep + had : 0;
 	w->left -= had > of_a_look / LONGEST ? had : of_a_look / LONGEST;
 	w->own = self.used, w->others = others.used;
 	return w->left < 0;

@@ -2,7 +2,6 @@
 #define _GNU_SOURCE
 #include <stdio.h>
 #include <string.h>
-#include <sys/resource.h>
 #include <sys/socket.h>
 #include <sys/syscall.h>
 #include <ucontext.h>
@@ -11,9 +10,6 @@
 #include "runtime.h"
 
 enum {
-	TICK_MS = 2, /* of a thread's processor time, or as often as the host's kernel looks */
-	COMPUTES_MS = 95, /* after which it is made to ask */
-	LOOP_BYTES = 64, /* of one that waits for another thread's store */
 	HELD_CALL = 1, /* si_code of a SIGSYS by seccomp(2), SYS_SECCOMP of the kernel's headers; and of one of dispatch.c */
 	DISPATCHED_CALL = 2,
 };
@@ -40,7 +36,7 @@ void tracehost_ask_between(const void *where, const char *question, void *contex
 }
 
 /* On its way into a call, or out of it. */
-static int is_in_entry(void *context)
+int tracehost_is_in_entry(void *context)
 {
 	const char *at = (const char *)((ucontext_t *)context)->uc_mcontext.gregs[REG_RIP];
 	return at >= __start_tracehost_entry && at < __stop_tracehost_entry;
@@ -61,57 +57,22 @@ static struct handling begin_handling(void)
 
 static void end_handling(struct handling before, void *context)
 {
-	const int is_program = !before.handles && !own.now.inside && !own.busy && own.fd >= 0 && !is_in_entry(context);
+	const int is_program = !before.handles && !own.now.inside && !own.busy && own.fd >= 0 && !tracehost_is_in_entry(context);
 	own.now.handles = before.handles;
 	own.now.selector = is_program ? own.now.watches : before.selector;
 }
 
-static long computed_ms(void)
+static void make_ask(const char *question, void *context)
 {
-	struct timespec used;
-	clock_gettime(CLOCK_THREAD_CPUTIME_ID, &used);
-	return used.tv_sec * 1000 + used.tv_nsec / 1000000;
-}
-
-static long page_faults(void)
-{
-	struct rusage usage = {0};
-	getrusage(RUSAGE_THREAD, &usage);
-	return usage.ru_minflt + usage.ru_majflt;
-}
-
-/* Whether the thread is where it was at the last tick, with the same registers: a loop that only reads memory. One that waits
- * for its memory, on a host that has little of it, is there too. */
-static int spins(void *context)
-{
-	const greg_t *g = ((ucontext_t *)context)->uc_mcontext.gregs;
-	const greg_t moved = g[REG_RIP] - own.sample[REG_RIP];
-	const long faults = page_faults();
-	const int is_same = own.has_sample && faults == own.faults && moved > -LOOP_BYTES && moved < LOOP_BYTES &&
-						memcmp(g, own.sample, sizeof(greg_t) * REG_RIP) == 0;
-	memcpy(own.sample, g, sizeof own.sample);
-	own.has_sample = 1, own.faults = faults;
-	return is_same;
-}
-
-/* The question of a thread that has asked nothing for long; NULL for none. */
-static const char *question_of_tick(void *context)
-{
-	if (own.seen != own.questions) { /* it has asked since the last tick */
-		own.seen = own.questions, own.since = computed_ms(), own.has_sample = 0;
-		spins(context);
-		return NULL;
-	}
-	return spins(context) ? "poke 2" : computed_ms() - own.since >= COMPUTES_MS ? "poke 0" : NULL;
+	if (question != NULL && !tracehost_looks_for_leaks()) /* however long that takes, it is no computation of the program's */
+		tracehost_ask_between(place_of(context), question, context);
 }
 
 static void look_at_poke(const siginfo_t *info, void *context)
 {
-	if (own.busy || own.fd < 0 || is_in_entry(context))
+	if (own.busy || own.fd < 0 || tracehost_is_in_entry(context))
 		return;
-	const char *question = info->si_code == SI_TIMER ? question_of_tick(context) : "poke 1";
-	if (question != NULL && !tracehost_looks_for_leaks()) /* however long that takes, it is no computation of the program's */
-		tracehost_ask_between(place_of(context), question, context);
+	make_ask(info->si_code == SI_TIMER ? tracehost_question_of_tick(context) : "poke 1", context);
 }
 
 static void on_poke(int number, siginfo_t *info, void *context)
@@ -183,14 +144,18 @@ static int freebsd_number(int number)
 static void look_at_fault(int number, siginfo_t *info, void *context)
 {
 	char question[64];
-	const char *at = (const char *)((ucontext_t *)context)->uc_mcontext.gregs[REG_RIP];
+	const char *at = (const char *)((ucontext_t *)context)->uc_mcontext.gregs[REG_RIP], *poke;
+	if (number == SIGTRAP && info->si_code == TRAP_TRACE && tracehost_step_of_loop(context, &poke)) {
+		make_ask(poke, context);
+		return;
+	}
 	if (number == SIGSYS && info->si_code == HELD_CALL) {
 		tracehost_held_call(info, context);
 		return;
 	}
 	if (number == SIGTRAP && tracehost_trap(info, context))
 		return;
-	if (own.busy || own.fd < 0 || is_in_entry(context)) { /* the runtime's own fault; or no stack is left for a handler */
+	if (own.busy || own.fd < 0 || tracehost_is_in_entry(context)) { /* the runtime's own fault; or no stack is left for a handler */
 		signal(number, SIG_DFL);
 		return;
 	}
@@ -225,14 +190,4 @@ void tracehost_host_signals(void)
 	sigaction(PARENT_ENDS, &action, NULL);
 	signal(SIGCHLD, SIG_DFL); /* children of the host are collected by the server, when their parent has ended */
 	signal(SIGPIPE, SIG_IGN); /* a broken pipe is posted by write */
-}
-
-/* A thread that computes for long without a question is made to ask. */
-void tracehost_start_ticks(void)
-{
-	struct sigevent event = {.sigev_notify = SIGEV_THREAD_ID, .sigev_signo = POKE};
-	struct itimerspec every = {{0, TICK_MS * 1000000}, {0, TICK_MS * 1000000}};
-	event._sigev_un._tid = syscall(SYS_gettid);
-	if (timer_create(CLOCK_THREAD_CPUTIME_ID, &event, &own.tick) == 0)
-		timer_settime(own.tick, 0, &every, NULL);
 }

@@ -153,6 +153,7 @@ static void set_step(void *context, int steps)
 
 void tracehost_go_on(int steps, int lands)
 {
+	own.steps = 0;
 	if (own.now.context != NULL)
 		set_step(own.now.context, steps);
 	else if (own.now.inside) {

@@ -85,10 +85,11 @@ struct own {
 	int tid;
 	volatile int busy; /* in a question: a poke is of no use, and a fault is the runtime's own */
 	unsigned questions, seen; /* asked, and asked at the last tick */
-	long since; /* the processor time then, in ms */
+	long used, computed; /* processor time at the last tick, and since that question; in ms */
 	gregset_t sample; /* registers at the last tick */
 	long faults; /* of pages, then */
 	int has_sample;
+	int steps; /* single ones that are left (ticks.c) */
 	int passed; /* a descriptor that came with the answer, or -1 */
 	char *at; /* the rest of the answer */
 	const void *where; /* the program's call of exit(3), which asks later */
@@ -242,7 +243,13 @@ extern int tracehost_exiting;
 void tracehost_say(const char *format, ...) __attribute__((format(printf, 1, 2)));
 
 void tracehost_host_signals(void);
+int tracehost_is_in_entry(void *context);
+
+/* One that asks nothing (ticks.c). */
 void tracehost_start_ticks(void);
+const char *tracehost_question_of_tick(void *context);
+int tracehost_step_of_loop(void *context, const char **question);
+
 int tracehost_send_fault(int host_signal);
 int tracehost_own_descriptor(int fd);
 

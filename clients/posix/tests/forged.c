@@ -18,12 +18,18 @@
  *   call N      a call of the program's
  *   rest MS     nothing
  *   exit N      the end
+ *   outside HEX  a process outside of the namespace says it: who listens at SCRIPT.outside is given the socket
  *   control HEX  the server of all runs says it on its socket, before the runtime begins
- *   control_later N HEX  a child of that server says it N times */
+ *   control_later N HEX  a child of that server says it N times
+ *   control_on N HEX  the server says it N times, however long nobody reads
+ *   control_answers N HEX  it answers N orders by it
+ *   control_outside HEX  as outside, on the server's socket
+ *   control_end N  the server ends */
 #include <sys/types.h>
 #include <sys/procdesc.h>
 #include <sys/ptrace.h>
 #include <sys/socket.h>
+#include <sys/un.h>
 #include <sys/wait.h>
 #include <machine/reg.h>
 #include <fcntl.h>
@@ -107,31 +113,65 @@ message_of(const char *hex, char *to)
 }
 
 static void
-say(int fd, const char *hex, int times, int descriptors)
+put_descriptors(struct msghdr *message, int fd, int count)
 {
-	static __thread char text[LINE];
-	union {
+	static __thread union {
 		char space[CMSG_SPACE(8 * sizeof(int))];
 		struct cmsghdr align;
 	} u;
+	int i;
+
+	message->msg_control = u.space, message->msg_controllen = CMSG_SPACE(count * sizeof(int));
+	struct cmsghdr *header = CMSG_FIRSTHDR(message);
+	header->cmsg_level = SOL_SOCKET, header->cmsg_type = SCM_RIGHTS, header->cmsg_len = CMSG_LEN(count * sizeof(int));
+	for (i = 0; i < count; i++)
+		memcpy(CMSG_DATA(header) + i * sizeof(int), &fd, sizeof(int));
+}
+
+static void
+say(int fd, const char *hex, int times, int descriptors)
+{
+	static __thread char text[LINE];
 	struct iovec part = {text, message_of(hex, text)};
 	struct msghdr message = {.msg_iov = &part, .msg_iovlen = 1};
 	int i;
 
-	if (descriptors) {
-		memset(&u, 0, sizeof(u));
-		message.msg_control = u.space, message.msg_controllen = sizeof(u.space);
-		struct cmsghdr *header = CMSG_FIRSTHDR(&message);
-		header->cmsg_level = SOL_SOCKET, header->cmsg_type = SCM_RIGHTS, header->cmsg_len = CMSG_LEN(8 * sizeof(int));
-		for (i = 0; i < 8; i++)
-			memcpy(CMSG_DATA(header) + i * sizeof(int), &fd, sizeof(int));
-	}
+	if (descriptors)
+		put_descriptors(&message, fd, 8);
 	for (i = 0; i < times; i++) {
 		struct pollfd room = {fd, POLLOUT, 0};
 
 		if (host(HOST_POLL, (long)&room, 1, ANSWER_MS) <= 0 || sendmsg(fd, &message, MSG_NOSIGNAL | MSG_DONTWAIT) < 0)
 			break;
 	}
+}
+
+static void
+say_outside(int fd, const char *hex)
+{
+	char text[LINE], byte;
+	struct iovec part = {text, message_of(hex, text)};
+	struct msghdr message = {.msg_iov = &part, .msg_iovlen = 1};
+	struct sockaddr_un where = {.sun_family = AF_UNIX};
+	int listener = socket(AF_UNIX, SOCK_SEQPACKET, 0);
+
+	snprintf(where.sun_path, sizeof(where.sun_path), "%s.outside", script);
+	put_descriptors(&message, fd, 1);
+	if (connect(listener, (struct sockaddr *)&where, sizeof(where)) == 0 && sendmsg(listener, &message, MSG_NOSIGNAL) >= 0)
+		recv(listener, &byte, 1, 0); /* it is said */
+	host(HOST_CLOSE, listener, 0, 0);
+}
+
+/* The server says it, or first reads an order each time, until nobody is there. */
+static void
+say_as_server(int fd, const char *hex, int times, int reads)
+{
+	char text[LINE], order[4096];
+	size_t length = message_of(hex, text);
+
+	while (times-- > 0 && (!reads || recv(fd, order, sizeof(order), 0) > 0))
+		if (send(fd, text, length, MSG_NOSIGNAL) < 0)
+			return;
 }
 
 static void
@@ -245,6 +285,8 @@ do_line(const char *line, int next)
 		say(fd, rest + length, count, 0);
 	else if (strcmp(word, "pass") == 0)
 		say(fd, rest, 1, 1);
+	else if (strcmp(word, "outside") == 0)
+		say_outside(fd, rest);
 	else if (strcmp(word, "hear") == 0)
 		hear(fd, 0);
 	else if (strcmp(word, "deaf") == 0)
@@ -299,24 +341,44 @@ read_script(const char *path)
 		fclose(file);
 }
 
+static void
+do_line_of_server(int fd, const char *line)
+{
+	char word[16] = "";
+	int length = 0, count = 0;
+
+	sscanf(line, "control%15s %n", word, &length);
+	const char *rest = line + length;
+	if (strncmp(line, "control ", 8) == 0)
+		say(fd, line + 8, 1, 0);
+	else if (strcmp(word, "_outside") == 0)
+		say_outside(fd, rest);
+	else if (strcmp(word, "_end") == 0)
+		_exit(atoi(rest));
+	else if (sscanf(rest, "%d %n", &count, &length) != 1)
+		return;
+	else if (strcmp(word, "_on") == 0 || strcmp(word, "_answers") == 0)
+		say_as_server(fd, rest + length, count, word[1] == 'a');
+	else if (strcmp(word, "_later") == 0 && host_fork() == 0) {
+		say(fd, rest + length, count, 0);
+		_exit(0);
+	}
+}
+
 /* In front of the runtime's. The first image is the server of all runs: it has the broker's socket, and never comes to main(). */
 #pragma GCC diagnostic ignored "-Wprio-ctor-dtor"
 __attribute__((constructor(100))) static void
 before_the_runtime(int count, char **words)
 {
 	const char *control = getenv("TRACEHOST_CONTROL");
-	int i, length, times;
+	int i;
 
 	if (control == NULL || count < 2)
 		return;
-	read_script(words[1]);
+	script = words[1];
+	read_script(script);
 	for (i = 0; i < n_lines; i++)
-		if (strncmp(lines[i], "control ", 8) == 0)
-			say(atoi(control), lines[i] + 8, 1, 0);
-		else if (sscanf(lines[i], "control_later %d %n", &times, &length) == 1 && host_fork() == 0) {
-			say(atoi(control), lines[i] + length, times, 0);
-			_exit(0);
-		}
+		do_line_of_server(atoi(control), lines[i]);
 }
 
 int
