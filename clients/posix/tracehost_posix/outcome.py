@@ -217,6 +217,9 @@ def fault(text: str) -> str:
         return f"{first} is a number of the model's, and of a process that {last} has started"
     if name == "room":
         return f"the model has no room for a process of {last}, which a program without the runtime has started in {first}"
+    if name == "unborn":
+        patience, _, program = last.partition(" ")
+        return f"{program}, which a program without the runtime has started in {first}, has said nothing for {patience} s"
     if name == "control":
         return CONTROL_WRITTEN
     if name == "server":
