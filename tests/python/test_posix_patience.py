@@ -50,7 +50,13 @@ BEGINS_ONCE = (
 def room(posix: Posix, tmp_path_factory: pytest.TempPathFactory) -> Path:
     """A folder with programs: those of tracehost-cc, and others."""
     folder = tmp_path_factory.mktemp("patience")
-    programs = {"computes": ("cc", COMPUTES), "holds": ("cc", HOLDS), "executes": (CC, EXECUTES), "locks": (CC, LOCKS), "waits": (CC, WAITS)}
+    programs = {
+        "computes": ("cc", COMPUTES),
+        "holds": ("cc", HOLDS),
+        "executes": (CC, EXECUTES),
+        "locks": (CC, LOCKS),
+        "waits": (CC, WAITS),
+    }
     for name, (compiler, text) in programs.items():
         (folder / f"{name}.c").write_text(text)
         done = posix.execute(compiler, "-w", "-D_GNU_SOURCE", "-o", folder / name, folder / f"{name}.c")
