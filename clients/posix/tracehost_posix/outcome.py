@@ -279,7 +279,7 @@ class Answer:
         """What the last line says: how it has ended, figures, switches, and what has failed."""
         name, *figures, switches, text = line.split(" ", 9)
         why = failure(unquote(text), self.waiting, options) if name == "failed" else None
-        if why == endless(options.limit):
+        if why is not None and why == endless(options.limit):
             self.blamed = loops(self.last)
         questions, steps, choices, passed, skipped, examined, legs = map(int, figures)
         schedule = switches if switches != "-" else ""
