@@ -11,10 +11,18 @@ import sys
 from pathlib import Path
 
 import pytest
-from posix_kit import JOBS, RACES, SCALE, Done, Posix
+from posix_kit import CC, JOBS, POSIX, RACES, SCALE, Done, Posix
 
 SCHEDULES = 1000 * SCALE
 SEEDS = 200 * SCALE
+
+
+@pytest.mark.parametrize("level", ["-O1", "-O2", "-Os"])
+def test_they_compile_at_each_level(posix: Posix, tmp_path: Path, level: str) -> None:
+    for name in RACES:
+        words = ["-c", "-Wall", "-Wextra", "-Werror", level, "-o", tmp_path / "race.o", POSIX / "races" / f"{name}.c"]
+        done = posix.execute(CC, *words)
+        assert done.returncode == 0, done.stderr
 
 
 @pytest.mark.parametrize("name", RACES)
