@@ -46,6 +46,12 @@ def test_its_remedy_passes(posix: Posix, name: str) -> None:
     passes(posix.run("--jobs", JOBS, "--schedules", SCHEDULES, posix.remedy(name), seconds=600 * SCALE))
 
 
+@pytest.mark.parametrize("name", RACES)
+def test_its_remedy_passes_optimized(posix: Posix, name: str) -> None:
+    done = posix.run("--jobs", JOBS, "--schedules", 100, posix.compiled(f"races/{name}.c", "-DRIGHT", "-O2"))
+    assert done.returncode == 0 and "101 schedules passed" in done.stderr, done.stderr
+
+
 def test_truss_passes(posix: Posix) -> None:
     words = [posix.compiled("examples/truss.c"), "-f", posix.compiled("examples/traced.c")]
     passes(posix.run("--jobs", JOBS, "--schedules", SCHEDULES, *words, seconds=600 * SCALE))
