@@ -37,6 +37,18 @@ def test_its_race_is_found_recorded_and_run_again(posix: Posix, program: Path, t
     assert again.returncode == 1 and "goes as recorded" in again.stderr, again.stderr
 
 
+@pytest.mark.parametrize(
+    "name, strategy, seed",
+    [("tracer_dies", "pct", 953), ("tracer_dies", "random", 9), ("newborn_lwp", "random", 9)],
+)
+def test_two_switches_are_left_of_many(posix: Posix, name: str, strategy: str, seed: int) -> None:
+    """The halves that are left out leave three and more."""
+    done = posix.run("--strategy", strategy, "--seeds", f"{seed}..{seed}", posix.race(name))
+    assert done.returncode == 1 and f"fails under --seed {seed}" in done.stderr, done.stderr
+    found = re.search(r"of its (\d+) switches 2 are enough", done.stderr)
+    assert found is not None and int(found[1]) > 2, done.stderr
+
+
 def passes(done: Done) -> None:
     assert done.returncode == 0 and f"{SCHEDULES + 1} schedules passed" in done.stderr, done.stderr
 
