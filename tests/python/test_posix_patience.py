@@ -111,9 +111,9 @@ def test_one_that_has_started_a_process_of_the_model_hangs_as_early(room: Path, 
         for command, times in took.items():
             began = time.monotonic()
             done = run("--patience", 3, "./executes", "/bin/sh", "-c", command, cwd=room)
-            times.append(time.monotonic() - began)
+            times += [time.monotonic() - began]
             assert done.returncode == 1 and "hang: 1001/100001 has made no call for 3 s" in done.stderr, done.stderr
-    alone, beside = map(min, took.values())
+    alone, beside = [min(times) for times in took.values()]
     assert beside < 1.1 * alone, took
 
 
@@ -121,9 +121,14 @@ def test_one_that_has_started_a_process_of_the_model_hangs_as_early(room: Path, 
 def test_a_started_program_that_never_begins_is_no_verdict(posix: Posix, room: Path, command: str) -> None:
     (room / "once.c").write_text(BEGINS_ONCE)
     (room / "begun").unlink(missing_ok=True)
-    for words in (["cc", "-shared", "-fPIC", "-o", "libonce.so", "once.c"],
-                  [CC, "-w", "-o", "begins", "waits.c", "-L.", "-Wl,--no-as-needed", "-lonce", "-Wl,-rpath,$ORIGIN"]):  # fmt: skip
-        assert subprocess.run(list(map(str, words)), cwd=room, capture_output=True, check=False).returncode == 0
+    (room / "libonce.so").unlink(missing_ok=True)
+    linked = [f"-L{room}", "-Wl,--no-as-needed", "-lonce", f"-Wl,-rpath,{room}"]
+    for words in (
+        ["cc", "-shared", "-o", room / "libonce.so", room / "once.c"],
+        [CC, "-o", room / "begins", room / "waits.c", *linked],
+    ):
+        done = posix.execute(*words, "-w", "-fPIC")
+        assert done.returncode == 0, done.stderr
     done = run("--patience", 1, "./executes", "/bin/sh", "-c", command, cwd=room)
     assert done.returncode == 3, done.stderr
     assert f"{room}/begins, which a program without the runtime has started in 1001, has said nothing for 1 s" in done.stderr
