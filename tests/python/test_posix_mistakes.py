@@ -8,6 +8,7 @@ import subprocess
 import sys
 
 import pytest
+from checking import needs
 from posix_kit import CC as COMPILER
 from posix_kit import POSIX, Posix
 from posix_kit import RUN as RUNNER
@@ -196,6 +197,17 @@ def plain(tmp_path_factory: pytest.TempPathFactory) -> pathlib.Path:
 
 def test_a_program_without_the_runtime(plain: pathlib.Path) -> None:
     refused([plain], "compile it with tracehost-cc")
+
+
+@needs("go")
+def test_a_program_in_go(tmp_path: pathlib.Path, monkeypatch: pytest.MonkeyPatch) -> None:
+    text = 'package main\n\n// #include <unistd.h>\nimport "C"\n\nfunc main() { println(C.getpid()) }\n'
+    (tmp_path / "main.go").write_text(text)
+    (tmp_path / "go.mod").write_text("module cgo\ngo 1.19\n")
+    monkeypatch.chdir(tmp_path)
+    done = shell(["env", f"CC={COMPILER}", "CGO_ENABLED=1", f"GOCACHE={tmp_path}/cache", "go", "build", "-o", "cgo", "."], "")
+    assert done.returncode == 0, done.stderr
+    refused(["./cgo"], "it has Go's runtime, which makes threads and system calls past ours")
 
 
 @pytest.mark.parametrize("words", ["", "--jobs 8 --schedules 90"])

@@ -292,6 +292,15 @@ def test_another_call_on_a_process_of_the_host_is_answered(room: Room, call: str
     assert done.returncode == 0 and said in done.stderr, done.stderr
 
 
+def test_a_call_is_answered_while_a_signal_is_pending(room: Room) -> None:
+    """The host's kernel says then that the caller waits for a disk, and goes on by itself."""
+    done, lives = room.with_victim("./calls", "executes", "./foreign", "kill_with_pending")
+    if done.stdout.splitlines()[:1] == ["4"]:
+        pytest.skip("the host ends a call at a signal")
+    assert lives and done.stdout.splitlines() == ["3", "lives"], (done.stdout, done.stderr)
+    assert done.returncode == 0 and "has sent a signal to" in done.stderr, done.stderr
+
+
 @pytest.mark.parametrize("call", ["ptrace", "process_vm_readv", "F_SETOWN", "FIOSETOWN", "clock_settime", "reboot", "sethostname"])
 def test_what_is_neither_the_models_nor_its_own_ends_the_run(room: Room, call: str) -> None:
     done, lives = room.with_victim("./calls", "executes", "./foreign", call)

@@ -41,12 +41,25 @@ HOLDS = (
 )
 """It is in a call of the host's that no signal ends, for so many milliseconds: as one that has no processor, or waits for a disk."""
 
+WAITS = "#include <unistd.h>\nint main(void) { pause(); return 0; }\n"
+BEGINS_ONCE = (
+    "#include <fcntl.h>\n#include <unistd.h>\n__attribute__((constructor)) static void begin(void)\n"
+    '{ while (open("begun", O_CREAT | O_EXCL | O_WRONLY, 0600) < 0) sleep(1000); }\n'
+)
+"""A library whose second copy waits for ever, before the program's runtime begins."""
+
 
 @pytest.fixture(scope="module")
 def room(posix: Posix, tmp_path_factory: pytest.TempPathFactory) -> Path:
     """A folder with programs: those of tracehost-cc, and others."""
     folder = tmp_path_factory.mktemp("patience")
-    programs = {"computes": ("cc", COMPUTES), "holds": ("cc", HOLDS), "executes": (CC, EXECUTES), "locks": (CC, LOCKS)}
+    programs = {
+        "computes": ("cc", COMPUTES),
+        "holds": ("cc", HOLDS),
+        "executes": (CC, EXECUTES),
+        "locks": (CC, LOCKS),
+        "waits": (CC, WAITS),
+    }
     for name, (compiler, text) in programs.items():
         (folder / f"{name}.c").write_text(text)
         done = posix.execute(compiler, "-w", "-D_GNU_SOURCE", "-o", folder / name, folder / f"{name}.c")
@@ -91,6 +104,37 @@ def test_one_that_computes_or_sleeps_for_longer_hangs(room: Path, text: str) -> 
     done = run("--patience", 1, "./executes", "/bin/sh", "-c", text, cwd=room)
     assert done.returncode == 1 and "hang: 1001/100001 has made no call for 1 s" in done.stderr, done.stderr
     assert "1001/100001 in a program without the runtime; that was its last call" in done.stderr
+
+
+@pytest.mark.parametrize("text", ["sleep 100", "sleep 100 & wait"])
+def test_one_that_has_started_a_process_of_the_model_hangs_as_early(room: Path, text: str) -> None:
+    """The quickest of three runs each."""
+    took: dict[str, list[float]] = {text: [], f"./waits & {text}": []}
+    for _ in range(3):
+        for command, times in took.items():
+            began = time.monotonic()
+            done = run("--patience", 3, "./executes", "/bin/sh", "-c", command, cwd=room)
+            times += [time.monotonic() - began]
+            assert done.returncode == 1 and "hang: 1001/100001 has made no call for 3 s" in done.stderr, done.stderr
+    alone, beside = [min(times) for times in took.values()]
+    assert beside < 1.1 * alone, took
+
+
+@pytest.mark.parametrize("command", ["./begins; exit 0", "./begins & wait", "./begins | ./waits"])
+def test_a_started_program_that_never_begins_is_no_verdict(posix: Posix, room: Path, command: str) -> None:
+    (room / "once.c").write_text(BEGINS_ONCE)
+    (room / "begun").unlink(missing_ok=True)
+    (room / "libonce.so").unlink(missing_ok=True)
+    linked = [f"-L{room}", "-Wl,--no-as-needed", "-lonce", f"-Wl,-rpath,{room}"]
+    for words in (
+        ["cc", "-shared", "-o", room / "libonce.so", room / "once.c"],
+        [CC, "-o", room / "begins", room / "waits.c", *linked],
+    ):
+        done = posix.execute(*words, "-w", "-fPIC")
+        assert done.returncode == 0, done.stderr
+    done = run("--patience", 1, "./executes", "/bin/sh", "-c", command, cwd=room)
+    assert done.returncode == 3, done.stderr
+    assert f"{room}/begins, which a program without the runtime has started in 1001, has said nothing for 1 s" in done.stderr
 
 
 def test_the_calls_of_one_take_no_patience(room: Path) -> None:

@@ -11,10 +11,18 @@ import sys
 from pathlib import Path
 
 import pytest
-from posix_kit import JOBS, RACES, SCALE, Done, Posix
+from posix_kit import CC, JOBS, POSIX, RACES, SCALE, Done, Posix
 
 SCHEDULES = 1000 * SCALE
 SEEDS = 200 * SCALE
+
+
+@pytest.mark.parametrize("level", ["-O1", "-O2", "-Os"])
+def test_they_compile_at_each_level(posix: Posix, tmp_path: Path, level: str) -> None:
+    for name in RACES:
+        words = ["-c", "-Wall", "-Wextra", "-Werror", level, "-o", tmp_path / "race.o", POSIX / "races" / f"{name}.c"]
+        done = posix.execute(CC, *words)
+        assert done.returncode == 0, done.stderr
 
 
 @pytest.mark.parametrize("name", RACES)
@@ -29,6 +37,18 @@ def test_its_race_is_found_recorded_and_run_again(posix: Posix, program: Path, t
     assert again.returncode == 1 and "goes as recorded" in again.stderr, again.stderr
 
 
+@pytest.mark.parametrize(
+    "name, strategy, seed",
+    [("tracer_dies", "pct", 953), ("tracer_dies", "random", 9), ("newborn_lwp", "random", 9)],
+)
+def test_two_switches_are_left_of_many(posix: Posix, name: str, strategy: str, seed: int) -> None:
+    """The halves that are left out leave three and more."""
+    done = posix.run("--strategy", strategy, "--seeds", f"{seed}..{seed}", posix.race(name))
+    assert done.returncode == 1 and f"fails under --seed {seed}" in done.stderr, done.stderr
+    found = re.search(r"of its (\d+) switches 2 are enough", done.stderr)
+    assert found is not None and int(found[1]) > 2, done.stderr
+
+
 def passes(done: Done) -> None:
     assert done.returncode == 0 and f"{SCHEDULES + 1} schedules passed" in done.stderr, done.stderr
 
@@ -36,6 +56,12 @@ def passes(done: Done) -> None:
 @pytest.mark.parametrize("name", RACES)
 def test_its_remedy_passes(posix: Posix, name: str) -> None:
     passes(posix.run("--jobs", JOBS, "--schedules", SCHEDULES, posix.remedy(name), seconds=600 * SCALE))
+
+
+@pytest.mark.parametrize("name", RACES)
+def test_its_remedy_passes_optimized(posix: Posix, name: str) -> None:
+    done = posix.run("--jobs", JOBS, "--schedules", 100, posix.compiled(f"races/{name}.c", "-DRIGHT", "-O2"))
+    assert done.returncode == 0 and "101 schedules passed" in done.stderr, done.stderr
 
 
 def test_truss_passes(posix: Posix) -> None:

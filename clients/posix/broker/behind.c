@@ -112,6 +112,21 @@ static void take_up_image(struct lwp *l, const struct notice *n)
 	}
 }
 
+/* Until it speaks, or its socket ends. Its libraries begin before it: they may wait for ever. */
+static void await_first_word(const struct lwp *l, const struct lwp *born, const struct notice *n)
+{
+	struct watch watch;
+	watch_begin(&watch, options.patience);
+	for (int looks = 1; poll(&(struct pollfd){.fd = born->fd, .events = POLLIN}, 1, 1) == 0; looks++) {
+		take_notices();
+		if (looks % LOOK_MS != 0)
+			continue;
+		end_if_python_is_gone();
+		if (watch_look(&watch, n->pid, n->pid))
+			broken("unborn %d %g %s", l->process->pid, options.patience, file_of(n->pid));
+	}
+}
+
 static void take_up_child(struct lwp *l, const struct notice *n)
 {
 	int given;
@@ -124,8 +139,7 @@ static void take_up_child(struct lwp *l, const struct notice *n)
 	born->fd = socket_pair(&given);
 	if (!give_socket(n, l, born, given))
 		gone(born->process);
-	for (struct pollfd ready = {.fd = born->fd, .events = POLLIN}; poll(&ready, 1, 1) == 0;)
-		take_notices();
+	await_first_word(l, born, n);
 	meet(born);
 	ask_for(l, "0 user");
 }

@@ -4,6 +4,7 @@
 #include "run.h"
 
 enum { COMPUTES, ASLEEP_IN_HOST, SPINS }; /* why a thread asks `poke` */
+extern const double until_poke[]; /* seconds of its processor's time after which it does */
 
 #define BODY(name) void name(struct lwp *l, const struct call *call, const int64_t *arguments)
 

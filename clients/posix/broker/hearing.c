@@ -8,8 +8,7 @@
 
 enum { LAST = 200 }; /* of a run without an end, so many last questions are told */
 enum { MOST_REMARKS = 400 }; /* before an answer */
-/* Seconds of its processor's time after which a thread asks `poke`. */
-static const double until_poke[] = {[COMPUTES] = 0.1, [ASLEEP_IN_HOST] = 0.1, [SPINS] = 0.005};
+const double until_poke[] = {[COMPUTES] = 0.1, [ASLEEP_IN_HOST] = 0.1, [SPINS] = 0.005};
 
 /* ---- messages */
 

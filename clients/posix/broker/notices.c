@@ -333,7 +333,7 @@ void take_notices(void)
 /* ---- a program without the runtime computes */
 
 /* Whether its processes wait, at two looks: one may be about to be woken. */
-static enum rest rest_now(const struct lwp *l)
+enum rest rest_now(const struct lwp *l)
 {
 	enum { BETWEEN_US = 500 };
 	const unsigned long before = taken;
@@ -400,7 +400,8 @@ static void forget_notice(uint64_t id)
 			TAKE_OUT(&waiting, i);
 }
 
-static void answer_notices(struct lwp *l)
+/* Those of the LWP's computation, as they come. */
+void answer_notices(struct lwp *l)
 {
 	take_notices();
 	for (long next; l->foreign && (next = next_notice(l)) >= 0; take_notices()) {
@@ -416,7 +417,7 @@ static void answer_notices(struct lwp *l)
 	}
 }
 
-static bool has_due(const struct lwp *l)
+bool has_due(const struct lwp *l)
 {
 	for (size_t i = 0; i < waiting.count; i++)
 		if (waiting.at[i].lwp == l && !waiting.at[i].answered && rank_of(&waiting.at[i]) != NOT_YET)
@@ -424,76 +425,8 @@ static bool has_due(const struct lwp *l)
 	return false;
 }
 
-/* What it leaves may be about to start a process of the model's, on a busy host too. */
-static void let_rest(struct lwp *l)
+bool wait_for_notice(const struct lwp *l, int milliseconds)
 {
-	struct watch watch;
-	watch_begin(&watch, options.patience);
-	do {
-		answer_notices(l);
-		end_if_python_is_gone();
-		if (!has_due(l) && rest_now(l) != RUNS_ON)
-			return;
-		poll(&(struct pollfd){.fd = listener, .events = POLLIN}, 1, LOOK_MS);
-	} while (!watch_look(&watch, l->process->real, l->real));
-}
-
-static bool has_news(const struct lwp *l)
-{
-	take_notices();
-	return has_due(l) || poll(&(struct pollfd){.fd = l->fd, .events = POLLIN}, 1, 0) > 0;
-}
-
-/* It waits in the host for children only, and has been woken: whether that is so still, once the host has done its part. */
-bool still_awaits(const struct lwp *l)
-{
-	enum { LOOKS = 1000 };
-	for (int looks = 0; looks < LOOKS && !has_news(l); looks++) {
-		const enum rest how = rest_now(l);
-		if (how != RUNS_ON)
-			return how == AWAITS_CHILDREN && !has_news(l);
-	}
-	return false;
-}
-
-/* It waits in the host, and others go on: until one that it has started ends, if it waits for nothing else. How many
- * milliseconds of patience that took. */
-static int rest(struct lwp *l, enum rest how)
-{
-	const long steps = run.steps;
-	l->awaits = how == AWAITS_CHILDREN;
-	change(IO); /* it may have written before */
-	ask_for(l, "0 poke %d", ASLEEP_IN_HOST);
-	const bool others_went_on = run.steps > steps + 1;
-	l->idle = others_went_on ? 0 : l->idle < LOOK_MS ? l->idle + 1 : LOOK_MS;
-	if (!others_went_on)
-		poll(&(struct pollfd){.fd = listener, .events = POLLIN}, 1, l->idle);
-	return l->idle;
-}
-
-/* Whether an LWP that computes says nothing for LOOK_MS, while the calls of its computation are answered as they come: of a
- * program without the runtime, or of a sanitizer that looks for leaks. The calls of others are heard when there is time. */
-bool stays_silent(struct lwp *l)
-{
-	enum { SHORT_MS = 1 };
-	const bool was_foreign = l->foreign;
-	if (!was_foreign && !l->process->looks_for_leaks)
-		return false;
-	for (int left = LOOK_MS; left > 0;) {
-		answer_notices(l);
-		if (l->foreign != was_foreign) /* it has become an image of the runtime */
-			return false;
-		struct pollfd ready[] = {{.fd = l->fd, .events = POLLIN}, {.fd = listener, .events = POLLIN}};
-		const bool starts = was_foreign && has_started(l->process);
-		const int time = starts || has_due(l) ? SHORT_MS : left;
-		const bool hears = poll(ready, 2, time) > 0;
-		if (ready[0].revents != 0) {
-			if (was_foreign && is_over(l))
-				let_rest(l);
-			return false;
-		}
-		const enum rest how = starts && !hears && !has_news(l) ? rest_now(l) : RUNS_ON;
-		left -= how != RUNS_ON ? rest(l, how) : hears ? SHORT_MS : time;
-	}
-	return true;
+	struct pollfd ready[] = {{.fd = listener, .events = POLLIN}, {.fd = l != NULL ? l->fd : -1, .events = POLLIN}};
+	return poll(ready, 2, milliseconds) > 0;
 }

@@ -15,6 +15,11 @@ struct notice {
 
 /* ---- notices.c */
 
+enum rest { RUNS_ON, RESTS, AWAITS_CHILDREN }; /* of a program without the runtime */
+enum rest rest_now(const struct lwp *l);
+void answer_notices(struct lwp *l);
+bool has_due(const struct lwp *l);
+bool wait_for_notice(const struct lwp *l, int milliseconds); /* or for a message of the LWP's, if one is given */
 int give_descriptor(const struct notice *n, int fd); /* its number there; -1 if the caller has gone. `fd` is closed */
 void answer_with(const struct notice *n, int64_t value);
 bool is_over(const struct lwp *l);
@@ -40,6 +45,5 @@ const char *file_of(int pid);
 bool is_sanitizer(const char *file);
 bool is_first_child(int pid, const struct process *p);
 int compare_by_age(int a, int b, const struct process *p);
-enum rest { RUNS_ON, RESTS, AWAITS_CHILDREN };
 enum rest rest_of(const struct process *p);
 #endif

@@ -104,7 +104,7 @@ int code_of(const struct lwp *l, int64_t number); /* of a call that the LWP stay
 void count_ring(const struct lwp *timer);
 int64_t ask_for(struct lwp *l, const char *format, ...) __attribute__((format(printf, 2, 3)));
 
-/* ---- notices.c, host_processes.c: programs without the runtime */
+/* ---- notices.c, silence.c, host_processes.c: programs without the runtime */
 
 void notices_of(int listener);
 void notices_begin(void);

@@ -28,10 +28,20 @@ static LIST(struct {
 
 /* ---- seeds */
 
+/* As it begins by each of the last two seeds: a seed and the next one are asked for, again and again. */
 static void begin_twister(struct twister *t, uint64_t seed)
 {
+	static struct {
+		bool is_known;
+		uint64_t seed;
+		struct twister begun;
+	} last[2], *of;
 	uint32_t key[] = {(uint32_t)seed, (uint32_t)(seed >> 32)};
-	seed_twister(t, key, key[1] == 0 ? 1 : 2);
+	of = &last[seed & 1];
+	if (!of->is_known || of->seed != seed)
+		seed_twister(&of->begun, key, key[1] == 0 ? 1 : 2);
+	of->is_known = true, of->seed = seed;
+	*t = of->begun;
 }
 
 static int draw_child(const int *children, int count)

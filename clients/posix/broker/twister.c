@@ -16,10 +16,11 @@ static const uint32_t *first_state(void)
 
 void seed_twister(struct twister *t, const uint32_t *key, int length)
 {
-	uint32_t *s = t->state, i = 1;
+	uint32_t *s = t->state, i = 1, of_key = 0;
 	memcpy(s, first_state(), sizeof t->state);
 	for (int k = 0; k < N; k++) {
-		s[i] = (s[i] ^ (s[i - 1] ^ s[i - 1] >> 30) * 1664525u) + key[k % length] + k % length;
+		s[i] = (s[i] ^ (s[i - 1] ^ s[i - 1] >> 30) * 1664525u) + key[of_key] + of_key;
+		of_key = of_key + 1 == (uint32_t)length ? 0 : of_key + 1; /* a division takes longer than all else */
 		if (++i == N)
 			s[0] = s[N - 1], i = 1;
 	}
@@ -29,7 +30,7 @@ void seed_twister(struct twister *t, const uint32_t *key, int length)
 			s[0] = s[N - 1], i = 1;
 	}
 	s[0] = 0x80000000;
-	t->at = N;
+	t->at = 0;
 }
 
 static uint32_t mixed(uint32_t high, uint32_t low, uint32_t from)
@@ -38,22 +39,13 @@ static uint32_t mixed(uint32_t high, uint32_t low, uint32_t from)
 	return from ^ y >> 1 ^ (y & 1 ? 0x9908b0df : 0);
 }
 
-static void twist(struct twister *t)
-{
-	uint32_t *s = t->state;
-	for (int i = 0; i < N - M; i++)
-		s[i] = mixed(s[i], s[i + 1], s[i + M]);
-	for (int i = N - M; i < N - 1; i++)
-		s[i] = mixed(s[i], s[i + 1], s[i + M - N]);
-	s[N - 1] = mixed(s[N - 1], s[0], s[M - 1]);
-	t->at = 0;
-}
-
+/* The state's next word is made as it is drawn: a run draws few. */
 static uint32_t draw_32(struct twister *t)
 {
-	if (t->at == N)
-		twist(t);
-	uint32_t y = t->state[t->at++];
+	uint32_t *s = t->state;
+	const int i = t->at, next = i + 1 < N ? i + 1 : 0;
+	uint32_t y = s[i] = mixed(s[i], s[next], s[i + M < N ? i + M : i + M - N]);
+	t->at = next;
 	y ^= y >> 11;
 	y ^= y << 7 & 0x9d2c5680;
 	y ^= y << 15 & 0xefc60000;

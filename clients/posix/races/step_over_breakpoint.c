@@ -17,7 +17,7 @@ static __attribute__((noinline)) void
 counted(void)
 {
 
-	calls++;
+	__sync_fetch_and_add(&calls, 1);
 }
 
 static void *

@@ -9,14 +9,21 @@
 
 extern char place[]; /* both threads come by; a nop, so that no program counter is set back */
 
-static __attribute__((noinline)) void *
+static __attribute__((noinline)) void
+come_by(void)
+{
+
+	__asm__ volatile(".globl place\nplace: nop");
+}
+
+static void *
 work(void *arg)
 {
 	int i;
 
 	for (i = 0; i < 3; i++) {
 		sched_yield();
-		__asm__ volatile(".globl place\nplace: nop");
+		come_by();
 	}
 	return (arg);
 }

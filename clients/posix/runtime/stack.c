@@ -16,6 +16,7 @@ enum {
 	SIGNALS = 32 << 20, /* only what is used takes memory */
 	BETWEEN = 2048, /* left to what runs already, as another level begins below it */
 	LOW = 64 << 10, /* a level needs less */
+	KEPT = 8, /* so many threads' stacks are left to later ones */
 	RED_ZONE = 128,
 };
 
@@ -28,28 +29,58 @@ static void set_signals(char *top)
 }
 
 static int made_stacks; /* of all threads; a fork's child has them too */
+static char *kept_stacks[KEPT]; /* of threads that have ended: to unmap them takes longer than all else at an end */
 
 size_t tracehost_memory_of_stacks(void) { return (size_t)__atomic_load_n(&made_stacks, __ATOMIC_RELAXED) * (SIGNALS + CALLS); }
+
+static char *kept_one(void)
+{
+	char *found = NULL;
+	for (int i = 0; i < KEPT && found == NULL; i++)
+		found = __atomic_exchange_n(&kept_stacks[i], NULL, __ATOMIC_ACQ_REL);
+	return found;
+}
+
+static int keep(char *stacks)
+{
+	for (int i = 0; i < KEPT; i++) {
+		char *none = NULL;
+		if (__atomic_compare_exchange_n(&kept_stacks[i], &none, stacks, 0, __ATOMIC_ACQ_REL, __ATOMIC_RELAXED))
+			return 1;
+	}
+	return 0;
+}
+
+static char *new_one(void)
+{
+	tracehost_lift_limits();
+	char *made = mmap(NULL, SIGNALS + CALLS, PROT_READ | PROT_WRITE, MAP_PRIVATE | MAP_ANONYMOUS | MAP_NORESERVE, -1, 0);
+	if (made == MAP_FAILED)
+		tracehost_broken("no stack is left for the runtime");
+	__atomic_fetch_add(&made_stacks, 1, __ATOMIC_RELAXED);
+	tracehost_lower_limits();
+	return made;
+}
 
 void tracehost_make_stacks(void)
 {
 	if (own.stacks != NULL)
 		return; /* a fork has them already */
-	tracehost_lift_limits();
-	char *made = mmap(NULL, SIGNALS + CALLS, PROT_READ | PROT_WRITE, MAP_PRIVATE | MAP_ANONYMOUS | MAP_NORESERVE, -1, 0);
-	if (made == MAP_FAILED || sigaltstack(NULL, &own.former_stack) != 0)
+	char *stacks = kept_one();
+	own.stacks = stacks != NULL ? stacks : new_one();
+	own.now.top = own.stacks + SIGNALS + CALLS;
+	if (sigaltstack(NULL, &own.former_stack) != 0)
 		tracehost_broken("no stack is left for the runtime");
-	own.stacks = made, own.now.top = made + SIGNALS + CALLS;
-	__atomic_fetch_add(&made_stacks, 1, __ATOMIC_RELAXED);
-	tracehost_lower_limits();
-	set_signals(made + SIGNALS);
+	set_signals(own.stacks + SIGNALS);
 }
 
 void tracehost_drop_stacks(void)
 {
 	sigaltstack(&own.former_stack, NULL); /* a sanitizer's, which it looks for */
-	munmap(own.stacks, SIGNALS + CALLS);
-	__atomic_fetch_sub(&made_stacks, 1, __ATOMIC_RELAXED);
+	if (!keep(own.stacks)) {
+		munmap(own.stacks, SIGNALS + CALLS);
+		__atomic_fetch_sub(&made_stacks, 1, __ATOMIC_RELAXED);
+	}
 	own.stacks = NULL;
 }
 

@@ -20,8 +20,9 @@ from .setting import Broken, Died, Setting, Task, text_of
 
 AHEAD, ROOM = 64, 32768
 """The most schedules, and bytes of them, that are on their way: a pipe has room for twice as many bytes."""
-NAP = 0.002
-"""While half of these or more are on their way, answers are read each NAP seconds: to be woken up for each costs time."""
+NAP = 0.02
+"""While half of these or more are on their way, answers are read when a quarter may be there, or after so many seconds: to be
+woken up for each costs time."""
 _LAST = ("passed ", "failed ", "repeats ", "broken ")
 
 
@@ -244,7 +245,7 @@ class Broker:
         if digest or self.setting.verify:
             yield from ((task, self.result(task, digest)) for task in tasks)
             return
-        more = True
+        more, began, answered = True, time.monotonic(), 0
         while more or self._asked or self._dropped:
             self.ask_again()
             asked: list[Task] = []
@@ -254,9 +255,11 @@ class Broker:
                 if task is not None:
                     asked.append(task)
             self.ask(asked)
-            if len(self._asked) >= AHEAD // 2:
-                time.sleep(NAP)
-            yield from zip([task for task, _ in self._asked], self.answers())
+            if len(self._asked) >= AHEAD // 2 and answered > 0:
+                time.sleep(min(NAP, AHEAD / 4 * (time.monotonic() - began) / answered))
+            for pair in self._pairs():
+                answered += 1
+                yield pair
 
     def ask(self, tasks: Sequence[Task]) -> None:
         """More may be asked before the first is answered, as long as their lines fit the pipe."""
@@ -264,10 +267,14 @@ class Broker:
 
     def answers(self) -> Iterator[Result]:
         """The next answer, and those that are there already."""
+        return (result for _, result in self._pairs())
+
+    def _pairs(self) -> Iterator[tuple[Task, Result]]:
+        """The same, with what was asked."""
         self.ask_again()
-        yield self._answered()
+        yield self._asked[0][0], self._answered()
         while self._asked and any(line.startswith(_LAST) for line in self._lines):
-            yield self._answered()
+            yield self._asked[0][0], self._answered()
 
     def fileno(self) -> int:
         """This can be read when there is an answer."""

@@ -50,8 +50,9 @@ class Command:
 
     def heard(self, seed: int | None, result: Result) -> None:
         """A run of a search has ended."""
-        self._sums.add(sums_of(seed, result))
-        self._cover(dict(result.covered))
+        self._sums.add_run(seed, result)
+        if result.covered:
+            self._cover(dict(result.covered))
         if self.given.digest and not result.repeats:
             with writing():
                 print(f"{seed or 'plain'} {result.digest}")

@@ -18,7 +18,7 @@ from .comparing import digest_of as digest_of
 from .outcome import Result
 from .report import say
 from .setting import Refused
-from .tally import Failures, Sums, sums_of
+from .tally import Failures, Sums
 
 _KIND = "tracehost-run ledger"
 BLOCK = 256
@@ -40,7 +40,7 @@ class Block:
 
     def add(self, seed: int, result: Result, new: bool) -> None:
         self.last = seed
-        self.sums.add(sums_of(seed, result))
+        self.sums.add_run(seed, result)
         self.new.append(new)
         if new:
             self.different.append(result.legs)

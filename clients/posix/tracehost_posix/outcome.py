@@ -217,6 +217,9 @@ def fault(text: str) -> str:
         return f"{first} is a number of the model's, and of a process that {last} has started"
     if name == "room":
         return f"the model has no room for a process of {last}, which a program without the runtime has started in {first}"
+    if name == "unborn":
+        patience, _, program = last.partition(" ")
+        return f"{program}, which a program without the runtime has started in {first}, has said nothing for {patience} s"
     if name == "control":
         return CONTROL_WRITTEN
     if name == "server":
@@ -276,7 +279,7 @@ class Answer:
         """What the last line says: how it has ended, figures, switches, and what has failed."""
         name, *figures, switches, text = line.split(" ", 9)
         why = failure(unquote(text), self.waiting, options) if name == "failed" else None
-        if why == endless(options.limit):
+        if why is not None and why == endless(options.limit):
             self.blamed = loops(self.last)
         questions, steps, choices, passed, skipped, examined, legs = map(int, figures)
         schedule = switches if switches != "-" else ""

@@ -6,6 +6,8 @@ import os
 from collections.abc import Iterable
 
 MARKER = b"tracehost posix runtime, protocol 1"
+GO = b"\xff Go buildinf:"
+"""What the linker of Go leaves in a program."""
 REFUSED = 125
 """The status of a program that has said on standard error why it can't be run."""
 
@@ -34,6 +36,8 @@ def check(path: str) -> str:
         raise NotRunnable(f"{path}: it isn't executable")
     if MARKER not in text:
         raise NotRunnable(f"{path}: it has no runtime: compile it with tracehost-cc")
+    if GO in text:
+        raise NotRunnable(f"{path}: it has Go's runtime, which makes threads and system calls past ours")
     return found
 
 

@@ -45,6 +45,20 @@ class Sums:
         for why, failures in other.failures.items():
             self.fail(why, failures)
 
+    def add_run(self, seed: int | None, result: Result) -> None:
+        self.runs += 1
+        self.questions += result.questions
+        self.steps += result.steps
+        self.passed += result.passed
+        self.skipped += result.skipped
+        self.examined += result.examined
+        if result.questions > self.most:
+            self.most = result.questions
+        if result.remarks:
+            self.remarks.update(dict.fromkeys(result.remarks))
+        if result.why is not None:
+            self.fail(result.why, Failures(1, seed))
+
     def fail(self, why: str, failures: Failures) -> None:
         known = self.failures.get(why)
         self.failures[why] = failures if known is None else known._replace(times=known.times + failures.times)
@@ -53,11 +67,7 @@ class Sums:
 def sums_of(seed: int | None, result: Result) -> Sums:
     """Those of one run."""
     sums = Sums()
-    sums.runs, sums.questions, sums.steps, sums.most = 1, result.questions, result.steps, result.questions
-    sums.passed, sums.skipped, sums.examined = result.passed, result.skipped, result.examined
-    sums.remarks = dict.fromkeys(result.remarks)
-    if result.why is not None:
-        sums.fail(result.why, Failures(1, seed))
+    sums.add_run(seed, result)
     return sums
 
 
@@ -75,7 +85,7 @@ class Tally:
 
     def add(self, seed: int | None, result: Result) -> bool:
         """Whether nothing like this run has run before."""
-        self.sums.add(sums_of(seed, result))
+        self.sums.add_run(seed, result)
         if result.repeats:
             self.repeated += 1
             return False

@@ -8,7 +8,9 @@
 #include <string.h>
 #include <sys/resource.h>
 #include <sys/syscall.h>
+#include <sys/time.h>
 #include <sys/wait.h>
+#include <time.h>
 #include <unistd.h>
 #include "host_call.h"
 
@@ -60,6 +62,55 @@ static int own(void)
 			fcntl(0, F_SETOWN, 0) != 0 || host_call(SYS_tgkill, getpid(), getpid(), 0, 0) != 0);
 }
 
+/* Whether a signal is pending for the process, while it waits in kill(2). */
+static int has_pending(pid_t pid)
+{
+	char path[64], line[256];
+	unsigned long signals = 0;
+	int number = -1;
+	FILE *file;
+
+	snprintf(path, sizeof path, "/proc/%d/status", pid);
+	if ((file = fopen(path, "r")) == NULL)
+		return (0);
+	while (signals == 0 && fgets(line, sizeof line, file) != NULL)
+		sscanf(line, "ShdPnd: %lx", &signals);
+	fclose(file);
+	snprintf(path, sizeof path, "/proc/%d/syscall", pid);
+	if (signals == 0 || (file = fopen(path, "r")) == NULL)
+		return (0);
+	if (fscanf(file, "%d", &number) != 1)
+		number = -1;
+	fclose(file);
+	return (number == SYS_kill);
+}
+
+static void nothing(int number) { (void)number; }
+
+/* A signal comes as it waits for the call's answer. Its child computes until then, and waits: before that none is given. */
+static long with_pending(long pid)
+{
+	const struct itimerval often = {{0, 10000}, {0, 10000}}, never = {{0, 0}, {0, 0}};
+	long result;
+	pid_t child;
+
+	if ((child = fork()) == 0) {
+		while (!has_pending(getppid()))
+			if (clock() > 4 * CLOCKS_PER_SEC) /* a host that ends the call at a signal */
+				_exit(1);
+		for (;;)
+			pause();
+	}
+	signal(SIGALRM, nothing);
+	setitimer(ITIMER_REAL, &often, NULL);
+	result = host_call(SYS_kill, pid, SIGKILL, 0, 0);
+	setitimer(ITIMER_REAL, &never, NULL);
+	if (waitpid(child, NULL, WNOHANG) == child)
+		return (-EINTR);
+	kill(child, SIGKILL);
+	return (waitpid(child, NULL, 0) == child ? result : -ECHILD);
+}
+
 int main(int argc, char **argv)
 {
 	long pid = argc > 2 ? atol(argv[2]) : 0, result = -ENOSYS, given[3];
@@ -70,6 +121,8 @@ int main(int argc, char **argv)
 		result = own();
 	if (strcmp(argv[1], "kill_of_32_bits") == 0)
 		result = kill_of_32_bits(pid);
+	if (strcmp(argv[1], "kill_with_pending") == 0)
+		result = with_pending(pid);
 	for (i = 0; i < sizeof calls / sizeof calls[0]; i++) {
 		if (strcmp(argv[1], calls[i].name) != 0)
 			continue;
