@@ -13,14 +13,15 @@ import pytest
 from checking import TOP, Checks, needs
 from enumerated_systems import lines
 from shim import Run, Shim, check_all, fault, whole
+from tracehost.library import load
 
 CRATE = TOP / "crates/test_explorer"
 PROGRAM = CRATE / "out/test_explorer"
 TEXT = (CRATE / "stdout").read_bytes()
 
 
-def test_the_verdicts_are_those_of_an_enumeration() -> None:
-    assert TEXT.decode().splitlines() == lines()
+def test_the_verdicts_are_those_of_an_enumeration(library: Path) -> None:
+    assert TEXT.decode().splitlines() == lines(load(str(library / "libtracehost.so")))
 
 
 def refused_allocations(shim: Shim) -> Iterator[Run]:

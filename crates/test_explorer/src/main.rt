@@ -4,14 +4,15 @@
 
 mod counters;
 mod lock;
-mod machine;
-mod scripts;
+mod session;
 mod target;
 mod tracing;
 
 use counters::Counters;
 use explorer::{System, Verdict, explore};
 use lock::Lock;
+use pid_blocks::Uid;
+use session::attach_to_exiting;
 use std::alloc::Global;
 use std::io;
 use std::process::ExitCode;
@@ -27,18 +28,9 @@ fn print_trace(rt: &impl Print, trace: &[u32]) -> io::Result<()> {
     println!(rt; "")
 }
 
-/// Explores a system, and prints the verdict.
-fn tell<S: System + Drop>(
-    rt: &impl Print,
-    alloc: Global,
-    name: &str,
-    mut system: S,
-    start: &[u32],
-    limit: u32,
-) -> io::Result<()>
-    requires { S.knows system start.now }
-{
-    match explore(alloc, &mut system, start, limit)? {
+/// Prints a verdict on a system.
+fn print_verdict(rt: &impl Print, name: &str, verdict: &Verdict, limit: u32) -> io::Result<()> {
+    match verdict {
         Verdict::Passed { states } => println!(rt; "{name}: passed, {states} states"),
         Verdict::Fails { trace } => {
             print!(rt; "{name}: fails")?;
@@ -50,6 +42,21 @@ fn tell<S: System + Drop>(
         }
         Verdict::StateLimit => println!(rt; "{name}: more than {limit} states"),
     }
+}
+
+/// Explores a system, and prints the verdict.
+fn tell<S: System + Drop>(
+    rt: &impl Print,
+    alloc: Global,
+    name: &str,
+    mut system: S,
+    start: &[u32],
+    limit: u32,
+) -> io::Result<()>
+    requires { S.knows system start.now }
+{
+    let verdict = explore(alloc, &mut system, start, limit)?;
+    print_verdict(rt, name, &verdict, limit)
 }
 
 fn tell_counters(rt: &impl Print, alloc: Global, limit: u32) -> io::Result<()> {
@@ -79,6 +86,21 @@ fn tell_debugger(rt: &impl Print, alloc: Global, name: &str, tracing: Tracing) -
 fn tell_scripts(rt: &impl Print, alloc: Global, name: &str, careful: bool) -> io::Result<()> {
     let scripts = debugger_and_target(alloc, careful)?;
     tell(rt, alloc, name, scripts, &[0, 0, 0], 1000)
+}
+
+/// Searches the schedules of a debugger and its target on a host.
+fn tell_session(
+    rt: &impl Print,
+    alloc: Global,
+    name: &str,
+    careful: bool,
+    detaches: bool,
+) -> io::Result<()> {
+    let Ok(user) = Uid::new(1001) else {
+        unreachable!()
+    };
+    let verdict = attach_to_exiting(alloc, user, careful, detaches)?;
+    print_verdict(rt, name, &verdict, 1000)
 }
 
 /// Explores each system. An error is of output, or means that memory ran out; nothing is said of the system then.
@@ -135,7 +157,10 @@ fn explore_all(rt: &impl Print, alloc: Global) -> io::Result<()> {
     };
     tell_debugger(rt, alloc, "a forgetful debugger beside a ticker", forgetful)?;
     tell_scripts(rt, alloc, "scripts of a right debugger", true)?;
-    tell_scripts(rt, alloc, "scripts of a careless debugger", false)
+    tell_scripts(rt, alloc, "scripts of a careless debugger", false)?;
+    tell_session(rt, alloc, "a right debugger on a host", true, true)?;
+    tell_session(rt, alloc, "a careless debugger on a host", false, true)?;
+    tell_session(rt, alloc, "a forgetful debugger on a host", true, false)
 }
 
 fn main(rt: HostRuntime) -> ExitCode {
