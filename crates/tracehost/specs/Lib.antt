@@ -4,3 +4,4 @@ pub mod Given
 pub mod Found
 pub mod Runs
 pub mod Statuses
+pub mod Lists

@@ -1,5 +1,5 @@
 -- The exit status of a program that ends with a trouble.
-use Rattle.std.specs.Prelude.{◌≡◌, ◌⊎◌, ℕ}
+use Rattle.std.specs.Prelude.{⊤, ◌≡◌, ◌⊎◌, ℕ}
 use Rattle.{scenario_text.specs.Faults.fault_status, scenario_runs.specs.Runs.run_fault_status, open_sessions.specs.Sessions.serve_fault_status}
 use Rattle.tracehost.specs.declared.CommandError.{CommandError}
 use Rattle.tracehost.specs.declared.CommandError.TheVariants as trouble
@@ -18,3 +18,8 @@ IsStatus (trouble.Serve f) status = status ≡ serve_fault_status f
 IsStatus (trouble.Unwritten reason) status = status ≡ 3
 IsStatus (trouble.Different line) status = status ≡ 4
 IsStatus (trouble.List line own) status = status ≡ own
+
+-- the run's lines aren't the expected ones
+abbrev pub IsDifferent : CommandError → Type 0
+IsDifferent (trouble.Different line) = ⊤
+IsDifferent other = ⊥

@@ -1,11 +1,13 @@
 //! The comparison of a run's lines with those of a file, and a file that gets the run's lines.
-ghost use Rattle.std.specs.Prelude.{◌≡◌, false, IfSome, OnOk};
+ghost use Rattle.std.specs.Prelude.{◌≡◌, ◌≢◌, false, IfErr, IfOk, IfSome, IsSome, OnOk};
+ghost use Rattle.tracehost.specs.Statuses.{IsDifferent};
 
 use crate::CommandError;
 use crate::answered::Answered;
 use crate::asking::Selection;
 use crate::differing::{Hunk, Row, head_of, hunks_of, rows_of};
 use crate::explaining::{FileName, unread, unwritten};
+use crate::texts::Texts;
 use byte_lines::{Difference, first_difference};
 use json_trace::{ScenarioSteps, write_fault};
 use scenario_runs::{Fault, RunFault, Scenario};
@@ -64,12 +66,18 @@ pub(crate) fn bytes_of<R: Files + AllocGlobal>(rt: &R, path: &str) -> io::Result
 }
 
 /// Reads the expected file.
-pub(crate) fn read_expected<'a, R: Files + AllocGlobal>(
+pub(crate) fn read_expected<'a, R: Files + AllocGlobal, T: Texts>(
     rt: &R,
+    texts: &T,
     path: &'a str,
     blesses: bool,
     explains: bool,
-) -> Result<Expected<'a>, CommandError> {
+) -> Result<Expected<'a>, CommandError>
+    ensures blesses { IfOk result (λ e. e.blesses ≡ blesses) }
+    ensures failed { IfErr result (λ e. ¬ IsDifferent e) }
+    ensures bytes { blesses ≡ false → IfOk result (λ e. IsSome e.bytes) }
+    ensures text { IfSome (T.text texts.now path.now) (λ lines. IfOk result (λ e. IfSome e.bytes (λ bytes. bytes.items ≡ lines))) }
+{
     if blesses && is_no_file(rt, path) {
         return Ok(Expected {
             path,
@@ -77,7 +85,7 @@ pub(crate) fn read_expected<'a, R: Files + AllocGlobal>(
             blesses,
         });
     }
-    let bytes = match bytes_of(rt, path) {
+    let bytes = match texts.bytes(path) {
         Ok(bytes) => Some(bytes),
         Err(error) if blesses && error.kind() == io::ErrorKind::NotFound => None,
         Err(error) if explains || error.kind() == io::ErrorKind::OutOfMemory => {
@@ -100,7 +108,8 @@ pub(crate) fn compare<R: Files + Print + AllocGlobal>(
     run: RunLines<'_>,
     explains: bool,
 ) -> Result<(), CommandError>
-    ensures { OnOk result (expected.now.blesses ≡ false → IfSome expected.now.bytes (λ wanted. wanted.items ≡ run.entry.text.now)) }
+    ensures same { OnOk result (expected.now.blesses ≡ false → IfSome expected.now.bytes (λ wanted. wanted.items ≡ run.entry.text.now)) }
+    ensures different { IfErr result (λ e. IsDifferent e → IfSome expected.now.bytes (λ wanted. wanted.items ≢ run.entry.text.now)) }
 {
     let Some(wanted) = &expected.bytes else {
         return bless(rt, expected.path, run.text, explains);
@@ -185,7 +194,9 @@ fn bless<R: Files + AllocGlobal>(
     path: &str,
     text: &[u8],
     explains: bool,
-) -> Result<(), CommandError> {
+) -> Result<(), CommandError>
+    ensures { IfErr result (λ e. ¬ IsDifferent e) }
+{
     let beside = format!(in rt.alloc(); "{path}.new")?;
     match replace(rt, path, beside.as_str(), text) {
         Ok(()) => Ok(()),

@@ -1,4 +1,6 @@
 //! Explanations of refused input: where the first mistakes are, and what was likely meant.
+ghost use Rattle.tracehost.specs.Statuses.{IsDifferent};
+
 use crate::CommandError;
 use crate::answered::count_of;
 use crate::asking::{Mode, Selection};
@@ -28,7 +30,9 @@ fn words_of(alloc: Global, error: &io::Error) -> Result<String, AllocError> {
 }
 
 /// The trouble of an input that can't be read: only the fault if no memory is left for more.
-pub(crate) fn unread(alloc: Global, name: &str, error: &io::Error) -> CommandError {
+pub(crate) fn unread(alloc: Global, name: &str, error: &io::Error) -> CommandError
+    ensures { ¬ IsDifferent result }
+{
     if error.kind() == io::ErrorKind::OutOfMemory {
         return CommandError::Fault(Fault::Memory);
     }
@@ -39,7 +43,9 @@ pub(crate) fn unread(alloc: Global, name: &str, error: &io::Error) -> CommandErr
 }
 
 /// The trouble of a file that can't be written: only the fault if no memory is left for more.
-pub(crate) fn unwritten(alloc: Global, name: &str, error: &io::Error) -> CommandError {
+pub(crate) fn unwritten(alloc: Global, name: &str, error: &io::Error) -> CommandError
+    ensures { ¬ IsDifferent result }
+{
     match reason_of(alloc, name, error) {
         Ok(reason) => CommandError::Unwritten(reason),
         Err(_) => CommandError::Run(RunFault::Write),

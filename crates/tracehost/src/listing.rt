@@ -1,11 +1,17 @@
 //! A list of scenarios, each compared with its expected lines.
+ghost use Rattle.std.specs.Prelude.{◌≡◌, ◌≢◌, ◌∷◌, ◌++◌, ◌≤◌, ◌-◌, ◌↔◌, [], length, IfOk, IfSome, None, OnOk};
+ghost use Rattle.byte_lines.specs.Lines.{lines_in};
+ghost use Rattle.tracehost.specs.Lists.{IsClean, Lacks, ListPasses, RowPasses, RunsAs};
+ghost use Rattle.tracehost.specs.declared.listing.Said.TheVariants.{Nothing};
+
 use crate::asking::Selection;
-use crate::expecting::{bytes_of, first_line};
+use crate::expecting::first_line;
 use crate::explaining::{FileName, unread};
-use crate::{CommandError, different_run, scenario_of};
+use crate::texts::Texts;
+use crate::{CommandError, different_run};
 use byte_lines::first_difference;
+use memchr::memchr;
 use scenario_runs::{Fault, RunFault, policy_handlers};
-use std::rt::Files;
 use std::str;
 use std::sync::Wait;
 use std::thread::Threads;
@@ -31,13 +37,44 @@ enum Said {
     Unread(String),
 }
 
-/// The two names in a line of the list, with a tab between them.
-fn names_in(line: &[u8]) -> Option<(&str, &str)> {
-    str::from_utf8(line).ok()?.split_once('\t')
+/// Returns the bytes before the first such byte, and those after it; `None` if there is no such byte.
+fn split_at_byte(text: &[u8], byte: u8) -> Option<(&[u8], &[u8])>
+    ensures parts { IfSome result (λ parts. text.now ≡ parts.0.now ++ (byte ∷ parts.1.now)) }
+    ensures first { IfSome result (λ parts. Lacks parts.0.now byte) }
+    ensures none { result ≡ None → Lacks text.now byte }
+{
+    let at = memchr(byte, text)?;
+    Some((&text[..at], &text[at + 1..]))
+}
+
+/// Returns the first line, without its line feed, and what follows it.
+#[tactic(auto, using(crate::proofs::RowLemmas::first_row))]
+fn split_line(text: &[u8]) -> (&[u8], &[u8])
+    ensures lines { text.now ≢ [] → lines_in text.now ≡ result.0.now ∷ lines_in result.1.now }
+    ensures shorter { length result.1.now ≤ length text.now - 1 }
+{
+    match split_at_byte(text, b'\n') {
+        Some(parts) => parts,
+        None => (text, &[]),
+    }
+}
+
+/// Returns the two names in a row, with a tab between them.
+fn names_in(row: &[u8]) -> Option<(&str, &str)>
+    ensures parts { IfSome result (λ names. row.now ≡ names.0.now ++ (9 ∷ names.1.now)) }
+    ensures first { IfSome result (λ names. Lacks names.0.now 9) }
+{
+    let (scenario, expected) = split_at_byte(row, b'\t')?;
+    Some((
+        str::from_utf8(scenario).ok()?,
+        str::from_utf8(expected).ok()?,
+    ))
 }
 
 /// What is said of a file that has a fault.
-fn said_of_fault<R: AllocGlobal>(rt: &R, name: &str, fault: Fault) -> Result<Said, CommandError> {
+fn said_of_fault<R: AllocGlobal>(rt: &R, name: &str, fault: Fault) -> Result<Said, CommandError>
+    ensures { IfOk result (λ said. said ≢ Nothing) }
+{
     let alloc = rt.alloc();
     let file = FileName { name };
     match fault {
@@ -47,18 +84,21 @@ fn said_of_fault<R: AllocGlobal>(rt: &R, name: &str, fault: Fault) -> Result<Sai
     }
 }
 
-/// Runs a scenario, and compares its lines with those of the file.
-fn compare_files<R: Files + Input + Print + AllocGlobal + Threads + Wait + Sync>(
+/// Runs a scenario, and compares its lines with the expected ones.
+fn compare_texts<R: AllocGlobal + Threads + Wait + Sync, T: Texts>(
     rt: &R,
+    texts: &T,
     scenario: &str,
     expected: &str,
     shown: &Selection,
-) -> Result<Said, CommandError> {
-    let scenario = match scenario_of(rt, Some(scenario)) {
+) -> Result<Said, CommandError>
+    ensures { IfOk result (λ said. said ≡ Nothing → RunsAs (T.text texts.now) shown.now scenario.now expected.now) }
+{
+    let scenario = match texts.scenario(scenario) {
         Ok(read) => read,
         Err(fault) => return said_of_fault(rt, scenario, fault),
     };
-    let Ok(wanted) = bytes_of(rt, expected) else {
+    let Ok(wanted) = texts.bytes(expected) else {
         return said_of_fault(rt, expected, Fault::Read);
     };
     let handlers = policy_handlers(rt.alloc(), scenario.policies())?;
@@ -76,9 +116,28 @@ fn compare_files<R: Files + Input + Print + AllocGlobal + Threads + Wait + Sync>
     }
 }
 
+/// What is said of a row, if it isn't empty.
+fn said_of_row<R: AllocGlobal + Threads + Wait + Sync, T: Texts>(
+    rt: &R,
+    texts: &T,
+    list: &str,
+    row: &[u8],
+    shown: &Selection,
+) -> Result<Said, CommandError>
+    ensures { IfOk result (λ said. said ≡ Nothing → RowPasses (T.text texts.now) shown.now row.now) }
+{
+    match names_in(row) {
+        Some((scenario, expected)) => compare_texts(rt, texts, scenario, expected, shown),
+        None => no_tab(rt, list, row),
+    }
+}
+
 impl Tally {
     /// Counts what is said, and returns it.
-    fn count(&mut self, said: Said) -> Option<String> {
+    fn count(&mut self, said: Said) -> Option<String>
+        ensures clean { IsClean self.new → IsClean self.old × (said ≡ Nothing) }
+        ensures compared { 1 ≤ self.new.compared }
+    {
         self.compared = self.compared.saturating_add(1);
         match said {
             Said::Nothing => None,
@@ -98,7 +157,9 @@ impl Tally {
     }
 
     /// The status of the run: that of its worst line.
-    fn status(&self) -> u8 {
+    fn status(&self) -> u8
+        ensures { (result ≡ 0) ↔ (IsClean self.now × (1 ≤ self.now.compared)) }
+    {
         if self.unread > 0 {
             3
         } else if self.refused > 0 || self.compared == 0 {
@@ -113,13 +174,16 @@ impl Tally {
 
 /// Makes the runs of a list, and prints a line for each that isn't as expected. Each line of the list has the name of a
 /// scenario, a tab, and the name of the file with its expected lines.
-pub(crate) fn compare_list<R: Files + Input + Print + AllocGlobal + Threads + Wait + Sync>(
+pub(crate) fn compare_list<R: Print + AllocGlobal + Threads + Wait + Sync, T: Texts>(
     rt: &R,
+    texts: &T,
     path: &str,
     shown: &Selection,
     explains: bool,
-) -> Result<(), CommandError> {
-    let list = match bytes_of(rt, path) {
+) -> Result<(), CommandError>
+    ensures { OnOk result (IfSome (T.text texts.now path.now) (ListPasses (T.text texts.now) shown.now)) }
+{
+    let list = match texts.bytes(path) {
         Ok(list) => list,
         Err(error) if explains => return Err(unread(rt.alloc(), path, &error)),
         Err(_) => return Err(CommandError::Fault(Fault::Read)),
@@ -130,25 +194,33 @@ pub(crate) fn compare_list<R: Files + Input + Print + AllocGlobal + Threads + Wa
         refused: 0,
         unread: 0,
     };
-    for line in list.as_slice().split(|byte| *byte == b'\n') {
-        if line.is_empty() {
-            continue;
+    let mut rest = list.as_slice();
+    while !rest.is_empty() {
+        let (row, behind) = split_line(rest);
+        if !row.is_empty() {
+            let said = said_of_row(rt, texts, path, row, shown)?;
+            say(rt, tally.count(said))?;
         }
-        let said = match names_in(line) {
-            Some((scenario, expected)) => compare_files(rt, scenario, expected, shown)?,
-            None => no_tab(rt, path, line)?,
-        };
-        if let Some(said) = tally.count(said) {
-            if print!(rt; "{said}").is_err() {
-                return Err(CommandError::Run(RunFault::Write));
-            }
-        }
+        rest = behind;
     }
     end_of(rt, &tally)
 }
 
+/// Prints what is said.
+fn say<R: Print>(rt: &R, said: Option<String>) -> Result<(), CommandError> {
+    let Some(said) = said else {
+        return Ok(());
+    };
+    match print!(rt; "{said}") {
+        Ok(()) => Ok(()),
+        Err(_) => Err(CommandError::Run(RunFault::Write)),
+    }
+}
+
 /// What is said of a line of the list that isn't two names.
-fn no_tab<R: AllocGlobal>(rt: &R, path: &str, line: &[u8]) -> Result<Said, CommandError> {
+fn no_tab<R: AllocGlobal>(rt: &R, path: &str, line: &[u8]) -> Result<Said, CommandError>
+    ensures { IfOk result (λ said. said ≢ Nothing) }
+{
     let alloc = rt.alloc();
     let name = FileName { name: path };
     let line = line.escape_ascii();
@@ -158,7 +230,9 @@ fn no_tab<R: AllocGlobal>(rt: &R, path: &str, line: &[u8]) -> Result<Said, Comma
 }
 
 /// The end of a run: a trouble unless all was as expected.
-fn end_of<R: AllocGlobal>(rt: &R, tally: &Tally) -> Result<(), CommandError> {
+fn end_of<R: AllocGlobal>(rt: &R, tally: &Tally) -> Result<(), CommandError>
+    ensures { OnOk result (IsClean tally.now × (1 ≤ tally.now.compared)) }
+{
     let alloc = rt.alloc();
     let status = tally.status();
     if status == 0 {

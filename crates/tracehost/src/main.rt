@@ -11,13 +11,15 @@
 //! on standard error where and why input is refused; on a terminal it does so without being asked.
 #![tactic(auto)]
 
-ghost use Rattle.std.specs.Prelude.{◌≡◌, ◌⊎◌, false, IfOk, IfSome, option_map};
+ghost use Rattle.std.specs.Prelude.{◌≡◌, ◌⊎◌, false, IfOk, IfSome, OnOk, option_map};
 ghost use Rattle.pid_blocks.specs.Users.{IsUser};
 ghost use Rattle.json_trace.specs.Parts.{WritesFront};
 ghost use Rattle.scenario_runs.specs.Runs.{Writes};
 ghost use Rattle.tracehost.specs.Options.{line_options};
 ghost use Rattle.tracehost.specs.Runs.{lines_shown, run_text, traces_shown, kept, Compared};
 ghost use Rattle.tracehost.specs.Statuses.{IsStatus};
+ghost use Rattle.tracehost.specs.declared.CommandError.TheVariants as trouble;
+ghost use Rattle.scenario_text.specs.declared.fault.Fault.TheVariants.{Memory};
 
 mod answered;
 mod asking;
@@ -28,6 +30,7 @@ mod expecting;
 mod explaining;
 mod given;
 mod listing;
+mod texts;
 
 use crate::asking::{Expectation, Mode, RunRequest, Selection, Terminals};
 use crate::command_line::{Message, Refusal, asked_of};
@@ -35,6 +38,7 @@ use crate::comparing::ComparingWriter;
 use crate::expecting::{RunLines, compare, read_expected};
 use crate::explaining::{Explained, explain_empty_run, explained_scenario, prompt, unread};
 use crate::listing::compare_list;
+use crate::texts::{FileTexts, Texts};
 use json_trace::{replies_to, write_states, write_trace, write_trace_by_user};
 use open_sessions::{ServeError, serve};
 use pid_blocks::Uid;
@@ -96,6 +100,8 @@ impl From<io::Error> for CommandError {
 }
 
 impl From<AllocError> for CommandError {
+    ghost from_gives = { λ _ e. e ≡ trouble.Fault Memory };
+
     fn from(_refused: AllocError) -> CommandError {
         CommandError::Fault(Fault::Memory)
     }
@@ -119,6 +125,8 @@ impl From<Fault> for CommandError {
 }
 
 impl From<RunFault> for CommandError {
+    ghost from_gives = { λ f e. e ≡ trouble.Run f };
+
     fn from(fault: RunFault) -> CommandError {
         CommandError::Run(fault)
     }
@@ -164,16 +172,21 @@ fn open_input<R: Files + AllocGlobal>(
     }
 }
 
+/// The scenario of the file.
+pub(crate) fn scenario_in<R: Files + AllocGlobal>(rt: &R, path: &str) -> Result<Scenario, Fault> {
+    match fs::open(rt, path) {
+        Ok(mut file) => read(rt.alloc(), &mut file),
+        Err(_) => Err(Fault::Read),
+    }
+}
+
 /// The scenario of the file, or of standard input.
-pub(crate) fn scenario_of<R: Files + Input + AllocGlobal>(
+fn scenario_of<R: Files + Input + AllocGlobal>(
     rt: &R,
     file: Option<&str>,
 ) -> Result<Scenario, Fault> {
     match file {
-        Some(path) => match fs::open(rt, path) {
-            Ok(mut file) => read(rt.alloc(), &mut file),
-            Err(_) => Err(Fault::Read),
-        },
+        Some(path) => scenario_in(rt, path),
         None => scenario_of_input(rt),
     }
 }
@@ -343,17 +356,20 @@ pub(crate) fn different_run<R: AllocGlobal + Threads + Wait + Sync, F: Decider +
 }
 
 /// Runs the scenario with a handler for each of its policies.
-fn run_scenario<R: Files + Print + AllocGlobal + Threads + Wait + Sync>(
+fn run_scenario<R: Files + Print + AllocGlobal + Threads + Wait + Sync, T: Texts>(
     rt: &R,
+    texts: &T,
     scenario: &Scenario,
     shown: &Selection,
     expected: Option<Expectation<'_>>,
     explains: bool,
-) -> Result<(), CommandError> {
+) -> Result<(), CommandError>
+    ensures { OnOk result (IfSome expected.entry (λ e. e.blesses ≡ false → IfSome (T.text texts.now e.path.now) (λ lines. run_text shown.now scenario.now ≡ lines))) }
+{
     let handlers = policy_handlers(rt.alloc(), scenario.policies())?;
     match expected {
         Some(Expectation { path, blesses }) => {
-            let wanted = read_expected(rt, path, blesses, explains)?;
+            let wanted = read_expected(rt, texts, path, blesses, explains)?;
             let bytes = wanted.bytes.as_ref().map(|bytes| bytes.as_slice());
             let Some(text) = different_run(rt, scenario, handlers, shown, bytes)? else {
                 return Ok(());
@@ -382,11 +398,11 @@ fn read_and_run<R: Files + Input + Print + Eprint + AllocGlobal + Threads + Wait
 ) -> Result<(), CommandError> {
     if !explains {
         let scenario = scenario_of(rt, file)?;
-        return run_scenario(rt, &scenario, shown, expected, false);
+        return run_scenario(rt, &FileTexts(rt), &scenario, shown, expected, false);
     }
     let scenario = explained_scenario(rt, file)?;
     explain_empty_run(rt, &scenario, shown);
-    run_scenario(rt, &scenario, shown, expected, true)
+    run_scenario(rt, &FileTexts(rt), &scenario, shown, expected, true)
 }
 
 /// Reads the command line, and does what it asks for. The first trouble ends it.
@@ -405,7 +421,7 @@ fn go<R: Files + Input + Print + Eprint + Env + AllocGlobal + Threads + Wait + S
     }
     match mode {
         Mode::Scenario { shown, expected } => read_and_run(rt, file, explains, &shown, expected),
-        Mode::List { path, shown } => compare_list(rt, path, &shown, explains),
+        Mode::List { path, shown } => compare_list(rt, &FileTexts(rt), path, &shown, explains),
         Mode::Lines {
             kills_on_exit,
             style,
