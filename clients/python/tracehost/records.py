@@ -29,6 +29,7 @@ _MOST_OF_A_PROGRAM, _MOST_OF_A_TEST, _MOST_OF_A_SESSION = 30, 50, 80
 _ENDS = (".json", ".out", ".html")
 _RUNNING = re.compile(r"(.+)\.(json|out)\.(\d+)")
 _TRIES, _SECONDS_OF_A_TRY = 1000, 0.01
+_SECONDS_UNTIL_LOCKED = 0.2  # or removed
 _TRACES = environ.get("TRACEHOST_TRACES") and abspath(environ["TRACEHOST_TRACES"])
 _BEGAN = time.time_ns() - 20_000_000  # a file's time may be so much behind
 
@@ -162,9 +163,13 @@ class Folder:
     def left_by_the_dead(self) -> list[Path]:
         """The scenarios of tests that a process hadn't ended when it ended itself.
 
-        A process that is alive may just have made a record, or be about to remove it, and it isn't locked.
+        A process that is alive may just have made a record, or be about to remove it, so it is looked at again.
         """
-        return [scenario for scenario in self._unlocked() if not _is_alive(scenario.suffix[1:])]
+        unlocked = self._unlocked()
+        if any(_is_alive(scenario.suffix[1:]) for scenario in unlocked):
+            sleep(_SECONDS_UNTIL_LOCKED)
+            unlocked = sorted({*unlocked} & {*self._unlocked()})
+        return unlocked
 
     def _unlocked(self) -> list[Path]:
         left: list[Path] = []
