@@ -63,7 +63,9 @@ class Imports(unittest.TestCase):
         done = subprocess.run(command, env=environment, capture_output=True, text=True, check=True)
         answered, modules = done.stdout.splitlines()
         self.assertEqual(answered, "1001 4479 100001")
-        later = {"typing", "re", "json", "dataclasses", "difflib", "hashlib", "inspect", "pathlib", "subprocess", "warnings"}
+        later = {"typing", "re", "json", "dataclasses", "difflib", "hashlib", "inspect", "pathlib", "subprocess"}
+        if sys.version_info < (3, 13):  # later on threading imports it
+            later.add("warnings")
         later |= {f"tracehost.{name}" for name in ("naming", "recording", "refusals", "rows", "viewing")}
         self.assertEqual(later & {*modules.split()}, set())
 
