@@ -14,6 +14,7 @@ import subprocess
 import time
 
 import pytest
+from tracehost.recording import mend
 
 TOP = pathlib.Path(__file__).resolve().parents[3]
 CLIENT = TOP / "clients/c"
@@ -92,8 +93,21 @@ int main(int argc, char **argv)
 """
 
 
+def steps_of(scenario: pathlib.Path) -> int:
+    """How many whole steps a killed program has left. Only a step in which a page of the file ends may be cut, since a kernel
+    may end the write of a killed process there. `mend` cuts it off.
+    """
+    try:
+        return len(json.loads(scenario.read_bytes())["steps"])
+    except ValueError:
+        steps = mend(scenario)
+        start = scenario.stat().st_size - 8  # at most so far before the step that was cut
+        assert -start % os.sysconf("SC_PAGE_SIZE") < 100
+        return steps
+
+
 def test_a_program_that_is_killed(library: pathlib.Path, tmp_path: pathlib.Path) -> None:
-    """The scenario is one, and each of its steps has its line; there may be one line more."""
+    """Each whole step has its line, and there may be one line more."""
     chance = random.Random(2)
     (tmp_path / "recorder.c").write_text(RECORDER)
     recorder, scenario, lines = tmp_path / "recorder", tmp_path / "s.json", tmp_path / "s.out"
@@ -107,5 +121,4 @@ def test_a_program_that_is_killed(library: pathlib.Path, tmp_path: pathlib.Path)
         process.send_signal(signal.SIGKILL)
         process.wait()
         process.stdout.close()
-        steps = json.loads(scenario.read_bytes())["steps"]
-        assert len(lines.read_bytes().splitlines()) - len(steps) in (0, 1)
+        assert len(lines.read_bytes().splitlines()) - steps_of(scenario) in (0, 1)
