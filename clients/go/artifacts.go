@@ -170,10 +170,10 @@ func (a *artifacts) end(t TB, record *recording) {
 // leave gives the files their last names, or removes them; what earlier runs have left of the test goes.
 func (a *artifacts) leave(failed bool) (err error) {
 	for _, kind := range []string{"html", "out", "json"} {
-		if failed {
-			err = os.Rename(a.now(kind), a.last(kind)) // at the end that of the scenario
-		} else {
+		if !failed {
 			os.Remove(a.now(kind))
+		} else if lost := os.Rename(a.now(kind), a.last(kind)); kind != "html" { // there may be no page
+			err = first(err, lost)
 		}
 	}
 	for _, path := range a.earlier() {

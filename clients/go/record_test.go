@@ -145,6 +145,19 @@ func TestATestThatPassesLeavesWhatItsProcessKept(t *testing.T) {
 	}
 }
 
+func TestLinesThatCannotBeKept(t *testing.T) {
+	folder, said, before := t.TempDir(), "", say
+	t.Setenv("TRACEHOST_ARTIFACTS", folder)
+	t.Setenv("TRACEHOST", "/none")
+	say = func(format string, words ...any) { said += format }
+	defer func() { say = before }()
+	failing := &standIn{T: t, name: "TestKept", failed: true}
+	is(t, os.MkdirAll(filepath.Join(folder, stemOf(failing.name)+".out", "file"), 0o777), nil)
+	must(OpenTest(failing).User(1001).Spawn())(t)
+	failing.end()
+	same(t, strings.Contains(said, "the record stays"), true)
+}
+
 func TestATestWithoutAFolder(t *testing.T) {
 	file := filepath.Join(t.TempDir(), "file")
 	is(t, os.WriteFile(file, nil, 0o666), nil)
